@@ -1,0 +1,98 @@
+-- The answer's eight words and the words of the lent store, for every input: what the entry returns and leaves.
+use Prim.Native.Nat.{ℕ, zero, suc, _+_, _*_, _-_, _/_, max}
+use mathlib.Core.List.{List, [], _∷_, _++_, map}
+use mathlib.Core.Bool.{Bool, true, false, not}
+use mathlib.Core.Option.{Option, none, some}
+use lib.ListN.{length, getD, take, drop}
+use lib.Dec.{eqb, ltb}
+use Rattle.model.specs.Term.{Term, termKind, termWords, width}
+use Rattle.model.specs.Program.{Proposition, Proof, references, Job}
+use Rattle.model.specs.Check.{Refusal, Outcome, ok, refused, Room}
+use Rattle.model.specs.Layout.{Sizes, sizesOf}
+use Rattle.model.specs.Decode.{jobOf}
+use Rattle.model.specs.Load.{Lent, loadRefusal}
+use Rattle.model.specs.Walk.{checkProof}
+
+abbrev pub maximum : List ℕ → ℕ
+maximum [] = 0
+maximum (x ∷ xs) = max x (maximum xs)
+
+-- The heights of all proofs, behind those of the proofs before: one more than the greatest among the references.
+abbrev pub heightsFrom : List ℕ → List Proof → List ℕ
+heightsFrom hs [] = hs
+heightsFrom hs (q ∷ qs) = heightsFrom (hs ++ (suc (maximum (map (λ r. getD hs r 0) (references (q .justification)))) ∷ [])) qs
+
+abbrev pub height : List Proof → ℕ → ℕ
+height proofs p = getD (heightsFrom [] proofs) p 0
+
+-- The first n words, unused ones 0.
+abbrev pub padded : ℕ → List ℕ → List ℕ
+padded zero xs = []
+padded (suc n) [] = 0 ∷ padded n []
+padded (suc n) (x ∷ xs) = x ∷ padded n xs
+
+-- The eight words of a refusal, where the store has so many terms.
+abbrev pub refusalWords : Refusal → ℕ → List ℕ
+refusalWords r terms = r .number ∷ terms ∷ padded 6 (r .fields)
+
+-- New words over the first of what was lent.
+abbrev pub over : List ℕ → List ℕ → List ℕ
+over new lent = new ++ drop (length new) lent
+
+-- The ends of terms whose words start at a place of the pool.
+abbrev pub termEnds : ℕ → List Term → List ℕ
+termEnds start [] = []
+termEnds start (t ∷ ts) = (start + width t) ∷ termEnds (start + width t) ts
+
+abbrev pub termPool : List Term → List ℕ
+termPool [] = []
+termPool (t ∷ ts) = termWords t ++ termPool ts
+
+-- The three arrays of the lent store.
+pub record Arrays : Type 0 where
+  pub kinds : List ℕ
+  pub ends : List ℕ
+  pub pool : List ℕ
+
+-- The terms of the store, over what was lent.
+abbrev pub stored : List Term → Arrays → Arrays
+stored s a = record {
+  kinds = over (map termKind s) (a .kinds);
+  ends = over (termEnds 0 s) (a .ends);
+  pool = over (termPool s) (a .pool);
+}
+
+-- What the entry leaves in the answer's buffer and in the store; the number returned is the answer's first word.
+pub record Left : Type 0 where
+  pub number : ℕ
+  pub answer : List ℕ
+  pub arrays : Arrays
+
+abbrev pub left : List ℕ → Arrays → Left
+left answer a = record { number = getD answer 0 0; answer = answer; arrays = a }
+
+abbrev pub checkedBy : List Proof → ℕ → Arrays → Outcome Proposition → Left
+checkedBy proofs p a (ok q s) = left (0 ∷ length s ∷ q .lhs ∷ q .rhs ∷ height proofs p ∷ 0 ∷ 0 ∷ 0 ∷ []) (stored s a)
+checkedBy proofs p a (refused r s) = left (refusalWords r (length s)) (stored s a)
+
+-- An admitted job, checked in the room that the arrays give.
+unfoldable pub checked : Job → ℕ → Arrays → Left
+checked job p a =
+    checkedBy (job .proofs) p a (checkProof (record { cells = length (a .kinds); words = length (a .pool) }) (job .program) (job .proofs) p (job .terms))
+
+-- Below 20 the terms are 0 and the store stays as it was lent.
+abbrev pub loaded : Job → ℕ → Arrays → Option Refusal → Left
+loaded job p a none = checked job p a
+loaded job p a (some r) = left (refusalWords r 0) a
+
+abbrev pub lentBy : Arrays → ℕ → Lent
+lentBy a scratch = record { kinds = length (a .kinds); ends = length (a .ends); pool = length (a .pool); scratch = scratch }
+
+-- The check of a job's words for an asked proof, with the lent arrays and so many words of scratch.
+unfoldable pub check : List ℕ → ℕ → Arrays → ℕ → Left
+check ws p a scratch = loaded (jobOf ws) p a (loadRefusal ws p (lentBy a scratch))
+
+-- THE ENTRY: an answer's buffer of another length than 8 gives 10 at once, unwritten.
+unfoldable pub entry : List ℕ → ℕ → Arrays → ℕ → List ℕ → Left
+entry ws p a scratch answer =
+    elim (eqb (length answer) 8) [ true ↦ check ws p a scratch | false ↦ record { number = 10; answer = answer; arrays = a } ]

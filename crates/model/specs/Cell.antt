@@ -1,0 +1,36 @@
+-- Cells: the unit of every table of a job and of the store, kept in two parallel arrays and a pool.
+use mathlib.Core.List.{List, [], _∷_, _++_}
+use Prim.Native.Nat.{ℕ, zero, suc, _-_}
+use lib.ListN.{length, getD, take, drop}
+
+-- A cell: its kind and its words of the pool.
+pub record Cell : Type 0 where
+  pub kind : ℕ
+  pub words : List ℕ
+
+-- What a look-up past the end of a table gives; no admitted job leads there.
+abbrev pub noCell : Cell
+noCell = record { kind = 0; words = [] }
+
+module _ {A : Type 0} where
+  -- f 0, f 1, .., f (n - 1)
+  unfoldable pub tabulate : ℕ → (ℕ → A) → List A
+  tabulate zero f = []
+  tabulate (suc n) f = tabulate n f ++ (f n ∷ [])
+
+-- Where the words of cell i start in the pool: at the end of the cell before it.
+unfoldable pub startOf : List ℕ → ℕ → ℕ
+startOf ends zero = 0
+startOf ends (suc i) = getD ends i 0
+
+-- The pool words that cell i owns.
+unfoldable pub wordsAt : List ℕ → List ℕ → ℕ → List ℕ
+wordsAt ends pool i = take (getD ends i 0 - startOf ends i) (drop (startOf ends i) pool)
+
+-- Cell i of three arrays.
+abbrev pub cellAt : List ℕ → List ℕ → List ℕ → ℕ → Cell
+cellAt kinds ends pool i = record { kind = getD kinds i 0; words = wordsAt ends pool i }
+
+-- The first n cells of three arrays.
+unfoldable pub cellsOf : List ℕ → List ℕ → List ℕ → ℕ → List Cell
+cellsOf kinds ends pool n = tabulate n (cellAt kinds ends pool)

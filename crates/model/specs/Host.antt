@@ -1,0 +1,36 @@
+-- The host entry and the program: a job as bytes, and a store of their own.
+use Prim.Native.Nat.{ℕ, zero, suc, _+_, _*_, _-_, _%_}
+use mathlib.Core.List.{List, [], _∷_}
+use mathlib.Core.Bool.{Bool, true, false, not, _||_}
+use lib.ListN.{length, replicate}
+use lib.Dec.{eqb, ltb}
+use Rattle.model.specs.Check.{Refusal}
+use Rattle.model.specs.Layout.{Sizes, sizesOf}
+use Rattle.model.specs.Answer.{Arrays, Left, refusalWords, check}
+
+-- The words of bytes, four each, the lowest first.
+unfoldable pub wordsOf : List ℕ → List ℕ
+wordsOf [] = []
+wordsOf (a ∷ []) = []
+wordsOf (a ∷ b ∷ []) = []
+wordsOf (a ∷ b ∷ c ∷ []) = []
+wordsOf (a ∷ b ∷ c ∷ d ∷ bs) = (a + 256 * b + 65536 * c + 16777216 * d) ∷ wordsOf bs
+
+-- The host's own store and scratch: C = 4,096, W = 16,384.
+abbrev pub ownArrays : Arrays
+ownArrays = record { kinds = replicate 4096 0; ends = replicate 4096 0; pool = replicate 16384 0 }
+
+abbrev pub ownScratch : ℕ
+ownScratch = 16384
+
+-- The eight words for a job's bytes; too many bytes, or no whole words, are 1.
+unfoldable pub hostAnswer : List ℕ → ℕ → List ℕ
+hostAnswer bytes p =
+    elim (ltb 65536 (length bytes) || not (eqb (length bytes % 4) 0)) [
+      | true ↦ refusalWords (record { number = 1; fields = [] }) 0
+      | false ↦ check (wordsOf bytes) p ownArrays ownScratch .answer
+    ]
+
+-- The program asks for the last proof; without proofs that is none, and 3.
+abbrev pub programAnswer : List ℕ → List ℕ
+programAnswer bytes = hostAnswer bytes (sizesOf (wordsOf bytes) .proofs - 1)

@@ -1,0 +1,16 @@
+pub mod Cell
+pub mod Term
+pub mod Program
+pub mod Layout
+pub mod Decode
+pub mod Check
+pub mod Load
+pub mod Evaluate
+pub mod Fact
+pub mod Action
+pub mod Normalize
+pub mod Walk
+pub mod Answer
+pub mod Host
+pub mod Tree
+pub mod Relation

@@ -1,0 +1,218 @@
+-- The refusals below 20, by document 01: first by the host, then by the job's writer with the least cell, then for want of room.
+use Prim.Native.Nat.{ℕ, zero, suc, _+_, _*_, _-_, _%_}
+use mathlib.Core.List.{List, [], _∷_, _++_, map}
+use mathlib.Core.Bool.{Bool, true, false, not, _&&_, _||_}
+use mathlib.Core.Option.{Option, none, some}
+use lib.ListN.{length, getD, take, drop}
+use lib.Dec.{eqb, leb, ltb}
+use Rattle.model.specs.Cell.{Cell, noCell}
+use Rattle.model.specs.Term.{Term, Literal, lit, var, app, readLiteral, readTerm, sameWords, sameTerm, widths}
+use Rattle.model.specs.Program.{Head, literal, variable, constructor, custom, primitive, Proof, references, substitution, Row, Normaliser}
+use Rattle.model.specs.Check.{Refusal}
+use Rattle.model.specs.Layout.{sizeWords, Sizes, sizesOf, firstRow, firstProof, cellCount, endsOf, Tables, tablesOf}
+use Rattle.model.specs.Decode.{word, readHead, readArguments, readPrimitive, readRow, readNormaliser, ruleFacts, ruleActions, readProof}
+
+-- What the caller lends: C and W are the lengths of the store's kinds and pool.
+pub record Lent : Type 0 where
+  pub kinds : ℕ
+  pub ends : ℕ
+  pub pool : ℕ
+  pub scratch : ℕ
+
+-- 1: under twelve words, or a length that differs from the sizes.
+abbrev pub wrongLength : List ℕ → Bool
+wrongLength ws = ltb (length ws) sizeWords || not (eqb (length ws) (sizeWords + 2 * cellCount (sizesOf ws) + sizesOf ws .pool))
+
+-- 2: a size too large.
+abbrev pub tooLarge : Sizes → Bool
+tooLarge z =
+    ltb 16384 (z .terms) || ltb 4096 (z .expressions) || ltb 4096 (z .facts) || ltb 4096 (z .actions) ||
+    ltb 256 (z .globals) || ltb (z .actions) (z .globals) || ltb 4096 (z .functions) || ltb 4096 (z .primitives) ||
+    ltb 4096 (z .rows) || ltb 4096 (z .normalisers) || ltb 4096 (z .rules) || ltb 4096 (z .proofs) || ltb 131072 (z .pool)
+
+-- 5: ends that rise from `start` and finish at the pool's end.
+abbrev pub endsRise : ℕ → List ℕ → ℕ → Bool
+endsRise start [] pool = eqb start pool
+endsRise start (e ∷ es) pool = leb start e && endsRise e es pool
+
+-- 6: a known kind, with the operand count that the list gives for it.
+abbrev pub counts : List ℕ → Cell → Bool
+counts ns c = ltb (c .kind) (length ns) && eqb (length (c .words)) (getD ns (c .kind) 0)
+
+-- From `least` to `most` words.
+abbrev pub between : ℕ → ℕ → Cell → Bool
+between least most c = leb least (length (c .words)) && leb (length (c .words)) most
+
+-- Unit 0 0; bool 0 or 1, high 0; a signed 64-bit integer; a string number, high 0.
+abbrev pub literalFits : Literal → Bool
+literalFits l = getD ((eqb (l .low) 0 && eqb (l .high) 0) ∷ (ltb (l .low) 2 && eqb (l .high) 0) ∷ true ∷ eqb (l .high) 0 ∷ []) (l .kind) false
+
+-- Three words that make a literal.
+abbrev pub literalCell : Cell → Bool
+literalCell c = eqb (length (c .words)) 3 && literalFits (readLiteral (c .words))
+
+abbrev pub termFits : Cell → Bool
+termFits c = getD (literalCell c ∷ between 1 1 c ∷ between 1 17 c ∷ []) (c .kind) false
+
+abbrev pub exprFits : Cell → Bool
+exprFits c = getD (literalCell c ∷ between 1 1 c ∷ between 1 17 c ∷ between 1 17 c ∷ between 1 17 c ∷ []) (c .kind) false
+
+-- A call with an argument.
+abbrev pub isSetCall : Cell → Bool
+isSetCall e = ltb 1 (e .kind) && ltb 0 (length (readArguments e))
+
+-- A set's expression is a call with an argument, where it is in range.
+abbrev pub setFits : List Cell → Cell → Bool
+setFits exprs c = not (eqb (c .kind) 2) || leb (length exprs) (word c 0) || isSetCall (getD exprs (word c 0) noCell)
+
+abbrev pub actionFits : List Cell → Cell → Bool
+actionFits exprs c = counts (2 ∷ 2 ∷ 1 ∷ 1 ∷ 0 ∷ 0 ∷ []) c && setFits exprs c
+
+abbrev pub rowFits : Cell → Bool
+rowFits c = eqb (c .kind) 0 && between 2 18 c
+
+abbrev pub ruleFits : Cell → Bool
+ruleFits c =
+    eqb (c .kind) 0 && leb 2 (length (c .words)) && leb (word c 1) (length (drop 2 (c .words))) &&
+    leb (word c 1) 16 && leb (length (ruleActions c)) 64
+
+-- The words of a rule's proof behind its premises are pairs, at most 32.
+abbrev pub ruleProofFits : Cell → Bool
+ruleProofFits c =
+    leb 4 (length (c .words)) && leb (word c 3) (length (drop 4 (c .words))) && leb (word c 3) 4096 &&
+    leb (length (drop (word c 3) (drop 4 (c .words)))) 64 && eqb (length (drop (word c 3) (drop 4 (c .words))) % 2) 0
+
+abbrev pub proofFits : Cell → Bool
+proofFits c = (eqb (c .kind) 1 && ruleProofFits c) || (not (eqb (c .kind) 1) && counts (2 ∷ 0 ∷ 5 ∷ 4 ∷ 3 ∷ 5 ∷ 3 ∷ 2 ∷ []) c)
+
+-- All numbers of a list lie below n.
+abbrev pub below : ℕ → List ℕ → Bool
+below n [] = true
+below n (x ∷ xs) = ltb x n && below n xs
+
+-- 7: references in range, and lower than the cell's own number in its table where document 01 says so.
+abbrev pub termRefers : ℕ → Term → Bool
+termRefers i (lit l) = true
+termRefers i (var x) = true
+termRefers i (app f xs) = below i xs
+
+abbrev pub headRefers : ℕ → Head → Bool
+headRefers primitives (literal l) = true
+headRefers primitives (variable x) = true
+headRefers primitives (constructor f) = true
+headRefers primitives (custom f) = true
+headRefers primitives (primitive p) = ltb p primitives
+
+abbrev pub exprRefers : ℕ → ℕ → Cell → Bool
+exprRefers primitives i c = headRefers primitives (readHead c) && below i (readArguments c)
+
+-- The expression numbers of an action: a let has its name first.
+abbrev pub actionRefers : ℕ → Cell → Bool
+actionRefers expressions c = below expressions (getD (drop 1 (c .words) ∷ []) (c .kind) (c .words))
+
+abbrev pub rowRefers : ℕ → ℕ → Row → Bool
+rowRefers primitives terms r = ltb (r .primitive) primitives && ltb (r .result) terms && below terms (r .arguments)
+
+abbrev pub ruleRefers : ℕ → ℕ → Cell → Bool
+ruleRefers facts actions c = below facts (ruleFacts c) && below actions (ruleActions c)
+
+abbrev pub proofRefers : ℕ → ℕ → Proof → Bool
+proofRefers terms i p =
+    ltb (p .claim .lhs) terms && ltb (p .claim .rhs) terms && below i (references (p .justification)) &&
+    below terms (map (λ b. b .term) (substitution (p .justification)))
+
+-- 8: the primitive has a validator.
+abbrev pub validates : List Cell → ℕ → Bool
+validates primitives p = readPrimitive (getD primitives p noCell) .validator
+
+module _ {A : Type 0} where
+  abbrev pub any : (A → Bool) → List A → Bool
+  any f [] = false
+  any f (x ∷ xs) = f x || any f xs
+
+  -- For each entry, whether it is the same as one before it.
+  abbrev pub repeats : (A → A → Bool) → List A → List A → List Bool
+  repeats same seen [] = []
+  repeats same seen (x ∷ xs) = any (same x) seen ∷ repeats same (x ∷ seen) xs
+
+  -- For each entry, by its number from i on, whether the test fails.
+  abbrev pub failsFrom : ℕ → (ℕ → A → Bool) → List A → List Bool
+  failsFrom i f [] = []
+  failsFrom i f (x ∷ xs) = not (f i x) ∷ failsFrom (suc i) f xs
+
+  abbrev pub fails : (A → Bool) → List A → List Bool
+  fails f = failsFrom 0 (λ _. f)
+
+-- 9: rows by primitive and arguments, normalisers by head, names within one substitution.
+abbrev pub sameRow : Row → Row → Bool
+sameRow a b = eqb (a .primitive) (b .primitive) && sameWords (a .arguments) (b .arguments)
+
+abbrev pub sameHead : Normaliser → Normaliser → Bool
+sameHead a b = eqb (a .head) (b .head)
+
+abbrev pub bindsOnce : Proof → Bool
+bindsOnce p = not (any (λ b. b) (repeats (λ a b. eqb (a .name) (b .name)) [] (substitution (p .justification))))
+
+-- 10: too little room, too much, unequal arrays, or scratch short.
+abbrev pub noRoom : Sizes → List Term → Lent → Bool
+noRoom z terms l =
+    ltb (l .kinds) (z .terms) || ltb (l .pool) (widths terms) || ltb 65536 (l .kinds) || ltb 1048576 (l .pool) ||
+    not (eqb (l .kinds) (l .ends)) || ltb (l .scratch) (2 * (l .kinds + z .proofs))
+
+-- The refusal of a host's fault, which has no fields.
+abbrev pub refusedIf : Bool → ℕ → Option Refusal
+refusedIf false n = none
+refusedIf true n = some (record { number = n; fields = [] })
+
+-- The refusal that names the first cell marked, where the first mark is that of cell i.
+abbrev pub firstMarked : ℕ → ℕ → List Bool → Option Refusal
+firstMarked n i [] = none
+firstMarked n i (false ∷ ms) = firstMarked n (suc i) ms
+firstMarked n i (true ∷ ms) = some (record { number = n; fields = i ∷ [] })
+
+infixr 20 _orElse_
+
+abbrev pub _orElse_ : Option Refusal → (Unit {0} → Option Refusal) → Option Refusal
+none orElse f = f tt
+some r orElse f = some r
+
+-- Cells that do not fit, over all tables.
+abbrev pub misfits : Tables → List Bool
+misfits t =
+    fails termFits (t .terms) ++ fails exprFits (t .expressions) ++ fails (counts (2 ∷ 1 ∷ [])) (t .facts) ++
+    fails (actionFits (t .expressions)) (t .actions) ++ fails (counts (1 ∷ 2 ∷ [])) (t .functions) ++
+    fails (counts (1 ∷ 1 ∷ 1 ∷ 1 ∷ [])) (t .primitives) ++ fails rowFits (t .rows) ++ fails (counts (2 ∷ [])) (t .normalisers) ++
+    fails ruleFits (t .rules) ++ fails proofFits (t .proofs)
+
+-- Cells with a reference out of range, over all tables.
+abbrev pub strays : Sizes → Tables → List Bool
+strays z t =
+    failsFrom 0 termRefers (map readTerm (t .terms)) ++ failsFrom 0 (exprRefers (z .primitives)) (t .expressions) ++
+    fails (λ c. below (z .expressions) (c .words)) (t .facts) ++ fails (actionRefers (z .expressions)) (t .actions) ++
+    fails (λ c. below (z .expressions) (drop 1 (c .words))) (t .functions) ++ fails (λ _. true) (t .primitives) ++
+    fails (rowRefers (z .primitives) (z .terms)) (map readRow (t .rows)) ++
+    fails (λ n. ltb (n .primitive) (z .primitives)) (map readNormaliser (t .normalisers)) ++
+    fails (ruleRefers (z .facts) (z .actions)) (t .rules) ++ failsFrom 0 (proofRefers (z .terms)) (map readProof (t .proofs))
+
+-- Rows and normalisers on a primitive without validator.
+abbrev pub unvalidated : Tables → List Bool
+unvalidated t =
+    fails (λ r. validates (t .primitives) (r .primitive)) (map readRow (t .rows)) ++
+    fails (λ n. validates (t .primitives) (n .primitive)) (map readNormaliser (t .normalisers))
+
+-- The refusal below 20, the lowest that applies; none for an admitted job.
+unfoldable pub loadRefusal : List ℕ → ℕ → Lent → Option Refusal
+loadRefusal ws asked lent =
+    let z = sizesOf ws in
+    let t = tablesOf ws in
+    refusedIf (wrongLength ws) 1 orElse λ _.
+    refusedIf (tooLarge z) 2 orElse λ _.
+    refusedIf (leb (z .proofs) asked) 3 orElse λ _.
+    refusedIf (not (endsRise 0 (endsOf ws) (z .pool))) 5 orElse λ _.
+    firstMarked 6 0 (misfits t) orElse λ _.
+    firstMarked 7 0 (strays z t) orElse λ _.
+    firstMarked 8 (firstRow z) (unvalidated t) orElse λ _.
+    firstMarked 9 0 (repeats sameTerm [] (map readTerm (t .terms))) orElse λ _.
+    firstMarked 9 (firstRow z) (repeats sameRow [] (map readRow (t .rows)) ++ repeats sameHead [] (map readNormaliser (t .normalisers))) orElse λ _.
+    firstMarked 9 (firstProof z) (fails bindsOnce (map readProof (t .proofs))) orElse λ _.
+    refusedIf (noRoom z (map readTerm (t .terms)) lent) 10

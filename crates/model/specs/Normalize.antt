@@ -1,0 +1,44 @@
+-- `normalize_container` of proof_format.rs.
+use Prim.Native.Nat.{ℕ}
+use mathlib.Core.List.{List, [], _∷_}
+use mathlib.Core.Bool.{Bool, true, false}
+use mathlib.Core.Option.{Option, none, some}
+use lib.Dec.{eqb}
+use Rattle.model.specs.Term.{Term, lit, var, app, getTerm}
+use Rattle.model.specs.Program.{Program, Normaliser}
+use Rattle.model.specs.Check.{Check, _>>=_, pure, getTerms}
+use Rattle.model.specs.Evaluate.{validate}
+
+-- An application's head and children.
+pub record App : Type 0 where
+  pub head : ℕ
+  pub args : List ℕ
+
+abbrev pub asApp : Option Term → Option App
+asApp none = none
+asApp (some (lit l)) = none
+asApp (some (var x)) = none
+asApp (some (app f xs)) = some (record { head = f; args = xs })
+
+-- The primitive that normalises a head.
+abbrev pub normaliserOf : List Normaliser → ℕ → Option ℕ
+normaliserOf [] f = none
+normaliserOf (n ∷ ns) f = elim (eqb (n .head) f) [ true ↦ some (n .primitive) | false ↦ normaliserOf ns f ]
+
+-- The Rust's `unwrap_or`.
+module _ {A : Type 0} where
+  abbrev pub unwrapOr : Option A → A → A
+  unwrapOr none d = d
+  unwrapOr (some x) d = x
+
+abbrev pub normalizeBy : Program → ℕ → List ℕ → Option ℕ → Check ℕ
+normalizeBy prog t xs none = pure t
+normalizeBy prog t xs (some p) = validate prog p xs >>= λ o. pure (unwrapOr o t)
+
+abbrev pub normalizeApp : Program → ℕ → Option App → Check ℕ
+normalizeApp prog t none = pure t
+normalizeApp prog t (some a) = normalizeBy prog t (a .args) (normaliserOf (prog .normalisers) (a .head))
+
+-- A container's normal form; no normaliser, or no value, gives the term itself.
+unfoldable pub normalizeContainer : Program → ℕ → Check ℕ
+normalizeContainer prog t = getTerms >>= λ s. normalizeApp prog t (asApp (getTerm s t))
