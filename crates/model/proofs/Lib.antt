@@ -1,1 +1,7 @@
+pub mod Tests
+pub mod Represent
+pub mod Post
+pub mod Agree
+pub mod Store
+pub mod Evaluation
 pub mod JobB
