@@ -4,4 +4,5 @@ pub mod Post
 pub mod Agree
 pub mod Store
 pub mod Evaluation
+pub mod Facts
 pub mod JobB
