@@ -213,14 +213,14 @@ module _ (prog : Program) (rows : List TreeRow) where
       that n fs true false e = absurd (true≢false e)
       that n fs false true e = absurd (true≢false (sym e))
 
-      equality : (i : ℕ) (g : Option FunctionFact) → (a b : Bool) → (eqb (q .lhs) (w .lhs) && eqb (q .rhs) (w .rhs)) ≡ b
+      equality : (i : ℕ) (g : Option FunctionFact) (b : Bool) → (eqb (q .lhs) (w .lhs) && eqb (q .rhs) (w .rhs)) ≡ b
           → Agree (matchesEquality rule i g w q s) (onlyIf b W) (λ _ s′ X. (s′ ≡ s) × (X ≡ W))
-      equality i none a b e = that 29 _ _ b e
-      equality i (some g) a b e = that 28 _ _ b e
+      equality i none b e = that 29 _ _ b e
+      equality i (some g) b e = that 28 _ _ b e
 
       go : (f : Fact) → eqb (q .lhs) (w .lhs) ≡ sameTree (Q .left) (W .left) → eqb (q .rhs) (w .rhs) ≡ sameTree (Q .right) (W .right)
           → Agree (matches rule f w q s) (treeMatches f Q W) (λ _ s′ X. (s′ ≡ s) × (X ≡ W))
-      go (equal i l r) a b = equality i (functionFact l r) true _ (ap₂ _&&_ a b)
+      go (equal i l r) a b = equality i (functionFact l r) _ (ap₂ _&&_ a b)
       go (bare i e) a b = that 30 _ _ _ b
 
   -- the normal form of a number has the normal form of its tree

@@ -5,4 +5,5 @@ pub mod Agree
 pub mod Store
 pub mod Evaluation
 pub mod Facts
+pub mod Valid
 pub mod JobB

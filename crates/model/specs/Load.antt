@@ -170,29 +170,43 @@ firstMarked n i [] = none
 firstMarked n i (false ∷ ms) = firstMarked n (suc i) ms
 firstMarked n i (true ∷ ms) = some (record { number = n; fields = i ∷ [] })
 
-infixr 20 _orElse_
+-- The first refusal that a list of tests gives.
+abbrev pub firstRefusal : List (Unit {0} → Option Refusal) → Option Refusal
+firstRefusal [] = none
+firstRefusal (t ∷ ts) = elim (t tt) [ none ↦ firstRefusal ts | some r ↦ some r ]
 
-abbrev pub _orElse_ : Option Refusal → (Unit {0} → Option Refusal) → Option Refusal
-none orElse f = f tt
-some r orElse f = some r
+-- The marks of all tables, one behind the other.
+abbrev pub concat : List (List Bool) → List Bool
+concat [] = []
+concat (ms ∷ mss) = ms ++ concat mss
 
--- Cells that do not fit, over all tables.
-abbrev pub misfits : Tables → List Bool
+-- Cells that do not fit, by table.
+abbrev pub misfits : Tables → List (List Bool)
 misfits t =
-    fails termFits (t .terms) ++ fails exprFits (t .expressions) ++ fails (counts (2 ∷ 1 ∷ [])) (t .facts) ++
-    fails (actionFits (t .expressions)) (t .actions) ++ fails (counts (1 ∷ 2 ∷ [])) (t .functions) ++
-    fails (counts (1 ∷ 1 ∷ 1 ∷ 1 ∷ [])) (t .primitives) ++ fails rowFits (t .rows) ++ fails (counts (2 ∷ [])) (t .normalisers) ++
-    fails ruleFits (t .rules) ++ fails proofFits (t .proofs)
+    fails termFits (t .terms) ∷
+    fails exprFits (t .expressions) ∷
+    fails (counts (2 ∷ 1 ∷ [])) (t .facts) ∷
+    fails (actionFits (t .expressions)) (t .actions) ∷
+    fails (counts (1 ∷ 2 ∷ [])) (t .functions) ∷
+    fails (counts (1 ∷ 1 ∷ 1 ∷ 1 ∷ [])) (t .primitives) ∷
+    fails rowFits (t .rows) ∷
+    fails (counts (2 ∷ [])) (t .normalisers) ∷
+    fails ruleFits (t .rules) ∷
+    fails proofFits (t .proofs) ∷ []
 
--- Cells with a reference out of range, over all tables.
-abbrev pub strays : Sizes → Tables → List Bool
+-- Cells with a reference out of range, by table.
+abbrev pub strays : Sizes → Tables → List (List Bool)
 strays z t =
-    failsFrom 0 termRefers (map readTerm (t .terms)) ++ failsFrom 0 (exprRefers (z .primitives)) (t .expressions) ++
-    fails (λ c. below (z .expressions) (c .words)) (t .facts) ++ fails (actionRefers (z .expressions)) (t .actions) ++
-    fails (λ c. below (z .expressions) (drop 1 (c .words))) (t .functions) ++ fails (λ _. true) (t .primitives) ++
-    fails (rowRefers (z .primitives) (z .terms)) (map readRow (t .rows)) ++
-    fails (λ n. ltb (n .primitive) (z .primitives)) (map readNormaliser (t .normalisers)) ++
-    fails (ruleRefers (z .facts) (z .actions)) (t .rules) ++ failsFrom 0 (proofRefers (z .terms)) (map readProof (t .proofs))
+    failsFrom 0 termRefers (map readTerm (t .terms)) ∷
+    failsFrom 0 (exprRefers (z .primitives)) (t .expressions) ∷
+    fails (λ c. below (z .expressions) (c .words)) (t .facts) ∷
+    fails (actionRefers (z .expressions)) (t .actions) ∷
+    fails (λ c. below (z .expressions) (drop 1 (c .words))) (t .functions) ∷
+    fails (λ _. true) (t .primitives) ∷
+    fails (rowRefers (z .primitives) (z .terms)) (map readRow (t .rows)) ∷
+    fails (λ n. ltb (n .primitive) (z .primitives)) (map readNormaliser (t .normalisers)) ∷
+    fails (ruleRefers (z .facts) (z .actions)) (t .rules) ∷
+    failsFrom 0 (proofRefers (z .terms)) (map readProof (t .proofs)) ∷ []
 
 -- Rows and normalisers on a primitive without validator.
 abbrev pub unvalidated : Tables → List Bool
@@ -200,19 +214,21 @@ unvalidated t =
     fails (λ r. validates (t .primitives) (r .primitive)) (map readRow (t .rows)) ++
     fails (λ n. validates (t .primitives) (n .primitive)) (map readNormaliser (t .normalisers))
 
--- The refusal below 20, the lowest that applies; none for an admitted job.
+-- The tests for the numbers below 20, in their order; the first refusal is the lowest number that applies.
+abbrev pub loadTests : List ℕ → Sizes → Tables → ℕ → Lent → List (Unit {0} → Option Refusal)
+loadTests ws z t asked lent =
+    (λ _. refusedIf (wrongLength ws) 1) ∷
+    (λ _. refusedIf (tooLarge z) 2) ∷
+    (λ _. refusedIf (leb (z .proofs) asked) 3) ∷
+    (λ _. refusedIf (not (endsRise 0 (endsOf ws) (z .pool))) 5) ∷
+    (λ _. firstMarked 6 0 (concat (misfits t))) ∷
+    (λ _. firstMarked 7 0 (concat (strays z t))) ∷
+    (λ _. firstMarked 8 (firstRow z) (unvalidated t)) ∷
+    (λ _. firstMarked 9 0 (repeats sameTerm [] (map readTerm (t .terms)))) ∷
+    (λ _. firstMarked 9 (firstRow z) (repeats sameRow [] (map readRow (t .rows)) ++ repeats sameHead [] (map readNormaliser (t .normalisers)))) ∷
+    (λ _. firstMarked 9 (firstProof z) (fails bindsOnce (map readProof (t .proofs)))) ∷
+    (λ _. refusedIf (noRoom z (map readTerm (t .terms)) lent) 10) ∷ []
+
+-- The refusal below 20; none for an admitted job.
 unfoldable pub loadRefusal : List ℕ → ℕ → Lent → Option Refusal
-loadRefusal ws asked lent =
-    let z = sizesOf ws in
-    let t = tablesOf ws in
-    refusedIf (wrongLength ws) 1 orElse λ _.
-    refusedIf (tooLarge z) 2 orElse λ _.
-    refusedIf (leb (z .proofs) asked) 3 orElse λ _.
-    refusedIf (not (endsRise 0 (endsOf ws) (z .pool))) 5 orElse λ _.
-    firstMarked 6 0 (misfits t) orElse λ _.
-    firstMarked 7 0 (strays z t) orElse λ _.
-    firstMarked 8 (firstRow z) (unvalidated t) orElse λ _.
-    firstMarked 9 0 (repeats sameTerm [] (map readTerm (t .terms))) orElse λ _.
-    firstMarked 9 (firstRow z) (repeats sameRow [] (map readRow (t .rows)) ++ repeats sameHead [] (map readNormaliser (t .normalisers))) orElse λ _.
-    firstMarked 9 (firstProof z) (fails bindsOnce (map readProof (t .proofs))) orElse λ _.
-    refusedIf (noRoom z (map readTerm (t .terms)) lent) 10
+loadRefusal ws asked lent = firstRefusal (loadTests ws (sizesOf ws) (tablesOf ws) asked lent)
