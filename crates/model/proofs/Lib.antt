@@ -6,4 +6,6 @@ pub mod Store
 pub mod Evaluation
 pub mod Facts
 pub mod Valid
+pub mod Steps
+pub mod Sound
 pub mod JobB
