@@ -1,4 +1,5 @@
--- A check on the store and its counterpart on trees: both have a value, related by P, or neither has one; for want of room (53) the store's alone may lack it.
+-- A check on the store and its counterpart on trees: both have a value, related by P, or neither has one; for want of room (53) the store's alone may
+-- lack it. No refusal has the number 0.
 use Prim.Native.Nat.{ℕ}
 use mathlib.Core.Path.{_≡_, refl, sym, subst, _∙_}
 use mathlib.Core.List.{List}
@@ -7,13 +8,13 @@ use mathlib.Core.Option.{Option, none, some, Option·none-ne-some, Option·some-
 use Rattle.model.specs.Term.{Term}
 use Rattle.model.specs.Check.{Refusal, Outcome, ok, refused, Check, andThen, refuse, orRefuse}
 use Rattle.model.specs.Tree.{_>>?_}
-use Rattle.model.proofs.Post.{Post, post-ok}
+use Rattle.model.proofs.Post.{Nonzero, nonzero-at, Post, post-ok}
 
 module _ {A B : Type 0} where
   abbrev pub Agreement : Outcome A → Option B → (A → List Term → B → Type 0) → Type 0
   Agreement (ok a s) none P = ⊥
   Agreement (ok a s) (some b) P = P a s b
-  Agreement (refused r s) none P = Unit {0}
+  Agreement (refused r s) none P = Nonzero (r .number)
   Agreement (refused r s) (some b) P = r .number ≡ 53
 
   -- a record, so that a use finds the two sides and the statement by itself
@@ -24,13 +25,14 @@ module _ {A B : Type 0} where
   agree-ok p = record { agrees = p }
 
   -- a refusal, and no tree
-  pub agree-none : {r : Refusal} {s : List Term} {P : A → List Term → B → Type 0} → Agree (refused r s) none P
-  agree-none = record { agrees = tt }
+  pub agree-none : {r : Refusal} {s : List Term} {P : A → List Term → B → Type 0} → Nonzero {0} (r .number) → Agree (refused r s) none P
+  agree-none z = record { agrees = z }
 
   agree-post′ : (o : Outcome A) (O : Option B) {P : A → List Term → B → Type 0} → Agree o O P → Post o (λ a s. (b : B) × (O ≡ some b) × P a s b)
   agree-post′ (ok a s) none g = absurd (g .agrees)
   agree-post′ (ok a s) (some b) g = post-ok (b, refl, g .agrees)
-  agree-post′ (refused r s) O g = record { holds = tt }
+  agree-post′ (refused r s) none g = record { holds = g .agrees }
+  agree-post′ (refused r s) (some b) g = record { holds = subst (λ (n : ℕ). Nonzero {0} n) (sym (g .agrees)) tt }
 
   -- where the store's side has a value, the trees' side has one
   pub agree-post : {o : Outcome A} {O : Option B} {P : A → List Term → B → Type 0} → Agree o O P → Post o (λ a s. (b : B) × (O ≡ some b) × P a s b)
@@ -47,7 +49,7 @@ module _ {A B : Type 0} where
   agree-map′ : (o : Outcome A) (O : Option B) {P Q : A → List Term → B → Type 0} → Agree o O P → ((a : A) (s : List Term) (b : B) → P a s b → Q a s b) → Agree o O Q
   agree-map′ (ok a s) none g k = absurd (g .agrees)
   agree-map′ (ok a s) (some b) g k = record { agrees = k a s b (g .agrees) }
-  agree-map′ (refused r s) none g k = record { agrees = tt }
+  agree-map′ (refused r s) none g k = record { agrees = g .agrees }
   agree-map′ (refused r s) (some b) g k = record { agrees = g .agrees }
 
   pub agree-map : {o : Outcome A} {O : Option B} {P Q : A → List Term → B → Type 0} → Agree o O P → ((a : A) (s : List Term) (b : B) → P a s b → Q a s b) → Agree o O Q
@@ -58,11 +60,11 @@ module _ {A B A′ B′ : Type 0} where
       → Agree o O P → ((a : A) (s : List Term) (b : B) → P a s b → Agree (f a s) (F b) Q) → Agree (andThen o f) (O >>? F) Q
   agree-bind′ (ok a s) none f F g k = absurd (g .agrees)
   agree-bind′ (ok a s) (some b) f F g k = k a s b (g .agrees)
-  agree-bind′ (refused r s) none f F g k = record { agrees = tt }
+  agree-bind′ (refused r s) none f F g k = record { agrees = g .agrees }
   agree-bind′ (refused r s) (some b) f F {Q = Q} g k = go (F b)
     where
       go : (X : Option B′) → Agree (refused r s) X Q
-      go none = record { agrees = tt }
+      go none = record { agrees = subst (λ (n : ℕ). Nonzero {0} n) (sym (g .agrees)) tt }
       go (some c) = record { agrees = g .agrees }
 
   -- one step on each side, then the rest

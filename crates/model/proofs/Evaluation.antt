@@ -16,6 +16,7 @@ use Rattle.model.specs.Evaluate.{lookup, primitiveAt, rowValue, validate
 use Rattle.model.specs.Tree.{Tree, leaf, named, apply, Trees, tnil, tcons, sameTree, sameTrees, TreePair, TreeBinding, TreeRow, _>>?_, treeLookup, treeRow, both, reflexiveTree, reflexiveTrees, TreeValue, TreeValues, treeValued, treeValidatedBy, treeHeadValue, treeEval, treeEvals, treeFactHeadValue, treeFactEval, treeFactEvals}
 use Rattle.model.proofs.Tests.{words-eq, words-same, trees-eq, trees-same, never}
 use Rattle.model.proofs.Represent.{Rep, Reps, Keeps, Distinct, rep-keeps, reps-keeps, reps-one, reps-tree}
+use Rattle.model.proofs.Post.{Nonzero}
 use Rattle.model.proofs.Agree.{Agree, agree-ok, agree-none, agree-map, agree-bind}
 use Rattle.model.proofs.Store.{Extends, extends-same, extends-then, extends-keeps, Below, Ordered, Added, add-agrees, rep-inside}
 
@@ -307,17 +308,17 @@ module _ (prog : Program) (rows : List TreeRow) where
   }
 
   -- a look-up on both sides
-  pub made-or : (O : Option Tree) (o : Option ℕ) (s : List Term) → World s → Maybe O s o → (n : ℕ) (fs : List ℕ) → Agree (orRefuse o n fs s) O (Made s)
-  made-or none none s w m n fs = agree-none
-  made-or none (some t) s w m n fs = absurd m
-  made-or (some T) none s w m n fs = absurd m
-  made-or (some T) (some t) s w m n fs = agree-ok (record { after = stay w; rep = m })
+  pub made-or : (O : Option Tree) (o : Option ℕ) (s : List Term) → World s → Maybe O s o → (n : ℕ) (fs : List ℕ) → Nonzero {0} n → Agree (orRefuse o n fs s) O (Made s)
+  made-or none none s w m n fs z = agree-none z
+  made-or none (some t) s w m n fs z = absurd m
+  made-or (some T) none s w m n fs z = absurd m
+  made-or (some T) (some t) s w m n fs z = agree-ok (record { after = stay w; rep = m })
 
-  made-row : (n p : ℕ) (TS : Trees) (ts : List ℕ) (s : List Term) → World s → Reps TS s ts → (b : Bool)
+  made-row : (n p : ℕ) → Nonzero {0} n → (TS : Trees) (ts : List ℕ) (s : List Term) → World s → Reps TS s ts → (b : Bool)
       → Agree (validatedBy prog n p ts b s) (treeValidatedBy prog rows p TS b) (Made s)
   unfolding validate
-  made-row n p TS ts s w r false = agree-none
-  made-row n p TS ts s w r true = made-or (treeRow rows p TS) (rowValue (prog .rows) p ts) s w (row-same (w .distinct) (w .table) p TS ts r) 46 _
+  made-row n p z TS ts s w r false = agree-none z
+  made-row n p z TS ts s w r true = made-or (treeRow rows p TS) (rowValue (prog .rows) p ts) s w (row-same (w .distinct) (w .table) p TS ts r) 46 _ tt
 
   valued-of : {s s′ : List Term} {T : Tree} {t : ℕ} (PS : List TreePair) (ps : List Proposition) → Covers PS s ps → Made s t s′ T
       → Agree (valued ps t s′) (treeValued PS T) (Valued s)
@@ -335,13 +336,13 @@ module _ (prog : Program) (rows : List TreeRow) where
     head-agrees Σ′ σ (literal l) V′ v s w b r c =
         agree-bind {O = some (leaf l)} {F = treeValued []} (add-leaf room l s w) λ n s′ T m. valued-of [] [] covers-none m
     head-agrees Σ′ σ (variable x) V′ v s w b r c =
-        agree-bind (made-or (treeLookup Σ′ x) (lookup σ x) s w (lookup-same b x) 45 (rule ∷ x ∷ [])) λ n s′ T m. valued-of [] [] covers-none m
+        agree-bind (made-or (treeLookup Σ′ x) (lookup σ x) s w (lookup-same b x) 45 (rule ∷ x ∷ []) tt) λ n s′ T m. valued-of [] [] covers-none m
     head-agrees Σ′ σ (constructor f) V′ v s w b r c =
         agree-bind {O = some (apply f (V′ .trees))} {F = treeValued (V′ .pairs)} (add-apply room f (V′ .trees) (v .terms) s w r) λ n s′ T m. valued-of (V′ .pairs) (v .pairs) c m
     head-agrees Σ′ σ (custom f) V′ v s w b r c =
         agree-bind {O = some (apply f (V′ .trees))} {F = treeValued (V′ .pairs)} (add-apply room f (V′ .trees) (v .terms) s w r) λ n s′ T m. valued-of (V′ .pairs) (v .pairs) c m
     head-agrees Σ′ σ (primitive p) V′ v s w b r c =
-        agree-bind (made-row 51 p (V′ .trees) (v .terms) s w r (primitiveAt (prog .primitives) p .validator)) λ n s′ T m. valued-of (V′ .pairs) (v .pairs) c m
+        agree-bind (made-row 51 p tt (V′ .trees) (v .terms) s w r (primitiveAt (prog .primitives) p .validator)) λ n s′ T m. valued-of (V′ .pairs) (v .pairs) c m
 
     mutual
       unfolding evalExpr treeEval
@@ -370,10 +371,10 @@ module _ (prog : Program) (rows : List TreeRow) where
         → Agree (factHeadValue room prog rule σ h ts s) (treeFactHeadValue prog rows Σ′ h TS) (Made s)
     unfolding factHeadValue
     fact-head-agrees Σ′ σ (literal l) TS ts s w b r = add-leaf room l s w
-    fact-head-agrees Σ′ σ (variable x) TS ts s w b r = made-or (treeLookup Σ′ x) (lookup σ x) s w (lookup-same b x) 45 (rule ∷ x ∷ [])
+    fact-head-agrees Σ′ σ (variable x) TS ts s w b r = made-or (treeLookup Σ′ x) (lookup σ x) s w (lookup-same b x) 45 (rule ∷ x ∷ []) tt
     fact-head-agrees Σ′ σ (constructor f) TS ts s w b r = add-apply room f TS ts s w r
-    fact-head-agrees Σ′ σ (custom f) TS ts s w b r = agree-none
-    fact-head-agrees Σ′ σ (primitive p) TS ts s w b r = made-row 47 p TS ts s w r (primitiveAt (prog .primitives) p .validator)
+    fact-head-agrees Σ′ σ (custom f) TS ts s w b r = agree-none tt
+    fact-head-agrees Σ′ σ (primitive p) TS ts s w b r = made-row 47 p tt TS ts s w r (primitiveAt (prog .primitives) p .validator)
 
     mutual
       unfolding evalFactExpr treeFactEval

@@ -16,6 +16,7 @@ use Rattle.model.specs.Normalize.{App, asApp, normaliserOf, unwrapOr, no
 use Rattle.model.specs.Tree.{Tree, leaf, named, apply, Trees, tnil, tcons, sameTree, TreePair, TreeBinding, TreeRow, _>>?_, treeLookup, treeRow, both, TreeValue, snoc, treeBindOutput, treeCompareSides, TreeContext, treeMergeBindings, treeEval, treeWantedEquality, treeWanted, treeSideBy, treeCondition, treeAction, treeActions, treeMerge, treeNormalBy, treeNormal}
 use Rattle.model.proofs.Tests.{eq-of, eqb-same, tree-eq, tree-same}
 use Rattle.model.proofs.Represent.{Rep, Reps, Keeps, Distinct, rep-keeps, reps-keeps, rep-tree, rep-one}
+use Rattle.model.proofs.Post.{Nonzero}
 use Rattle.model.proofs.Agree.{Agree, agree-ok, agree-none, agree-map, agree-bind}
 use Rattle.model.proofs.Evaluation.{Binds, bnil, bcons, binds-keeps, Maybe, lookup-same, row-same, Stands, Covers, covers-keeps, covers-append, covers-cons, covers-none, stands-same, World, After, keeps, stay, then, Made, Mades, Valued, add-apply, made-or, eval-agrees, fact-eval-agrees, fact-evals-agree}
 
@@ -81,13 +82,13 @@ module _ (prog : Program) (rows : List TreeRow) where
 
   output-agrees : (rule i : ℕ) (Σ′ : List TreeBinding) (σ : List Binding) (s : List Term) → World prog rows s → Binds s Σ′ σ → (x : Option ℕ) (T : Tree) (t : ℕ) → Rep T s t
       → Agree (bindOutput rule i σ x t s) (treeBindOutput Σ′ x T) (Bound s)
-  output-agrees rule i Σ′ σ s w b none T t r = agree-none
+  output-agrees rule i Σ′ σ s w b none T t r = agree-none tt
   output-agrees rule i Σ′ σ s w b (some x) T t r = agree-ok (record { after = stay prog rows w; binds = bcons refl r b })
 
   tested : (rule i a b : ℕ) (Σ′ : List TreeBinding) (σ : List Binding) (s : List Term) → World prog rows s → Binds s Σ′ σ → (c d : Bool) → c ≡ d
       → Agree (andThen (checkThat c 42 (rule ∷ i ∷ a ∷ b ∷ []) s) (λ _. pure σ)) (elim d [ true ↦ some Σ′ | false ↦ none ]) (Bound s)
   tested rule i a b Σ′ σ s w bs true true e = agree-ok (record { after = stay prog rows w; binds = bs })
-  tested rule i a b Σ′ σ s w bs false false e = agree-none
+  tested rule i a b Σ′ σ s w bs false false e = agree-none tt
   tested rule i a b Σ′ σ s w bs true false e = absurd (true≢false e)
   tested rule i a b Σ′ σ s w bs false true e = absurd (true≢false (sym e))
 
@@ -95,7 +96,7 @@ module _ (prog : Program) (rows : List TreeRow) where
       → (lv : Option ℕ) (A : Option Tree) (a : Option ℕ) → Maybe A s a → (rv : Option ℕ) (B : Option Tree) (b : Option ℕ) → Maybe B s b
       → Agree (compareSides rule i σ lv a rv b s) (treeCompareSides Σ′ lv A rv B) (Bound s)
   unfolding compareSides treeCompareSides
-  sides-agree rule i Σ′ σ s w bs lv none none p rv none none q = agree-none
+  sides-agree rule i Σ′ σ s w bs lv none none p rv none none q = agree-none tt
   sides-agree rule i Σ′ σ s w bs lv none none p rv none (some b) q = absurd q
   sides-agree rule i Σ′ σ s w bs lv none none p rv (some B) none q = absurd q
   sides-agree rule i Σ′ σ s w bs lv none none p rv (some B) (some b) q = output-agrees rule i Σ′ σ s w bs lv B b q
@@ -129,7 +130,7 @@ module _ (prog : Program) (rows : List TreeRow) where
         → Agree (wantedEquality room prog rule σ l r f s) (treeWantedEquality prog rows Σ′ l r f) (Wanted (equal i l r) s)
     unfolding wantedEquality
     equality-agrees Σ′ σ i l r (some f) s w b =
-        agree-bind (made-or prog rows (treeLookup Σ′ (f .variable)) (lookup σ (f .variable)) s w (lookup-same b (f .variable)) 45 (rule ∷ f .variable ∷ [])) λ v s₀ X k.
+        agree-bind (made-or prog rows (treeLookup Σ′ (f .variable)) (lookup σ (f .variable)) s w (lookup-same b (f .variable)) 45 (rule ∷ f .variable ∷ []) tt) λ v s₀ X k.
         agree-bind (fact-evals-agree prog rows room rule (argsOf l) Σ′ σ s₀ (k .after .world) (binds-keeps (keeps prog rows (k .after)) b)) λ ts s₁ TS m.
         agree-bind {O = some (apply (f .function) (snoc TS X))} {F = λ T. some (both T)}
         (add-apply prog rows room (f .function) (snoc TS X) (ts ++ (v ∷ [])) s₁ (m .after .world) (reps-snoc TS ts X v s₁ (m .reps) (rep-keeps X (keeps prog rows (m .after)) v (k .rep)))) λ t s₂ T n.
@@ -198,7 +199,7 @@ module _ (prog : Program) (rows : List TreeRow) where
     where
       go : (m : Option Expr) → Agree (andThen (orRefuse m 43 (f ∷ []) s) (evalExpr room prog nameMergeFunction (mergeBindings old new)))
           (m >>? λ e. treeEval prog rows e (treeMergeBindings O N)) (Valued prog rows s)
-      go none = agree-none
+      go none = agree-none tt
       go (some e) = eval-agrees prog rows room nameMergeFunction e (treeMergeBindings O N) (mergeBindings old new) s w (bcons refl p (bcons refl q bnil))
 
   -- the pair proved is the one wanted
@@ -207,21 +208,21 @@ module _ (prog : Program) (rows : List TreeRow) where
   unfolding matches
   matches-agrees rule f w q W Q s d x y = go f (same-test d (Q .left) (W .left) (q .lhs) (w .lhs) (y .left) (x .left)) (same-test d (Q .right) (W .right) (q .rhs) (w .rhs) (y .right) (x .right))
     where
-      that : (n : ℕ) (fs : List ℕ) (a b : Bool) → a ≡ b → Agree (checkThat a n fs s) (onlyIf b W) (λ _ s′ X. (s′ ≡ s) × (X ≡ W))
-      that n fs true true e = agree-ok (refl, refl)
-      that n fs false false e = agree-none
-      that n fs true false e = absurd (true≢false e)
-      that n fs false true e = absurd (true≢false (sym e))
+      that : (n : ℕ) → Nonzero {0} n → (fs : List ℕ) (a b : Bool) → a ≡ b → Agree (checkThat a n fs s) (onlyIf b W) (λ _ s′ X. (s′ ≡ s) × (X ≡ W))
+      that n z fs true true e = agree-ok (refl, refl)
+      that n z fs false false e = agree-none z
+      that n z fs true false e = absurd (true≢false e)
+      that n z fs false true e = absurd (true≢false (sym e))
 
       equality : (i : ℕ) (g : Option FunctionFact) (b : Bool) → (eqb (q .lhs) (w .lhs) && eqb (q .rhs) (w .rhs)) ≡ b
           → Agree (matchesEquality rule i g w q s) (onlyIf b W) (λ _ s′ X. (s′ ≡ s) × (X ≡ W))
-      equality i none b e = that 29 _ _ b e
-      equality i (some g) b e = that 28 _ _ b e
+      equality i none b e = that 29 tt _ _ b e
+      equality i (some g) b e = that 28 tt _ _ b e
 
       go : (f : Fact) → eqb (q .lhs) (w .lhs) ≡ sameTree (Q .left) (W .left) → eqb (q .rhs) (w .rhs) ≡ sameTree (Q .right) (W .right)
           → Agree (matches rule f w q s) (treeMatches f Q W) (λ _ s′ X. (s′ ≡ s) × (X ≡ W))
       go (equal i l r) a b = equality i (functionFact l r) _ (ap₂ _&&_ a b)
-      go (bare i e) a b = that 30 _ _ _ b
+      go (bare i e) a b = that 30 tt _ _ _ b
 
   -- the normal form of a number has the normal form of its tree
   pub normal-agrees : (T : Tree) (t : ℕ) (s : List Term) → World prog rows s → Rep T s t

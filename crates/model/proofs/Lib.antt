@@ -8,4 +8,5 @@ pub mod Facts
 pub mod Valid
 pub mod Steps
 pub mod Sound
+pub mod Derived
 pub mod JobB

@@ -1,5 +1,6 @@
--- What a check ensures of its value and the store where it does not refuse.
-use Prim.Native.Nat.{ℕ}
+-- What a check ensures of its value and the store where it does not refuse, and that no refusal has the number 0.
+use Prim.Native.Nat.{ℕ, zero, suc}
+use mathlib.Core.Logic.{Lift}
 use mathlib.Core.Path.{_≡_, refl, sym, subst}
 use mathlib.Core.List.{List}
 use mathlib.Core.Bool.{Bool, true, false}
@@ -7,10 +8,19 @@ use mathlib.Core.Option.{Option, none, some}
 use Rattle.model.specs.Term.{Term}
 use Rattle.model.specs.Check.{Outcome, ok, refused, Check, andThen, choose, orRefuse, checkThat}
 
+-- a number that is not 0: by computation, where it is written out
+abbrev pub Nonzero {ℓ} : ℕ → Type ℓ
+Nonzero zero = Lift {0, ℓ} ⊥
+Nonzero (suc n) = Unit {ℓ}
+
+pub nonzero-at {κ ℓ} : (n : ℕ) → Nonzero {κ} n → Nonzero {ℓ} n
+nonzero-at zero h = absurd (h .lower)
+nonzero-at (suc n) h = tt
+
 module _ {ℓ} {A : Type 0} where
   abbrev pub Holds : Outcome A → (A → List Term → Type ℓ) → Type ℓ
   Holds (ok a s) Q = Q a s
-  Holds (refused r s) Q = Unit {ℓ}
+  Holds (refused r s) Q = Nonzero (r .number)
 
   -- a record, so that a use finds the outcome and the statement by itself
   pub record Post (o : Outcome A) (Q : A → List Term → Type ℓ) : Type ℓ where
@@ -28,14 +38,14 @@ module _ {ℓ} {A : Type 0} where
   post-choose false x y s h k = k refl
 
   pub post-or : (o : Option A) (n : ℕ) (fs : List ℕ) (s : List Term) {Q : A → List Term → Type ℓ}
-      → ((a : A) → o ≡ some a → Q a s) → Post (orRefuse o n fs s) Q
-  post-or none n fs s k = record { holds = tt }
-  post-or (some a) n fs s k = record { holds = k a refl }
+      → Nonzero {ℓ} n → ((a : A) → o ≡ some a → Q a s) → Post (orRefuse o n fs s) Q
+  post-or none n fs s z k = record { holds = z }
+  post-or (some a) n fs s z k = record { holds = k a refl }
 
 module _ {κ ℓ} {A : Type 0} where
   post-map′ : (o : Outcome A) {P : A → List Term → Type κ} {Q : A → List Term → Type ℓ} → Post o P → ((a : A) (s : List Term) → P a s → Q a s) → Post o Q
   post-map′ (ok a s) p k = record { holds = k a s (p .holds) }
-  post-map′ (refused r s) p k = record { holds = tt }
+  post-map′ (refused r s) p k = record { holds = nonzero-at (r .number) (p .holds) }
 
   pub post-map : {o : Outcome A} {P : A → List Term → Type κ} {Q : A → List Term → Type ℓ} → Post o P → ((a : A) (s : List Term) → P a s → Q a s) → Post o Q
   post-map {o} p k = post-map′ o p k
@@ -44,7 +54,7 @@ module _ {κ ℓ} {A B : Type 0} where
   post-bind′ : (o : Outcome A) {f : A → Check B} {P : A → List Term → Type κ} {Q : B → List Term → Type ℓ}
       → Post o P → ((a : A) (s : List Term) → P a s → Post (f a s) Q) → Post (andThen o f) Q
   post-bind′ (ok a s) p k = k a s (p .holds)
-  post-bind′ (refused r s) p k = record { holds = tt }
+  post-bind′ (refused r s) p k = record { holds = nonzero-at (r .number) (p .holds) }
 
   pub post-bind : {o : Outcome A} {f : A → Check B} {P : A → List Term → Type κ} {Q : B → List Term → Type ℓ}
       → Post o P → ((a : A) (s : List Term) → P a s → Post (f a s) Q) → Post (andThen o f) Q
@@ -53,7 +63,7 @@ module _ {κ ℓ} {A B : Type 0} where
   same-bind′ : (o : Outcome A) (f : A → Check B) {s : List Term} {P : Type κ} {Q : B → List Term → Type ℓ}
       → Post o (λ _ s′. (s′ ≡ s) × P) → ((a : A) → P → Post (f a s) Q) → Post (andThen o f) Q
   same-bind′ (ok a s′) f {s} {P} {Q} p k = subst (λ (u : List Term). Post (f a u) Q) (sym (p .holds .0)) (k a (p .holds .1))
-  same-bind′ (refused r s′) f p k = record { holds = tt }
+  same-bind′ (refused r s′) f p k = record { holds = nonzero-at (r .number) (p .holds) }
 
   -- after a check that leaves the store as it was
   pub same-bind : {o : Outcome A} (f : A → Check B) {s : List Term} {P : Type κ} {Q : B → List Term → Type ℓ}
@@ -62,17 +72,17 @@ module _ {κ ℓ} {A B : Type 0} where
 
 module _ {ℓ} {A B : Type 0} where
   pub or-bind : (o : Option A) (n : ℕ) (fs : List ℕ) (s : List Term) (f : A → Check B) {Q : B → List Term → Type ℓ}
-      → ((a : A) → o ≡ some a → Post (f a s) Q) → Post (andThen (orRefuse o n fs s) f) Q
-  or-bind none n fs s f k = record { holds = tt }
-  or-bind (some a) n fs s f k = k a refl
+      → Nonzero {ℓ} n → ((a : A) → o ≡ some a → Post (f a s) Q) → Post (andThen (orRefuse o n fs s) f) Q
+  or-bind none n fs s f z k = record { holds = z }
+  or-bind (some a) n fs s f z k = k a refl
 
 module _ {ℓ} {B : Type 0} where
   pub that-bind : (b : Bool) (n : ℕ) (fs : List ℕ) (s : List Term) (f : Unit {0} → Check B) {Q : B → List Term → Type ℓ}
-      → (b ≡ true → Post (f tt s) Q) → Post (andThen (checkThat b n fs s) f) Q
-  that-bind true n fs s f k = k refl
-  that-bind false n fs s f k = record { holds = tt }
+      → Nonzero {ℓ} n → (b ≡ true → Post (f tt s) Q) → Post (andThen (checkThat b n fs s) f) Q
+  that-bind true n fs s f z k = k refl
+  that-bind false n fs s f z k = record { holds = z }
 
 pub post-that {ℓ} : (b : Bool) (n : ℕ) (fs : List ℕ) (s : List Term) {Q : Unit {0} → List Term → Type ℓ}
-    → (b ≡ true → Q tt s) → Post (checkThat b n fs s) Q
-post-that true n fs s k = record { holds = k refl }
-post-that false n fs s k = record { holds = tt }
+    → Nonzero {ℓ} n → (b ≡ true → Q tt s) → Post (checkThat b n fs s) Q
+post-that true n fs s z k = record { holds = k refl }
+post-that false n fs s z k = record { holds = z }

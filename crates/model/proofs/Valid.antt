@@ -37,6 +37,7 @@ abbrev Unmarked : List Bool → Type 0
 Unmarked ms = (m : Bool) → List·Memᴰ m ms → m ≡ false
 
 unmarked : (n i : ℕ) (ms : List Bool) → firstMarked n i ms ≡ none → Unmarked ms
+unfolding firstMarked
 unmarked n i [] e m k = absurd (List·Memᴰ·not-nil k)
 unmarked n i (false ∷ ms) e m k = go (List·Memᴰ·cases-cons k) (unmarked n (suc i) ms e m)
   where

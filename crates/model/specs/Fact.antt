@@ -52,19 +52,19 @@ headOf (node i h es) = h
 abbrev pub argsOf : Expr → Exprs
 argsOf (node i h es) = es
 
--- An argument that is not in proof normal form: the refusal's number and the argument's expression number.
-pub record Offence : Type 0 where
-  pub number : ℕ
-  pub argument : ℕ
+-- An argument that is not in proof normal form, by its expression number: the Rust's `PrimitiveNonNormalArg` and `ContainerPrimitiveNotSideCondition`.
+pub data Offence : Type 0 where
+  primitiveNonNormalArg : ℕ → Offence
+  containerPrimitiveNotSideCondition : ℕ → Offence
 
-abbrev pub offenceIf : Bool → ℕ → ℕ → Option Offence
-offenceIf true n e = some (record { number = n; argument = e })
-offenceIf false n e = none
+abbrev pub offenceIf : Bool → Offence → Option Offence
+offenceIf true o = some o
+offenceIf false o = none
 
--- A function call directly under a primitive call (49), a container primitive call directly under a function call (50).
+-- A function call directly under a primitive call, a container primitive call directly under a function call.
 abbrev pub argumentOffence : Program → Head → Expr → Option Offence
 argumentOffence prog h (node j g es) =
-    firstOf (offenceIf (isPrimitive h && isFunc g) 49 j) (offenceIf (isFunc h && isContainerPrimitive prog g) 50 j)
+    firstOf (offenceIf (isPrimitive h && isFunc g) (primitiveNonNormalArg j)) (offenceIf (isFunc h && isContainerPrimitive prog g) (containerPrimitiveNotSideCondition j))
 
 -- The first offence in an expression: from the left, each argument itself, then what is inside it.
 unfoldable mutual
@@ -81,7 +81,8 @@ factOffence prog (bare i e) = offence e prog
 
 abbrev pub noOffence : ℕ → Option Offence → Check (Unit {0})
 noOffence rule none = pure tt
-noOffence rule (some o) = refuse (o .number) (rule ∷ o .argument ∷ [])
+noOffence rule (some (primitiveNonNormalArg e)) = refuse 49 (rule ∷ e ∷ [])
+noOffence rule (some (containerPrimitiveNotSideCondition e)) = refuse 50 (rule ∷ e ∷ [])
 
 -- `assert_body_proof_normal_form`
 unfoldable pub assertBodyProofNormalForm : Program → ℕ → Fact → Check (Unit {0})

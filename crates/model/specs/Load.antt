@@ -160,12 +160,12 @@ noRoom z terms l =
     not (eqb (l .kinds) (l .ends)) || ltb (l .scratch) (2 * (l .kinds + z .proofs))
 
 -- The refusal of a host's fault, which has no fields.
-abbrev pub refusedIf : Bool → ℕ → Option Refusal
+unfoldable pub refusedIf : Bool → ℕ → Option Refusal
 refusedIf false n = none
 refusedIf true n = some (record { number = n; fields = [] })
 
 -- The refusal that names the first cell marked, where the first mark is that of cell i.
-abbrev pub firstMarked : ℕ → ℕ → List Bool → Option Refusal
+unfoldable pub firstMarked : ℕ → ℕ → List Bool → Option Refusal
 firstMarked n i [] = none
 firstMarked n i (false ∷ ms) = firstMarked n (suc i) ms
 firstMarked n i (true ∷ ms) = some (record { number = n; fields = i ∷ [] })
