@@ -309,6 +309,7 @@ module _ (prog : Program) (rows : List TreeRow) where
 
   -- a look-up on both sides
   pub made-or : (O : Option Tree) (o : Option ℕ) (s : List Term) → World s → Maybe O s o → (n : ℕ) (fs : List ℕ) → Nonzero {0} n → Agree (orRefuse o n fs s) O (Made s)
+  unfolding orRefuse
   made-or none none s w m n fs z = agree-none z
   made-or none (some t) s w m n fs z = absurd m
   made-or (some T) none s w m n fs z = absurd m

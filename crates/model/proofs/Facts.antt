@@ -87,6 +87,7 @@ module _ (prog : Program) (rows : List TreeRow) where
 
   tested : (rule i a b : ℕ) (Σ′ : List TreeBinding) (σ : List Binding) (s : List Term) → World prog rows s → Binds s Σ′ σ → (c d : Bool) → c ≡ d
       → Agree (andThen (checkThat c 42 (rule ∷ i ∷ a ∷ b ∷ []) s) (λ _. pure σ)) (elim d [ true ↦ some Σ′ | false ↦ none ]) (Bound s)
+  unfolding checkThat
   tested rule i a b Σ′ σ s w bs true true e = agree-ok (record { after = stay prog rows w; binds = bs })
   tested rule i a b Σ′ σ s w bs false false e = agree-none tt
   tested rule i a b Σ′ σ s w bs true false e = absurd (true≢false e)
@@ -194,7 +195,7 @@ module _ (prog : Program) (rows : List TreeRow) where
 
   pub merge-agrees : (room : Room) (f old new : ℕ) (O N : Tree) (s : List Term) → World prog rows s → Rep O s old → Rep N s new
       → Agree (runMerge room prog f old new s) (treeMerge prog rows f O N) (Valued prog rows s)
-  unfolding runMerge treeMerge
+  unfolding runMerge treeMerge orRefuse
   merge-agrees room f old new O N s w p q = go (mergeOf (prog .functions) f)
     where
       go : (m : Option Expr) → Agree (andThen (orRefuse m 43 (f ∷ []) s) (evalExpr room prog nameMergeFunction (mergeBindings old new)))
@@ -205,7 +206,7 @@ module _ (prog : Program) (rows : List TreeRow) where
   -- the pair proved is the one wanted
   pub matches-agrees : (rule : ℕ) (f : Fact) (w q : Proposition) (W Q : TreePair) (s : List Term) → Distinct s → Stands W s w → Stands Q s q
       → Agree (matches rule f w q s) (treeMatches f Q W) (λ _ s′ X. (s′ ≡ s) × (X ≡ W))
-  unfolding matches
+  unfolding matches checkThat
   matches-agrees rule f w q W Q s d x y = go f (same-test d (Q .left) (W .left) (q .lhs) (w .lhs) (y .left) (x .left)) (same-test d (Q .right) (W .right) (q .rhs) (w .rhs) (y .right) (x .right))
     where
       that : (n : ℕ) → Nonzero {0} n → (fs : List ℕ) (a b : Bool) → a ≡ b → Agree (checkThat a n fs s) (onlyIf b W) (λ _ s′ X. (s′ ≡ s) × (X ≡ W))

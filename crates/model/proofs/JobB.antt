@@ -8,7 +8,7 @@ use Rattle.model.specs.Term.{readTerm, findTerm, getTerm}
 use Rattle.model.specs.Layout.{sizesOf, kindsOf, endsOf, poolOf, tablesOf}
 use Rattle.model.specs.Decode.{exprIn, readProgram, readJob}
 use Rattle.model.specs.Load.{refusedIf, firstMarked, loadRefusal}
-use Rattle.model.specs.Check.{addNode}
+use Rattle.model.specs.Check.{orRefuse, checkThat, addNode}
 use Rattle.model.specs.Evaluate.{subtermsIn, reflexive, headValue, evalExpr, evalExprs}
 use Rattle.model.specs.Action.{processActions}
 use Rattle.model.specs.Walk.{checkFiat, checkTrans, checkSym, checkCongr, checkProofWithContext, newContext, checkProof}
@@ -50,5 +50,5 @@ markedAnswers =
     (26 ∷ 4 ∷ 12 ∷ 0 ∷ 0 ∷ 0 ∷ 0 ∷ 0 ∷ []) ∷ []
 
 pub marked-cases : answers markedProofs ≡ markedAnswers
-unfolding answers markedProofs markedAnswers jobB exactly check checked loadRefusal refusedIf firstMarked tablesOf sizesOf kindsOf endsOf poolOf cellsOf tabulate startOf wordsAt readTerm readJob readProgram exprIn checkProof newContext checkProofWithContext checkFiat checkTrans checkSym checkCongr processActions evalExpr evalExprs headValue addNode findTerm getTerm reflexive subtermsIn
+unfolding answers markedProofs markedAnswers jobB exactly check checked loadRefusal refusedIf firstMarked tablesOf sizesOf kindsOf endsOf poolOf cellsOf tabulate startOf wordsAt readTerm readJob readProgram exprIn checkProof newContext checkProofWithContext checkFiat checkTrans checkSym checkCongr processActions evalExpr evalExprs headValue orRefuse checkThat addNode findTerm getTerm reflexive subtermsIn
 marked-cases = refl

@@ -9,4 +9,7 @@ pub mod Valid
 pub mod Steps
 pub mod Sound
 pub mod Derived
+pub mod Again
+pub mod Fuel
+pub mod Grows
 pub mod JobB

@@ -39,6 +39,7 @@ module _ {ℓ} {A : Type 0} where
 
   pub post-or : (o : Option A) (n : ℕ) (fs : List ℕ) (s : List Term) {Q : A → List Term → Type ℓ}
       → Nonzero {ℓ} n → ((a : A) → o ≡ some a → Q a s) → Post (orRefuse o n fs s) Q
+  unfolding orRefuse
   post-or none n fs s z k = record { holds = z }
   post-or (some a) n fs s z k = record { holds = k a refl }
 
@@ -73,16 +74,19 @@ module _ {κ ℓ} {A B : Type 0} where
 module _ {ℓ} {A B : Type 0} where
   pub or-bind : (o : Option A) (n : ℕ) (fs : List ℕ) (s : List Term) (f : A → Check B) {Q : B → List Term → Type ℓ}
       → Nonzero {ℓ} n → ((a : A) → o ≡ some a → Post (f a s) Q) → Post (andThen (orRefuse o n fs s) f) Q
+  unfolding orRefuse
   or-bind none n fs s f z k = record { holds = z }
   or-bind (some a) n fs s f z k = k a refl
 
 module _ {ℓ} {B : Type 0} where
   pub that-bind : (b : Bool) (n : ℕ) (fs : List ℕ) (s : List Term) (f : Unit {0} → Check B) {Q : B → List Term → Type ℓ}
       → Nonzero {ℓ} n → (b ≡ true → Post (f tt s) Q) → Post (andThen (checkThat b n fs s) f) Q
+  unfolding checkThat
   that-bind true n fs s f z k = k refl
   that-bind false n fs s f z k = record { holds = z }
 
 pub post-that {ℓ} : (b : Bool) (n : ℕ) (fs : List ℕ) (s : List Term) {Q : Unit {0} → List Term → Type ℓ}
     → Nonzero {ℓ} n → (b ≡ true → Q tt s) → Post (checkThat b n fs s) Q
+unfolding checkThat
 post-that true n fs s z k = record { holds = k refl }
 post-that false n fs s z k = record { holds = z }

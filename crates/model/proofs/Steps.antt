@@ -304,7 +304,7 @@ module _ {ℓ} (room : Room) (job : Job) (valid : Valid job) (R : Tree → Tree 
 
     views-sound : (p : ℕ) (q : Proposition) → Named q → (g : ℕ) (a b : App) (s : List Term) → State s → (X Y : Trees) → Reps X s (a .args) → Reps Y s (b .args)
         → R (apply (a .head) X) (apply (a .head) X) → R (apply (b .head) Y) (apply (b .head) Y)
-        → Post (checkViews room prog proofs ctx sub p q g a b s) (λ _ s′. After prog rows s s′ × R (tree (q .lhs)) (tree (q .rhs)))
+        → Post (checkViews room prog p q g a b s) (λ _ s′. After prog rows s s′ × R (tree (q .lhs)) (tree (q .rhs)))
     unfolding checkViews
     views-sound p q n g a b s w X Y rx ry ax ay =
         that-bind (eqb (a .head) (b .head)) _ _ _ _ tt λ h.
@@ -336,7 +336,7 @@ module _ {ℓ} (room : Room) (job : Job) (valid : Valid job) (R : Tree → Tree 
     both-sound : (p : ℕ) (q : Proposition) → Named q → (g x y : ℕ) (A B : Option App) (s : List Term) → State s
         → Rep (tree x) terms x → Rep (tree y) terms y → asApp (getTerm s x) ≡ A → asApp (getTerm s y) ≡ B
         → R (tree x) (tree x) → R (tree y) (tree y)
-        → Post (checkBothApps room prog proofs ctx sub p q g x y A B s) (λ _ s′. After prog rows s s′ × R (tree (q .lhs)) (tree (q .rhs)))
+        → Post (checkBothApps room prog p q g x y A B s) (λ _ s′. After prog rows s s′ × R (tree (q .lhs)) (tree (q .rhs)))
     both-sound p q n g x y none B s w rx ry ex ey ax ay = record { holds = tt }
     both-sound p q n g x y (some a) none s w rx ry ex ey ax ay = record { holds = tt }
     both-sound p q n g x y (some a) (some b) s w rx ry ex ey ax ay =

@@ -216,7 +216,7 @@ of-term g s n (lit l) e h = e
 of-term g s n (var x) e h = e
 of-term g s n (app f xs) e h = (xs, e, trees-reps g s xs (h f xs e))
 
-tree-in : (s : List Term) → Ordered s → (f n : ℕ) → n < f → n < length s → Rep (treeIn f s n) s n
+pub tree-in : (s : List Term) → Ordered s → (f n : ℕ) → n < f → n < length s → Rep (treeIn f s n) s n
 unfolding treeIn
 tree-in s o zero n h k = absurd (not-suc-le-zero h)
 tree-in s o (suc f) n h k =

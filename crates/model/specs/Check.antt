@@ -48,12 +48,12 @@ module _ {A : Type 0} where
   firstOf (some a) b = some a
 
   -- The Rust's `ok_or_else`.
-  abbrev pub orRefuse : Option A → ℕ → List ℕ → Check A
+  unfoldable pub orRefuse : Option A → ℕ → List ℕ → Check A
   orRefuse none n fs = refuse n fs
   orRefuse (some a) n fs = pure a
 
 -- Nothing where the test passes, else a refusal.
-abbrev pub checkThat : Bool → ℕ → List ℕ → Check (Unit {0})
+unfoldable pub checkThat : Bool → ℕ → List ℕ → Check (Unit {0})
 checkThat true n fs = pure tt
 checkThat false n fs = refuse n fs
 

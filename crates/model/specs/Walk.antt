@@ -46,6 +46,23 @@ front [] = []
 front (x ∷ []) = []
 front (x ∷ y ∷ ys) = x ∷ front (y ∷ ys)
 
+module _ (room : Room) (prog : Program) where
+  -- Two views of one function, merged by the function named.
+  unfoldable pub checkViews : ℕ → Proposition → ℕ → App → App → Check (Unit {0})
+  checkViews p q function old new =
+      checkThat (eqb (old .head) (new .head)) 34 (p ∷ old .head ∷ new .head ∷ []) >>= λ _.
+      orRefuse (last (old .args)) 35 (p ∷ 0 ∷ []) >>= λ oldOutput.
+      orRefuse (last (new .args)) 35 (p ∷ 1 ∷ []) >>= λ newOutput.
+      checkThat (sameWords (front (old .args)) (front (new .args))) 36 (p ∷ []) >>= λ _.
+      runMerge room prog function oldOutput newOutput >>= λ merged.
+      addNode room (app (old .head) (front (old .args) ++ (merged .term ∷ []))) >>= λ view.
+      checkThat (among q (same view ∷ merged .pairs)) 38 (p ∷ q .lhs ∷ q .rhs ∷ [])
+
+  abbrev pub checkBothApps : ℕ → Proposition → ℕ → ℕ → ℕ → Option App → Option App → Check (Unit {0})
+  checkBothApps p q function x y none b = refuse 37 (p ∷ x ∷ y ∷ [])
+  checkBothApps p q function x y (some a) none = refuse 37 (p ∷ x ∷ y ∷ [])
+  checkBothApps p q function x y (some a) (some b) = checkViews p q function a b
+
 -- `ctx` holds the global pairs and bindings, `sub` checks a proof referred to; the list is the cache of checked proofs.
 module _ (room : Room) (prog : Program) (proofs : List Proof) (ctx : ActionContext) (sub : ℕ → List ℕ → Check (List ℕ)) where
   -- Each fact with its premise. Too few premises are refused by 27 before.
@@ -69,22 +86,6 @@ module _ (room : Room) (prog : Program) (proofs : List Proof) (ctx : ActionConte
       checkRuleProducesEquality room prog r (b .0) q >>= λ _.
       pure (b .1)
 
-  -- Two views of one function, merged by the function named.
-  unfoldable pub checkViews : ℕ → Proposition → ℕ → App → App → Check (Unit {0})
-  checkViews p q function old new =
-      checkThat (eqb (old .head) (new .head)) 34 (p ∷ old .head ∷ new .head ∷ []) >>= λ _.
-      orRefuse (last (old .args)) 35 (p ∷ 0 ∷ []) >>= λ oldOutput.
-      orRefuse (last (new .args)) 35 (p ∷ 1 ∷ []) >>= λ newOutput.
-      checkThat (sameWords (front (old .args)) (front (new .args))) 36 (p ∷ []) >>= λ _.
-      runMerge room prog function oldOutput newOutput >>= λ merged.
-      addNode room (app (old .head) (front (old .args) ++ (merged .term ∷ []))) >>= λ view.
-      checkThat (among q (same view ∷ merged .pairs)) 38 (p ∷ q .lhs ∷ q .rhs ∷ [])
-
-  abbrev pub checkBothApps : ℕ → Proposition → ℕ → ℕ → ℕ → Option App → Option App → Check (Unit {0})
-  checkBothApps p q function x y none b = refuse 37 (p ∷ x ∷ y ∷ [])
-  checkBothApps p q function x y (some a) none = refuse 37 (p ∷ x ∷ y ∷ [])
-  checkBothApps p q function x y (some a) (some b) = checkViews p q function a b
-
   unfoldable pub checkMergeFn : ℕ → Proposition → ℕ → ℕ → ℕ → List ℕ → Check (List ℕ)
   checkMergeFn p q function old new done =
       sub old done >>= λ done₁.
@@ -94,7 +95,7 @@ module _ (room : Room) (prog : Program) (proofs : List Proof) (ctx : ActionConte
       checkThat (eqb (a .lhs) (a .rhs)) 39 (p ∷ 0 ∷ a .lhs ∷ a .rhs ∷ []) >>= λ _.
       checkThat (eqb (b .lhs) (b .rhs)) 39 (p ∷ 1 ∷ b .lhs ∷ b .rhs ∷ []) >>= λ _.
       getTerms >>= λ s.
-      checkBothApps p q function (a .rhs) (b .rhs) (asApp (getTerm s (a .rhs))) (asApp (getTerm s (b .rhs))) >>= λ _.
+      checkBothApps room prog p q function (a .rhs) (b .rhs) (asApp (getTerm s (a .rhs))) (asApp (getTerm s (b .rhs))) >>= λ _.
       pure done₂
 
   unfoldable pub checkTrans : ℕ → Proposition → ℕ → ℕ → List ℕ → Check (List ℕ)
