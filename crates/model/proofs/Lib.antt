@@ -12,4 +12,7 @@ pub mod Derived
 pub mod Again
 pub mod Fuel
 pub mod Grows
+pub mod Exact
+pub mod JobA
 pub mod JobB
+pub mod Example
