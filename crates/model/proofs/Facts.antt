@@ -107,7 +107,7 @@ module _ (prog : Program) (rows : List TreeRow) where
   sides-agree rule i Σ′ σ s w bs lv (some A) (some a) p rv none (some b) q = absurd q
   sides-agree rule i Σ′ σ s w bs lv (some A) (some a) p rv (some B) none q = absurd q
   sides-agree rule i Σ′ σ s w bs lv (some A) (some a) p rv (some B) (some b) q =
-      tested rule i a b Σ′ σ s w bs (eqb a b) (sameTree A B) (same-test (w .distinct) A B a b p q)
+      tested rule i a b Σ′ σ s w bs _ _ (same-test (w .distinct) A B a b p q)
 
   module _ (room : Room) (rule : ℕ) where
     side-agrees : (Σ′ : List TreeBinding) (σ : List Binding) (e : Expr) (x : Option ℕ) (s : List Term) → World prog rows s → Binds s Σ′ σ

@@ -209,7 +209,7 @@ module _ {ℓ} (room : Room) (job : Job) (valid : Valid job) (R : Tree → Tree 
         → Post (checkFiat room prog proofs ctx sub p q ps s) (λ ps′ s′. Stepped s s′ ps′ q)
     unfolding checkFiat
     fiat-sound p q n ps s w d =
-        that-bind ((isLiteral (getTerm s (q .lhs)) && eqb (q .lhs) (q .rhs)) || among q (ctx .pairs)) _ _ _ _ tt λ h.
+        that-bind _ _ _ _ _ tt λ h.
         post-ok (record { after = stay prog rows (w .after .world); done = d; related = go (or-cases _ _ h) })
       where
         go : ((isLiteral (getTerm s (q .lhs)) && eqb (q .lhs) (q .rhs)) ≡ true) ⊎ (among q (ctx .pairs) ≡ true) → R (tree (q .lhs)) (tree (q .rhs))
@@ -228,8 +228,8 @@ module _ {ℓ} (room : Room) (job : Job) (valid : Valid job) (R : Tree → Tree 
         post-bind (walks .call r ps₁ s₁ (next w (a .after)) (a .done)) λ ps₂ s₂ b.
         let x = claimAt proofs l in
         let y = claimAt proofs r in
-        that-bind (eqb (x .rhs) (y .lhs)) _ _ _ _ tt λ h.
-        that-bind (eqb (q .lhs) (x .lhs) && eqb (q .rhs) (y .rhs)) _ _ _ _ tt λ k.
+        that-bind _ _ _ _ _ tt λ h.
+        that-bind _ _ _ _ _ tt λ k.
         post-ok (record {
           after = then prog rows (a .after) (b .after);
           done = b .done;
@@ -243,7 +243,7 @@ module _ {ℓ} (room : Room) (job : Job) (valid : Valid job) (R : Tree → Tree 
     symm-sound p q r ps s w d =
         post-bind (walks .call r ps s w d) λ ps₁ s₁ a.
         let x = claimAt proofs r in
-        that-bind (eqb (q .lhs) (x .rhs) && eqb (q .rhs) (x .lhs)) _ _ _ _ tt λ k.
+        that-bind _ _ _ _ _ tt λ k.
         post-ok (record {
           after = a .after;
           done = a .done;
@@ -260,16 +260,16 @@ module _ {ℓ} (room : Room) (job : Job) (valid : Valid job) (R : Tree → Tree 
         let x = claimAt proofs base in
         let y = claimAt proofs kid in
         or-bind (asApp (getTerm s₂ (x .rhs))) _ _ _ _ tt λ t e.
-        that-bind (ltb i (length (t .args))) _ _ _ _ tt λ h.
-        that-bind (eqb (getD (t .args) i 0) (y .lhs)) _ _ _ _ tt λ k.
+        that-bind _ _ _ _ _ tt λ h.
+        that-bind _ _ _ _ _ tt λ k.
         let w₂ : State s₂ = next (next w (a .after)) (b .after) in
         let v = rep-apply (tree (x .rhs)) s₂ (x .rhs) (t .head) (t .args) (here w₂ (x .rhs) (a .this .claim .rhs)) (app-of (getTerm s₂ (x .rhs)) t e) in
         let c = child-of (v .trees) s₂ (t .args) i (v .reps) (lt-of i (length (t .args)) h) in
         let z = tree (y .rhs) in
         post-bind (add-post (t .head) (replaced (v .trees) i z) (set (t .args) i (y .rhs)) s₂ (b .after .world)
         (reps-set (v .trees) s₂ (t .args) i z (y .rhs) (v .reps) (here w₂ (y .rhs) (b .this .claim .rhs)))) λ u s₃ m.
-        that-bind (eqb (q .rhs) u) _ _ _ _ tt λ j.
-        that-bind (eqb (q .lhs) (x .lhs)) _ _ _ _ tt λ o.
+        that-bind _ _ _ _ _ tt λ j.
+        that-bind _ _ _ _ _ tt λ o.
         let first : R (tree (x .lhs)) (apply (t .head) (v .trees)) = subst (R (tree (x .lhs))) (v .is) (a .this .related) in
         let kid-is : c .tree ≡ tree (y .lhs) = only w₂ (y .lhs) (b .this .claim .lhs) (c .tree) (subst (Rep (c .tree) s₂) (eq-of (getD (t .args) i 0) (y .lhs) k) (c .rep)) in
         let second : R (apply (t .head) (v .trees)) (apply (t .head) (replaced (v .trees) i z)) =
@@ -291,7 +291,7 @@ module _ {ℓ} (room : Room) (job : Job) (valid : Valid job) (R : Tree → Tree 
         let x = claimAt proofs r in
         let w₁ : State s₁ = next w (a .after) in
         post-bind (agree-post (normal-agrees prog rows (tree (x .rhs)) (x .rhs) s₁ (a .after .world) (here w₁ (x .rhs) (a .this .claim .rhs)))) λ t s₂ m.
-        that-bind (eqb (q .lhs) (x .lhs) && eqb (q .rhs) t) _ _ _ _ tt λ k.
+        that-bind _ _ _ _ _ tt λ k.
         let normal-is : treeNormal prog rows (tree (x .rhs)) ≡ tree (q .rhs) =
         Option·some-injective (treeNormal prog rows (tree (x .rhs))) (m .0) (m .1) ∙
         only (next w₁ (m .2 .after)) (q .rhs) (n .rhs) (m .0) (subst (Rep (m .0) s₂) (sym (eq-of _ _ (and-right (eqb (q .lhs) (x .lhs)) _ k))) (m .2 .rep)) in
@@ -307,10 +307,10 @@ module _ {ℓ} (room : Room) (job : Job) (valid : Valid job) (R : Tree → Tree 
         → Post (checkViews room prog p q g a b s) (λ _ s′. After prog rows s s′ × R (tree (q .lhs)) (tree (q .rhs)))
     unfolding checkViews
     views-sound p q n g a b s w X Y rx ry ax ay =
-        that-bind (eqb (a .head) (b .head)) _ _ _ _ tt λ h.
+        that-bind _ _ _ _ _ tt λ h.
         or-bind (last (a .args)) _ _ _ _ tt λ old e.
         or-bind (last (b .args)) _ _ _ _ tt λ new f.
-        that-bind (sameWords (front (a .args)) (front (b .args))) _ _ _ _ tt λ k.
+        that-bind _ _ _ _ _ tt λ k.
         let vx = view-of X s (a .args) old rx e in
         let vy = view-of Y s (b .args) new ry f in
         post-bind (agree-post (merge-agrees prog rows room g old new (vx .value) (vy .value) s (w .after .world) (vx .rep) (vy .rep))) λ v s₁ m.
@@ -318,7 +318,7 @@ module _ {ℓ} (room : Room) (job : Job) (valid : Valid job) (R : Tree → Tree 
         post-bind (add-post (a .head) (snoc (vx .inputs) (m .0 .tree)) (front (a .args) ++ (v .term ∷ [])) s₁ (m .2 .after .world)
         (reps-snoc (vx .inputs) (front (a .args)) (m .0 .tree) (v .term) s₁
         (reps-keeps (vx .inputs) (keeps prog rows (m .2 .after)) (front (a .args)) (vx .reps)) (m .2 .rep))) λ t s₂ o.
-        post-that (among q (same t ∷ v .pairs)) _ _ _ tt λ z.
+        post-that _ _ _ _ tt λ z.
         let inputs-same : vy .inputs ≡ vx .inputs =
         reps-tree (vy .inputs) (vx .inputs) s (front (b .args)) (vy .reps) (subst (Reps (vx .inputs) s) (words-eq (front (a .args)) (front (b .args)) k) (vx .reps)) in
         let other : apply (b .head) Y ≡ apply (a .head) (snoc (vx .inputs) (vy .value)) =
@@ -353,8 +353,8 @@ module _ {ℓ} (room : Room) (job : Job) (valid : Valid job) (R : Tree → Tree 
         post-bind (walks .call new ps₁ s₁ (next w (a .after)) (a .done)) λ ps₂ s₂ b.
         let x = claimAt proofs old in
         let y = claimAt proofs new in
-        that-bind (eqb (x .lhs) (x .rhs)) _ _ _ _ tt λ h.
-        that-bind (eqb (y .lhs) (y .rhs)) _ _ _ _ tt λ k.
+        that-bind _ _ _ _ _ tt λ h.
+        that-bind _ _ _ _ _ tt λ k.
         post-bind (both-sound p q n g (x .rhs) (y .rhs) (asApp (getTerm s₂ (x .rhs))) (asApp (getTerm s₂ (y .rhs))) s₂ (next (next w (a .after)) (b .after))
         (a .this .claim .rhs) (b .this .claim .rhs) refl refl (same-right (a .this .related)) (same-right (b .this .related))) λ _ s₃ m.
         post-ok (record { after = then prog rows (a .after) (then prog rows (b .after) (m .0)); done = b .done; related = m .1 })
@@ -405,7 +405,7 @@ module _ {ℓ} (room : Room) (job : Job) (valid : Valid job) (R : Tree → Tree 
         post-ok (record { after = stay prog rows (w .after .world); bindings = Σ′; hold = done; binds = b; finished = d; normal = λ f m. absurd (List·Memᴰ·not-nil m) })
     premises-sound name (f ∷ fs) [] Σ′ σ qs s w b d = record { holds = tt }
     premises-sound name (f ∷ fs) (p ∷ ps) Σ′ σ qs s w b d =
-        same-bind _ (no-offence name (factOffence prog f) s) λ _ fine.
+        same-bind _ (no-offence name _ s) λ _ fine.
         post-choose (isContainerSideCondition prog f) _ _ _
         (λ h.
         post-bind (agree-post (condition-agrees prog rows room name Σ′ σ f s (w .after .world) b)) λ σ′ s₁ c.
@@ -438,7 +438,7 @@ module _ {ℓ} (room : Room) (job : Job) (valid : Valid job) (R : Tree → Tree 
     unfolding checkRuleProducesEquality
     head-sound q n r i σ b s w m =
         post-bind (agree-post (actions-agree prog rows room (r .name) (r .actions) (treeStart (m .bindings)) (startContext (b .0)) s (m .after .world) (m .binds) covers-none)) λ c s₂ t.
-        post-that (among q (c .pairs)) _ _ _ tt λ z. (
+        post-that _ _ _ _ tt λ z. (
           t .2 .after,
           found (next w (t .2 .after)) q n (t .0 .pairs)
               (closed .rules G made r i (m .normal) (treeBindings terms σ) (m .bindings) (m .hold) (t .0) (t .1))
@@ -451,7 +451,7 @@ module _ {ℓ} (room : Room) (job : Job) (valid : Valid job) (R : Tree → Tree 
     unfolding checkRule
     rule-sound p q n name ps σ inside qs s w d =
         or-bind (ruleOf (prog .rules) name) _ _ _ _ tt λ r e.
-        that-bind (eqb (length (r .facts)) (length ps)) _ _ _ _ tt λ h.
+        that-bind _ _ _ _ _ tt λ h.
         post-bind (premises-sound name (r .facts) ps (treeBindings terms σ ++ G .bindings) (σ ++ ctx .bindings) qs s w
         (binds-append (binds-keeps (keeps prog rows (w .after)) (tree-binds job valid σ inside)) (w .binds)) d) λ b s₁ m.
         post-bind (head-sound q n r (rule-of (prog .rules) name r e) σ b s₁ (next w (m .after)) m) λ _ s₂ t.

@@ -2,20 +2,21 @@
 use Prim.Native.Nat.{ℕ, zero, suc, _+_, _<_, _≤_, min}
 use native.Mathlib.Omega.{arith}
 use native.Mathlib.Nat.{not-suc-le-zero, le-of-suc-le-suc}
+use native.Mathlib.Decide.{decLt}
 use mathlib.Core.Path.{_≡_, refl, sym, ap, subst, _∙_}
 use mathlib.Core.Logic.{_⊎_, inl, inr}
 use mathlib.Core.List.{List, [], _∷_, _++_, map, List·Memᴰ, List·Memᴰ·head, List·Memᴰ·tail, List·Memᴰ·not-nil, List·Memᴰ·cases-cons, Memᴰ·append-left, Memᴰ·append-right, Memᴰ·map}
 use mathlib.Core.Bool.{Bool, true, false, not, _&&_, _||_, true≢false}
 use mathlib.Core.Option.{Option, none, some, Option·none-ne-some, Option·some-injective}
-use lib.ListN.{length, getD, take, drop, length-append, length-take, length-map}
+use lib.ListN.{length, getD, length-append, length-take, length-map, List·getD-eq-default}
 use lib.Dec.{ltb}
-use Rattle.model.specs.Cell.{Cell, tabulate, cellsOf}
+use Rattle.model.specs.Cell.{Cell, noCell, tabulate, cellsOf}
 use Rattle.model.specs.Term.{Term, lit, var, app, sameTerm, getTerm, readTerm}
 use Rattle.model.specs.Program.{Proposition, Binding, Row, Program, Proof, references, substitution, Job}
 use Rattle.model.specs.Layout.{Sizes, sizesOf, cellCount, firstProof, kindsOf, endsOf, poolOf, Tables, part, tablesOf}
-use Rattle.model.specs.Decode.{readRow, readProof, readProgram, readJob, jobOf}
+use Rattle.model.specs.Decode.{readHead, readArguments, readRow, readProof, readProgram, readJob, jobOf}
 use Rattle.model.specs.Check.{Refusal}
-use Rattle.model.specs.Load.{Lent, any, below, termRefers, rowRefers, proofRefers, repeats, failsFrom, fails, firstMarked, firstRefusal, concat, strays, loadTests, loadRefusal}
+use Rattle.model.specs.Load.{Lent, any, below, termRefers, headRefers, exprRefers, rowRefers, proofRefers, repeats, failsFrom, fails, firstMarked, firstRefusal, concat, strays, loadTests, loadRefusal}
 use Rattle.model.specs.Tree.{Tree, leaf, named, apply, Trees, tnil, tcons, treesBy, treeOfTerm, treeIn, treeOf, TreeBinding, treeRows, TreeRow}
 use Rattle.model.specs.Walk.{noProof, claimAt}
 use Rattle.model.proofs.Tests.{lt-of, and-left, and-right, not-false, never, term-same}
@@ -203,7 +204,38 @@ loads-valid ws p lent e =
     (in-strays _ (List·Memᴰ·head refl))
     (in-strays _ (List·Memᴰ·tail (List·Memᴰ·tail (List·Memᴰ·tail (List·Memᴰ·tail (List·Memᴰ·tail (List·Memᴰ·tail (List·Memᴰ·head refl))))))))
     (in-strays _ (List·Memᴰ·tail (List·Memᴰ·tail (List·Memᴰ·tail (List·Memᴰ·tail (List·Memᴰ·tail (List·Memᴰ·tail (List·Memᴰ·tail (List·Memᴰ·tail (List·Memᴰ·tail (List·Memᴰ·head refl)))))))))))
-    (unmarked 9 0 _ (pass tests e _ (List·Memᴰ·tail (List·Memᴰ·tail (List·Memᴰ·tail (List·Memᴰ·tail (List·Memᴰ·tail (List·Memᴰ·tail (List·Memᴰ·tail (List·Memᴰ·head refl)))))))))) 
+    (unmarked 9 0 _ (pass tests e _ (List·Memᴰ·tail (List·Memᴰ·tail (List·Memᴰ·tail (List·Memᴰ·tail (List·Memᴰ·tail (List·Memᴰ·tail (List·Memᴰ·tail (List·Memᴰ·head refl))))))))))
+
+-- an argument of an admitted job's expression has a lower number
+pub expressions-lower : (ws : List ℕ) (p : ℕ) (lent : Lent) → loadRefusal ws p lent ≡ none → (e : ℕ) → Below e (readArguments (getD (tablesOf ws .expressions) e noCell))
+unfolding loadRefusal
+expressions-lower ws p lent h e = go (decLt e (length cells))
+  where
+    cells : List Cell
+    cells = tablesOf ws .expressions
+
+    primitives : ℕ
+    primitives = sizesOf ws .primitives
+
+    fit : Unmarked (failsFrom 0 (exprRefers primitives) cells)
+    fit = unmarked-in (strays (sizesOf ws) (tablesOf ws))
+        (unmarked 7 0 _ (pass (loadTests ws (sizesOf ws) (tablesOf ws) p lent) h _ (List·Memᴰ·tail (List·Memᴰ·tail (List·Memᴰ·tail (List·Memᴰ·tail (List·Memᴰ·tail (List·Memᴰ·head refl))))))))
+        _ (List·Memᴰ·tail (List·Memᴰ·head refl))
+
+    go : Dec (e < length cells) → Below e (readArguments (getD cells e noCell))
+    go (yes l) x m =
+        let t = passes-at 0 (exprRefers primitives) cells fit e noCell l in
+        let k : x < 0 + e = below-of (0 + e) _ (and-right (headRefers primitives (readHead (getD cells e noCell))) _ t) x m in
+        omega arith
+    go (no l) x m = absurd (List·Memᴰ·not-nil (subst (λ (c : Cell). List·Memᴰ x (readArguments c)) (List·getD-eq-default cells noCell {n = e} (omega arith)) m))
+
+-- a reference of a valid job's proof has a lower number
+pub references-lower : (job : Job) → Valid job → (p : ℕ) → Below p (references (getD (job .proofs) p noProof .justification))
+references-lower job valid p = go (decLt p (length (job .proofs)))
+  where
+    go : Dec (p < length (job .proofs)) → Below p (references (getD (job .proofs) p noProof .justification))
+    go (yes l) x m = valid .references p l x m
+    go (no l) x m = absurd (List·Memᴰ·not-nil (subst (λ (q : Proof). List·Memᴰ x (references (q .justification))) (List·getD-eq-default (job .proofs) noProof {n = p} (omega arith)) m))
 
 -- each number of a valid job has its tree
 pub trees-reps : (g : ℕ → Tree) (s : List Term) (xs : List ℕ) → ((x : ℕ) → List·Memᴰ x xs → Rep (g x) s x) → Reps (treesBy g xs) s xs
