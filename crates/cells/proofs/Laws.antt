@@ -1,0 +1,172 @@
+-- Laws of tables: reading a cell, comparing words, looking a cell up.
+use mathlib.Core.Path.{_≡_, refl, sym, ap, _∙_}
+use mathlib.Core.Logic.{⊎-elim}
+use mathlib.Core.Bool.{Bool, true, false, _&&_}
+use mathlib.Core.List.{List, [], _∷_, _++_}
+use Prim.Native.Nat.{ℕ, zero, suc, _+_, _-_, _≤_, _<_}
+use native.Mathlib.Nat.{le-trans, le-of-suc-le-suc, not-suc-le-zero, eq-or-lt-of-le}
+use native.Mathlib.Numerals.{add-one}
+use native.Mathlib.Omega.{arith}
+use lib.Dec.{eqb}
+use borrow.Author.Tests.{eq-eqb, ne-eqb, eqb-true}
+use lib.ListN.{length, getD, take, drop, length-take, length-drop, length-append, drop-of-length-le, List·getD-append}
+use lib.Seq.{drop-cons, getD-at}
+use Rattle.model.specs.Cell.{Cell, noCell, tabulate, startOf, wordsAt, cellAt, cellsOf}
+use Rattle.model.specs.Term.{sameWords}
+use Rattle.cells.specs.Table.{Formed, sameCell, findFrom, findCell}
+use Rattle.cells.specs.declared.Fill.{Fill}
+use Rattle.cells.specs.declared.Found.{Found}
+
+-- tabulated lists
+module _ {A : Type 0} where
+  pub length-tabulate : (n : ℕ) (f : ℕ → A) → length (tabulate n f) ≡ n
+  unfolding tabulate
+  length-tabulate zero f = refl
+  length-tabulate (suc n) f = length-append (tabulate n f) (f n ∷ []) ∙ add-one (length (tabulate n f)) ∙ ap suc (length-tabulate n f)
+
+  pub getD-tabulate : (n : ℕ) (f : ℕ → A) (i : ℕ) (d : A) → i < n → getD (tabulate n f) i d ≡ f i
+  unfolding tabulate
+  getD-tabulate zero f i d h = absurd (not-suc-le-zero h)
+  getD-tabulate (suc n) f i d h =
+      ⊎-elim
+      (λ e. getD-at (tabulate n f) (f n) [] d i (length-tabulate n f ∙ sym e) ∙ ap f (sym e))
+      (λ l. List·getD-append (tabulate n f) (f n ∷ []) d i (rw (length-tabulate n f) l) ∙ getD-tabulate n f i d l)
+      (eq-or-lt-of-le (le-of-suc-le-suc h))
+
+  -- two are equal by their entries
+  pub tabulate-ext : (n : ℕ) (f g : ℕ → A) → ((i : ℕ) → i < n → f i ≡ g i) → tabulate n f ≡ tabulate n g
+  unfolding tabulate
+  tabulate-ext zero f g h = refl
+  tabulate-ext (suc n) f g h = rw (tabulate-ext n f g (λ i l. h i (omega arith)), h n (omega arith))
+
+  pub tabulate-more : (n : ℕ) (f : ℕ → A) → tabulate (n + 1) f ≡ tabulate n f ++ (f n ∷ [])
+  unfolding tabulate
+  tabulate-more n f = rw add-one
+
+pub start-zero : (E : List ℕ) (i : ℕ) → i ≡ 0 → 0 ≡ startOf E i
+unfolding startOf
+start-zero E i e = rw e
+
+pub start-pos : (E : List ℕ) (i : ℕ) → (i ≡ 0 → ⊥) → startOf E i ≡ getD E (i - 1) 0
+unfolding startOf
+start-pos E zero h = absurd (h refl)
+start-pos E (suc i) h = let e : i ≡ suc i - 1 = omega arith in ap (λ (k : ℕ). getD E k 0) e
+
+pub words-length : (E P : List ℕ) (i : ℕ) → startOf E i ≤ getD E i 0 → getD E i 0 ≤ length P → length (wordsAt E P i) ≡ getD E i 0 - startOf E i
+unfolding wordsAt
+words-length E P i h l = simp (length-take, length-drop) (omega arith)
+
+pub cells-length : (K E P : List ℕ) (n : ℕ) → length (cellsOf K E P n) ≡ n
+unfolding cellsOf
+cells-length K E P n = length-tabulate n (cellAt K E P)
+
+pub cell-at : (K E P : List ℕ) (n i : ℕ) → i < n → getD (cellsOf K E P n) i noCell ≡ cellAt K E P i
+unfolding cellsOf
+cell-at K E P n i h = getD-tabulate n (cellAt K E P) i noCell h
+
+-- what a formed table says of cell i
+module _ {K E P : List ℕ} {f : Fill} (F : Formed K E P f) (i : ℕ) (h : i < f .cells) where
+  pub rising : startOf E i ≤ getD E i 0
+  rising = F .rises i h
+
+  pub within : getD E i 0 ≤ length P
+  within = le-trans (F .below i h) (F .pool)
+
+  pub cell-words : getD (cellsOf K E P (f .cells)) i noCell .words ≡ wordsAt E P i
+  cell-words = ap (λ (x : Cell). x .words) (cell-at K E P (f .cells) i h)
+
+-- two runs of words
+pub same-step : (a b : List ℕ) (k : ℕ) → k < length a → k < length b
+    → sameWords (drop k a) (drop k b) ≡ (eqb (getD a k 0) (getD b k 0) && sameWords (drop (k + 1) a) (drop (k + 1) b))
+same-step a b k h l = rw (drop-cons a k 0, drop-cons b k 0, add-one)
+
+pub same-end : (a b : List ℕ) (k : ℕ) → length a ≤ k → length b ≤ k → sameWords (drop k a) (drop k b) ≡ true
+same-end a b k h l = rw (drop-of-length-le a h, drop-of-length-le b l)
+
+and-false : (t : Bool) → (t && false) ≡ false
+and-false true = refl
+and-false false = refl
+
+pub same-length : (a b : List ℕ) → (length a ≡ length b → ⊥) → sameWords a b ≡ false
+same-length [] [] h = absurd (h refl)
+same-length [] (y ∷ b) h = refl
+same-length (x ∷ a) [] h = refl
+same-length (x ∷ a) (y ∷ b) h = ap (λ (t : Bool). eqb x y && t) (same-length a b (λ e. h (ap suc e))) ∙ and-false (eqb x y)
+
+module _ (a b : List ℕ) (k : ℕ) (h : k < length a) (l : k < length b) where
+  pub same-no : (getD a k 0 ≡ getD b k 0 → ⊥) → sameWords (drop k a) (drop k b) ≡ false
+  same-no d = rw (same-step a b k h l, ne-eqb (getD a k 0) (getD b k 0) d)
+
+  pub same-yes : getD a k 0 ≡ getD b k 0 → sameWords (drop k a) (drop k b) ≡ sameWords (drop (k + 1) a) (drop (k + 1) b)
+  same-yes e = rw (same-step a b k h l, eq-eqb (getD a k 0) (getD b k 0) e)
+
+-- looking a cell up
+module _ (cs : List Cell) (c : Cell) (i : ℕ) (h : i < length cs) where
+  pub find-yes : sameCell (getD cs i noCell) c ≡ true → findFrom i (drop i cs) c ≡ Found.At i
+  unfolding findFrom
+  find-yes e = rw (drop-cons cs i noCell h, findFrom, e)
+
+  pub find-no : sameCell (getD cs i noCell) c ≡ false → findFrom i (drop i cs) c ≡ findFrom (i + 1) (drop (i + 1) cs) c
+  unfolding findFrom
+  find-no e = rw (drop-cons cs i noCell h, findFrom, e, add-one)
+
+pub find-end : (cs : List Cell) (c : Cell) (i : ℕ) → length cs ≤ i → findFrom i (drop i cs) c ≡ Found.Nothing
+unfolding findFrom
+find-end cs c i h = rw (drop-of-length-le cs h)
+
+-- a cell of the table against a kind and words
+module _ (K E P : List ℕ) (n i : ℕ) (h : i < n) (k : ℕ) (ws : List ℕ) where
+  pub kind-no : (getD K i 0 ≡ k → ⊥) → sameCell (getD (cellsOf K E P n) i noCell) (record { kind = k; words = ws }) ≡ false
+  kind-no d = rw (cell-at K E P n i h, ne-eqb (getD K i 0) k d)
+
+  pub kind-yes : getD K i 0 ≡ k → sameCell (getD (cellsOf K E P n) i noCell) (record { kind = k; words = ws }) ≡ sameWords (getD (cellsOf K E P n) i noCell .words) ws
+  kind-yes e = rw (cell-at K E P n i h, eq-eqb (getD K i 0) k e)
+
+-- the cells of fewer are the first of more
+pub cells-fewer : (K E P : List ℕ) (m n i : ℕ) → m ≤ n → i < m → getD (cellsOf K E P m) i noCell ≡ getD (cellsOf K E P n) i noCell
+cells-fewer K E P m n i h l = cell-at K E P m i l ∙ sym (cell-at K E P n i (omega arith))
+
+-- the test of equality decides it
+and-both : (t u : Bool) → (t && u) ≡ true → (t ≡ true) × (u ≡ true)
+and-both true u e = (refl, e)
+and-both false u e = let z : false ≡ true = e in (z, cc)
+
+pub same-words-eq : (a b : List ℕ) → sameWords a b ≡ true → a ≡ b
+same-words-eq [] [] e = refl
+same-words-eq [] (y ∷ b) e = cc
+same-words-eq (x ∷ a) [] e = cc
+same-words-eq (x ∷ a) (y ∷ b) e =
+    let h = and-both (eqb x y) (sameWords a b) e in
+    λ i. eqb-true x y (h .0) i ∷ same-words-eq a b (h .1) i
+
+pub same-cell-eq : (a b : Cell) → sameCell a b ≡ true → a ≡ b
+same-cell-eq a b e =
+    let h = and-both (eqb (a .kind) (b .kind)) (sameWords (a .words) (b .words)) e in
+    λ i. record { kind = eqb-true (a .kind) (b .kind) (h .0) i; words = same-words-eq (a .words) (b .words) (h .1) i }
+
+-- a number that was found is below the length, and the cell's own
+Hit : (k : ℕ) (cs : List Cell) (c : Cell) (i : ℕ) → Type 0
+Hit k cs c i = (k ≤ i) × (i < k + length cs) × (getD cs (i - k) noCell ≡ c)
+
+hit : (cs : List Cell) (c : Cell) (k i : ℕ) → findFrom k cs c ≡ Found.At i → Hit k cs c i
+unfolding findFrom Hit
+hit [] c k i e = let z : _≡_ {A = ℕ} 0 1 = cc in absurd (omega arith)
+hit (x ∷ cs) c k i e = go (sameCell x c) refl (λ q. hit cs c (k + 1) i q) e
+  where
+    go : (t : Bool) → sameCell x c ≡ t → (findFrom (k + 1) cs c ≡ Found.At i → Hit (k + 1) cs c i)
+        → elim t [ true ↦ Found.At k | false ↦ findFrom (k + 1) cs c ] ≡ Found.At i → Hit k (x ∷ cs) c i
+    go true s ih q =
+        let r : k ≡ i = cc in
+        let d : i - k ≡ 0 = omega arith in
+        (omega arith, omega arith, rw d (same-cell-eq x c s))
+    go false s ih q =
+        let h = ih q in
+        let d : i - k ≡ suc (i - (k + 1)) = omega arith in
+        (omega arith, omega arith, rw d (h .2))
+
+pub found-at : (cs : List Cell) (c : Cell) (i : ℕ) → findCell cs c ≡ Found.At i → (i < length cs) × (getD cs i noCell ≡ c)
+unfolding Hit
+found-at cs c i e =
+    let h = hit cs c 0 i e in
+    let d : i - 0 ≡ i = omega arith in
+    (omega arith, rw d at (h .2))
