@@ -11,9 +11,8 @@ use lib.Dec.{eqb}
 use borrow.Author.Tests.{eq-eqb, ne-eqb, eqb-true}
 use lib.ListN.{length, getD, take, drop, length-take, length-drop, length-append, drop-of-length-le, List·getD-append}
 use lib.Seq.{drop-cons, getD-at}
-use Rattle.model.specs.Cell.{Cell, noCell, tabulate, startOf, wordsAt, cellAt, cellsOf}
-use Rattle.model.specs.Term.{sameWords}
-use Rattle.cells.specs.Table.{Formed, sameCell, findFrom, findCell}
+use Rattle.model.specs.Cell.{Cell, noCell, sameWords, sameCell, tabulate, startOf, wordsAt, cellAt, cellsOf}
+use Rattle.cells.specs.Table.{Formed, findFrom, findCell}
 use Rattle.cells.specs.declared.Fill.{Fill}
 use Rattle.cells.specs.declared.Found.{Found}
 

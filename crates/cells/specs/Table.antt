@@ -3,10 +3,9 @@ use mathlib.Core.Path.{_≡_}
 use mathlib.Core.Bool.{Bool, true, false, _&&_}
 use mathlib.Core.List.{List, [], _∷_, _++_}
 use Prim.Native.Nat.{ℕ, zero, suc, _+_, _-_, _≤_, _<_, _^_}
-use lib.Dec.{eqb, ltb, leb}
+use lib.Dec.{ltb, leb}
 use lib.ListN.{length, getD, take, drop}
-use Rattle.model.specs.Cell.{Cell, startOf, cellsOf}
-use Rattle.model.specs.Term.{sameWords}
+use Rattle.model.specs.Cell.{Cell, sameCell, startOf, cellsOf}
 use Rattle.cells.specs.declared.Fill.{Fill}
 use Rattle.cells.specs.declared.Found.{Found}
 use Rattle.cells.specs.declared.Added.{Added}
@@ -21,10 +20,6 @@ pub record Formed (K E P : List ℕ) (f : Fill) : Type 0 where
   pub top : startOf E (f .cells) ≡ f .words
   pub rises : (i : ℕ) → i < f .cells → startOf E i ≤ getD E i 0
   pub below : (i : ℕ) → i < f .cells → getD E i 0 ≤ f .words
-
--- Equality of cells, as a test.
-abbrev pub sameCell : Cell → Cell → Bool
-sameCell a b = eqb (a .kind) (b .kind) && sameWords (a .words) (b .words)
 
 -- The first cell that equals c, where the list's first has the number k.
 unfoldable pub findFrom : ℕ → List Cell → Cell → Found

@@ -4,9 +4,8 @@ ghost use mathlib.Core.Bool.{Bool, true, false};
 ghost use mathlib.Core.List.{List};
 ghost use Prim.Native.Nat.{ℕ, _+_, _-_, _≤_, _<_};
 ghost use lib.ListN.{length, getD};
-ghost use Rattle.model.specs.Cell.{Cell, noCell, startOf, cellsOf};
-ghost use Rattle.model.specs.Term.{sameWords};
-ghost use Rattle.cells.specs.Table.{Formed, sameCell, findCell, put, Ran, addCell, appendCell, tableOf};
+ghost use Rattle.model.specs.Cell.{Cell, noCell, sameWords, sameCell, startOf, cellsOf};
+ghost use Rattle.cells.specs.Table.{Formed, findCell, put, Ran, addCell, appendCell, tableOf};
 
 // How much of a table is in use: the number of cells, and of pool words.
 pub struct Fill {

@@ -8,7 +8,8 @@ use mathlib.Core.Bool.{Bool, true, false, _&&_}
 use mathlib.Core.Option.{Option, none, some, Option·none-ne-some, Option·some-injective}
 use lib.ListN.{length}
 use lib.Dec.{eqb}
-use Rattle.model.specs.Term.{Term, lit, var, app, sameWords, getTerm}
+use Rattle.model.specs.Cell.{sameWords}
+use Rattle.model.specs.Term.{Term, lit, var, app, getTerm}
 use Rattle.model.specs.Program.{Head, literal, variable, constructor, custom, primitive, Expr, node, Exprs, nil, cons, Proposition, Binding, Row, Program, Job}
 use Rattle.model.specs.Check.{Outcome, ok, refused, Check, andThen, _>>=_, pure, orRefuse, Room, addNode}
 use Rattle.model.specs.Evaluate.{lookup, primitiveAt, rowValue, validate, validatedBy, children, concatMap, subtermsIn, same, reflexive, Value, Values, valued, headValue, evalExpr, evalExprs, factHeadValue, evalFactExpr, evalFactExprs}

@@ -81,8 +81,7 @@ unfolding loadRefusal
 load-numbered ws p lent = first-numbered {ts = loadTests ws (sizesOf ws) (tablesOf ws) p lent}
     (next (λ _. if-numbered _ 1 tt) (next (λ _. if-numbered _ 2 tt) (next (λ _. if-numbered _ 3 tt) (next (λ _. if-numbered _ 5 tt)
     (next (λ _. marked-numbered 6 0 _ tt) (next (λ _. marked-numbered 7 0 _ tt) (next (λ _. marked-numbered 8 _ _ tt)
-    (next (λ _. marked-numbered 9 0 _ tt) (next (λ _. marked-numbered 9 _ _ tt) (next (λ _. marked-numbered 9 _ _ tt)
-    (next (λ _. if-numbered _ 10 tt) end)))))))))))
+    (next (λ _. marked-numbered 9 0 _ tt) (next (λ _. if-numbered _ 10 tt) end)))))))))
 
 not-zero : (n : ℕ) → Nonzero {0} n → ¬ (n ≡ 0)
 not-zero zero z e = z .lower

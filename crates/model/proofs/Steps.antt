@@ -10,7 +10,8 @@ use mathlib.Core.Bool.{Bool, true, false, _&&_, _||_}
 use mathlib.Core.Option.{Option, none, some, Option·none-ne-some, Option·some-injective}
 use lib.ListN.{length, getD, set, List·getD-eq-default}
 use lib.Dec.{eqb, ltb}
-use Rattle.model.specs.Term.{Term, Literal, lit, var, app, sameWords, getTerm}
+use Rattle.model.specs.Cell.{sameWords}
+use Rattle.model.specs.Term.{Term, Literal, lit, var, app, getTerm}
 use Rattle.model.specs.Program.{Proposition, Binding, Program, Fact, equal, bare, Rule, Proof, Justification, fiat, rule, mergeFn, trans, symm, congr, containerNormalize, eval, substitution, Job}
 use Rattle.model.specs.Check.{Outcome, ok, refused, Check, andThen, pure, Room, addNode}
 use Rattle.model.specs.Evaluate.{same}

@@ -1,11 +1,12 @@
 -- The tests of equality decide equality: on words, literals, terms and trees.
-use Prim.Native.Nat.{ℕ, zero, suc, _<_}
+use Prim.Native.Nat.{ℕ, zero, suc, _<_, _≤_}
 use mathlib.Core.Path.{_≡_, refl, sym, ap, subst, _∙_}
 use mathlib.Core.List.{List, [], _∷_}
 use mathlib.Core.Logic.{_⊎_, inl, inr}
 use mathlib.Core.Bool.{Bool, true, false, not, _&&_, _||_, true≢false}
-use lib.Dec.{eqb, eqb→eq, eqb-refl, ltb, ltb→lt, T}
-use Rattle.model.specs.Term.{Term, Literal, lit, var, app, sameWords, sameLiteral, sameTerm}
+use lib.Dec.{eqb, eqb→eq, eqb-refl, leb, leb→le, ltb, ltb→lt, T}
+use Rattle.model.specs.Cell.{sameWords}
+use Rattle.model.specs.Term.{Term, Literal, lit, var, app, sameLiteral, sameTerm}
 use Rattle.model.specs.Tree.{Tree, leaf, named, apply, Trees, tnil, tcons, sameTree, sameTrees}
 
 pub or-cases : (a b : Bool) → (a || b) ≡ true → (a ≡ true) ⊎ (b ≡ true)
@@ -36,6 +37,9 @@ eq-of m n e = eqb→eq m n (so e)
 
 pub lt-of : (m n : ℕ) → ltb m n ≡ true → m < n
 lt-of m n e = ltb→lt m n (so e)
+
+pub le-of : (m n : ℕ) → leb m n ≡ true → m ≤ n
+le-of m n e = leb→le m n (so e)
 
 pub eqb-same : (n : ℕ) → eqb n n ≡ true
 eqb-same n = os (eqb n n) (eqb-refl n)

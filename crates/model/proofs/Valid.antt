@@ -8,18 +8,18 @@ use mathlib.Core.Logic.{_⊎_, inl, inr}
 use mathlib.Core.List.{List, [], _∷_, _++_, map, List·Memᴰ, List·Memᴰ·head, List·Memᴰ·tail, List·Memᴰ·not-nil, List·Memᴰ·cases-cons, Memᴰ·append-left, Memᴰ·append-right, Memᴰ·map}
 use mathlib.Core.Bool.{Bool, true, false, not, _&&_, _||_, true≢false}
 use mathlib.Core.Option.{Option, none, some, Option·none-ne-some, Option·some-injective}
-use lib.ListN.{length, getD, length-append, length-take, length-map, List·getD-eq-default}
-use lib.Dec.{ltb}
-use Rattle.model.specs.Cell.{Cell, noCell, tabulate, cellsOf}
-use Rattle.model.specs.Term.{Term, lit, var, app, sameTerm, getTerm, readTerm}
+use lib.ListN.{length, getD, take, drop, length-append, length-take, length-map, List·getD-eq-default}
+use lib.Dec.{eqb, leb, ltb, lit<}
+use Rattle.model.specs.Cell.{Cell, noCell, sameCell, tabulate, cellsOf}
+use Rattle.model.specs.Term.{Term, lit, var, app, getTerm, termWords, cellOf, readLiteral, readTerm}
 use Rattle.model.specs.Program.{Proposition, Binding, Row, Program, Proof, references, substitution, Job}
-use Rattle.model.specs.Layout.{Sizes, sizesOf, cellCount, firstProof, kindsOf, endsOf, poolOf, Tables, part, tablesOf}
+use Rattle.model.specs.Layout.{Sizes, sizesOf, cellCount, firstProof, kindsOf, endsOf, poolOf, Tables, part, tableList, tablesOf}
 use Rattle.model.specs.Decode.{readHead, readArguments, readRow, readProof, readProgram, readJob, jobOf}
 use Rattle.model.specs.Check.{Refusal}
-use Rattle.model.specs.Load.{Lent, any, below, termRefers, headRefers, exprRefers, rowRefers, proofRefers, repeats, failsFrom, fails, firstMarked, firstRefusal, concat, strays, loadTests, loadRefusal}
+use Rattle.model.specs.Load.{Lent, any, between, termFits, below, termRefers, headRefers, exprRefers, rowRefers, proofRefers, isFirst, failsFrom, marks, passed, fitTests, referTests, validTests, onceTests, firstMarked, firstRefusal, firstFailing, loadTests, loadRefusal}
 use Rattle.model.specs.Tree.{Tree, leaf, named, apply, Trees, tnil, tcons, treesBy, treeOfTerm, treeIn, treeOf, TreeBinding, treeRows, TreeRow}
 use Rattle.model.specs.Walk.{noProof, claimAt}
-use Rattle.model.proofs.Tests.{lt-of, and-left, and-right, not-false, never, term-same}
+use Rattle.model.proofs.Tests.{eq-of, eqb-same, lt-of, le-of, and-left, and-right, not-false, never, words-same}
 use Rattle.model.proofs.Represent.{Rep, Reps, Distinct}
 use Rattle.model.proofs.Store.{Below, Ordered, get-below}
 use Rattle.model.proofs.Evaluation.{Binds, bnil, bcons, Table, rnil, rcons, World}
@@ -53,27 +53,44 @@ unmarked-head m ms u = u m (List·Memᴰ·head refl)
 unmarked-tail : (m : Bool) (ms : List Bool) → Unmarked (m ∷ ms) → Unmarked ms
 unmarked-tail m ms u b k = u b (List·Memᴰ·tail k)
 
-unmarked-left : (ms ns : List Bool) → Unmarked (ms ++ ns) → Unmarked ms
-unmarked-left ms ns u b k = u b (Memᴰ·append-left ns k)
+-- each table's test passes at each place
+marked-table : (fs : List (ℕ → Cell → Bool)) (ts : List (List Cell)) → Unmarked (marks fs ts) → (k : ℕ) → k < length fs → k < length ts
+    → Unmarked (failsFrom 0 (getD fs k passed) (getD ts k []))
+marked-table [] ts u k h l = absurd (not-suc-le-zero h)
+marked-table (f ∷ fs) [] u k h l = absurd (not-suc-le-zero l)
+marked-table (f ∷ fs) (t ∷ ts) u zero h l = λ b m. u b (Memᴰ·append-left (marks fs ts) m)
+marked-table (f ∷ fs) (t ∷ ts) u (suc k) h l = marked-table fs ts (λ b m. u b (Memᴰ·append-right (failsFrom 0 f t) m)) k (le-of-suc-le-suc h) (le-of-suc-le-suc l)
 
-unmarked-right : (ms ns : List Bool) → Unmarked (ms ++ ns) → Unmarked ns
-unmarked-right ms ns u b k = u b (Memᴰ·append-right ms k)
+passes-at : (i : ℕ) (f : ℕ → Cell → Bool) (cs : List Cell) → Unmarked (failsFrom i f cs) → (k : ℕ) → k < length cs → f (i + k) (getD cs k noCell) ≡ true
+passes-at i f [] u k h = absurd (not-suc-le-zero h)
+passes-at i f (c ∷ cs) u zero h = subst (λ (j : ℕ). f j c ≡ true) (omega arith) (not-false (f i c) (unmarked-head _ _ u))
+passes-at i f (c ∷ cs) u (suc k) h =
+    subst (λ (j : ℕ). f j (getD cs k noCell) ≡ true) (omega arith) (passes-at (suc i) f cs (unmarked-tail (not (f i c)) _ u) k (le-of-suc-le-suc h))
 
--- the test passes at each place, and at each member
-module _ {A : Type 0} where
-  passes-at : (i : ℕ) (f : ℕ → A → Bool) (xs : List A) → Unmarked (failsFrom i f xs) → (k : ℕ) (d : A) → k < length xs → f (i + k) (getD xs k d) ≡ true
-  passes-at i f [] u k d h = absurd (not-suc-le-zero h)
-  passes-at i f (x ∷ xs) u zero d h = subst (λ (j : ℕ). f j x ≡ true) (omega arith) (not-false (f i x) (unmarked-head _ _ u))
-  passes-at i f (x ∷ xs) u (suc k) d h =
-      subst (λ (j : ℕ). f j (getD xs k d) ≡ true) (omega arith) (passes-at (suc i) f xs (unmarked-tail (not (f i x)) _ u) k d (le-of-suc-le-suc h))
+passes : (f : ℕ → Cell → Bool) (cs : List Cell) → Unmarked (failsFrom 0 f cs) → (k : ℕ) → k < length cs → f k (getD cs k noCell) ≡ true
+passes f cs u k h = subst (λ (j : ℕ). f j (getD cs k noCell) ≡ true) (omega arith) (passes-at 0 f cs u k h)
 
-  passes : (i : ℕ) (f : A → Bool) (xs : List A) → Unmarked (failsFrom i (λ _. f) xs) → (x : A) → List·Memᴰ x xs → f x ≡ true
-  passes i f [] u x m = absurd (List·Memᴰ·not-nil m)
-  passes i f (y ∷ ys) u x m = go (List·Memᴰ·cases-cons m) (passes (suc i) f ys (unmarked-tail (not (f y)) _ u) x)
+-- a place of what was read is a place of the cells
+module _ {A : Type 0} (read : Cell → A) where
+  read-at : (cs : List Cell) (d : A) (k : ℕ) → k < length cs → getD (map read cs) k d ≡ read (getD cs k noCell)
+  read-at [] d k h = absurd (not-suc-le-zero h)
+  read-at (c ∷ cs) d zero h = refl
+  read-at (c ∷ cs) d (suc k) h = read-at cs d k (le-of-suc-le-suc h)
+
+  member-at : (cs : List Cell) (a : A) → List·Memᴰ a (map read cs) → (k : ℕ) × (k < length cs) × (read (getD cs k noCell) ≡ a)
+  member-at [] a m = absurd (List·Memᴰ·not-nil m)
+  member-at (c ∷ cs) a m = go (List·Memᴰ·cases-cons m) (member-at cs a)
     where
-      go : (x ≡ y) ⊎ List·Memᴰ x ys → (List·Memᴰ x ys → f x ≡ true) → f x ≡ true
-      go (inl e) k = rw e (not-false (f y) (unmarked-head _ _ u))
-      go (inr n) k = k n
+      go : (a ≡ read c) ⊎ List·Memᴰ a (map read cs) → (List·Memᴰ a (map read cs) → (k : ℕ) × (k < length cs) × (read (getD cs k noCell) ≡ a))
+          → (k : ℕ) × (k < length (c ∷ cs)) × (read (getD (c ∷ cs) k noCell) ≡ a)
+      go (inl e) r = (zero, omega arith, sym e)
+      go (inr n) r = let k = r n in (suc (k .0), omega (arith, k .1), k .2)
+
+term-at : (cs : List Cell) (n : ℕ) (t : Term) → getTerm (map readTerm cs) n ≡ some t → (n < length cs) × (readTerm (getD cs n noCell) ≡ t)
+unfolding getTerm
+term-at [] n t e = absurd (Option·none-ne-some t e)
+term-at (c ∷ cs) zero t e = (omega arith, Option·some-injective (readTerm c) t e)
+term-at (c ∷ cs) (suc n) t e = let h = term-at cs n t e in (omega (arith, h .0), h .1)
 
 below-of : (n : ℕ) (xs : List ℕ) → below n xs ≡ true → Below n xs
 below-of n [] e x m = absurd (List·Memᴰ·not-nil m)
@@ -83,47 +100,70 @@ below-of n (y ∷ ys) e x m = go (List·Memᴰ·cases-cons m) (below-of n ys (an
     go (inl h) k = rw h (lt-of y n (and-left _ _ e))
     go (inr m) k = k x m
 
-ordered-of : (i : ℕ) (s : List Term) → Unmarked (failsFrom i termRefers s) → (n f : ℕ) (xs : List ℕ) → getTerm s n ≡ some (app f xs) → Below (i + n) xs
-unfolding getTerm
-ordered-of i [] u n f xs g x m = absurd (Option·none-ne-some (app f xs) g)
-ordered-of i (t ∷ s) u zero f xs g x m =
-    let h : below i xs ≡ true = subst (λ (v : Term). termRefers i v ≡ true) (Option·some-injective t (app f xs) g) (not-false (termRefers i t) (unmarked-head _ _ u)) in
-    let k : x < i = below-of i xs h x m in
-    omega arith
-ordered-of i (t ∷ s) u (suc n) f xs g x m =
-    let k : x < suc i + n = ordered-of (suc i) s (unmarked-tail (not (termRefers i t)) _ u) n f xs g x m in
-    omega arith
+-- a cell that fits is its term's cell
+module _ (ws : List ℕ) where
+  three : (us : List ℕ) → eqb (length us) 3 ≡ true → us ≡ termWords (lit (readLiteral us))
+  three [] e = never e
+  three (a ∷ []) e = never e
+  three (a ∷ b ∷ []) e = never e
+  three (a ∷ b ∷ d ∷ []) e = refl
+  three (a ∷ b ∷ d ∷ x ∷ us) e = absurd (let h = eq-of (length (a ∷ b ∷ d ∷ x ∷ us)) 3 e in omega arith)
 
-any-member : (t : Term) (seen : List Term) → List·Memᴰ t seen → any (sameTerm t) seen ≡ true
-any-member t [] m = absurd (List·Memᴰ·not-nil m)
-any-member t (u ∷ us) m = go (List·Memᴰ·cases-cons m) (any-member t us)
+  one : (us : List ℕ) → between 1 1 (record { kind = 1; words = us }) ≡ true → us ≡ getD us 0 0 ∷ []
+  one [] e = never e
+  one (a ∷ []) e = refl
+  one (a ∷ b ∷ us) e = absurd (let h = le-of (length (a ∷ b ∷ us)) 1 (and-right (leb 1 (length (a ∷ b ∷ us))) _ e) in omega arith)
+
+  some-words : (us : List ℕ) → between 1 17 (record { kind = 2; words = us }) ≡ true → us ≡ getD us 0 0 ∷ drop 1 us
+  some-words [] e = never e
+  some-words (a ∷ us) e = refl
+
+pub term-cell : (c : Cell) → termFits c ≡ true → c ≡ cellOf (readTerm c)
+unfolding readTerm
+term-cell c e = go (c .kind) (c .words) e
   where
-    go : (t ≡ u) ⊎ List·Memᴰ t us → (List·Memᴰ t us → any (sameTerm t) us ≡ true) → (sameTerm t u || any (sameTerm t) us) ≡ true
-    go (inl e) k = rw (subst (λ (x : Term). sameTerm t x ≡ true) e (term-same t))
-    go (inr n) k = either (sameTerm t u) (k n)
-      where
-        either : (a : Bool) → any (sameTerm t) us ≡ true → (a || any (sameTerm t) us) ≡ true
-        either true h = refl
-        either false h = h
+    go : (k : ℕ) (ws : List ℕ) → termFits (record { kind = k; words = ws }) ≡ true → record { kind = k; words = ws } ≡ cellOf (readTerm (record { kind = k; words = ws }))
+    go zero ws e = ap (λ (us : List ℕ). record { kind = 0; words = us }) (three ws ws (and-left _ _ e))
+    go (suc zero) ws e = ap (λ (us : List ℕ). record { kind = 1; words = us }) (one ws ws e)
+    go (suc (suc zero)) ws e = ap (λ (us : List ℕ). record { kind = 2; words = us }) (some-words ws ws e)
+    go (suc (suc (suc k))) ws e = never e
 
--- no term repeats one seen before
-seen-once : (seen s : List Term) → Unmarked (repeats sameTerm seen s) → (t : Term) → List·Memᴰ t seen → (n : ℕ) → getTerm s n ≡ some t → ⊥
-unfolding getTerm
-seen-once seen [] u t m n e = absurd (Option·none-ne-some t e)
-seen-once seen (x ∷ s) u t m zero e =
-    let h : any (sameTerm x) seen ≡ true = subst (λ (y : Term). any (sameTerm y) seen ≡ true) (sym (Option·some-injective x t e)) (any-member t seen m) in
-    true≢false (sym h ∙ unmarked-head _ _ u)
-seen-once seen (x ∷ s) u t m (suc n) e = seen-once (x ∷ seen) s (unmarked-tail (any (sameTerm x) seen) _ u) t (List·Memᴰ·tail m) n e
+cell-same : (c : Cell) → sameCell c c ≡ true
+cell-same c = rw (eqb-same (c .kind)) (words-same (c .words))
 
-distinct-of : (seen s : List Term) → Unmarked (repeats sameTerm seen s) → (m n : ℕ) (t : Term) → getTerm s m ≡ some t → getTerm s n ≡ some t → m ≡ n
-unfolding getTerm
-distinct-of seen [] u m n t a b = absurd (Option·none-ne-some t a)
-distinct-of seen (x ∷ s) u zero zero t a b = refl
-distinct-of seen (x ∷ s) u zero (suc n) t a b =
-    absurd (seen-once (x ∷ seen) s (unmarked-tail (any (sameTerm x) seen) _ u) t (List·Memᴰ·head (sym (Option·some-injective x t a))) n b)
-distinct-of seen (x ∷ s) u (suc m) zero t a b =
-    absurd (seen-once (x ∷ seen) s (unmarked-tail (any (sameTerm x) seen) _ u) t (List·Memᴰ·head (sym (Option·some-injective x t b))) m a)
-distinct-of seen (x ∷ s) u (suc m) (suc n) t a b = ap suc (distinct-of (x ∷ seen) s (unmarked-tail (any (sameTerm x) seen) _ u) m n t a b)
+any-take : (f : Cell → Bool) (cs : List Cell) (m n : ℕ) → m < n → m < length cs → f (getD cs m noCell) ≡ true → any f (take n cs) ≡ true
+any-take f [] m n h l e = absurd (not-suc-le-zero l)
+any-take f (c ∷ cs) m zero h l e = absurd (not-suc-le-zero h)
+any-take f (c ∷ cs) zero (suc n) h l e = rw e
+any-take f (c ∷ cs) (suc m) (suc n) h l e = either (f c) (any-take f cs m n (le-of-suc-le-suc h) (le-of-suc-le-suc l) e)
+  where
+    either : (a : Bool) → any f (take n cs) ≡ true → (a || any f (take n cs)) ≡ true
+    either true k = refl
+    either false k = k
+
+-- no term's cell is that of one before it
+once-of : (cs : List Cell) → ((k : ℕ) → k < length cs → termFits (getD cs k noCell) ≡ true) → ((k : ℕ) → k < length cs → isFirst sameCell cs k (getD cs k noCell) ≡ true)
+    → (m n : ℕ) (t : Term) → m < n → m < length cs → n < length cs → readTerm (getD cs m noCell) ≡ t → readTerm (getD cs n noCell) ≡ t → ⊥
+once-of cs fit first m n t h l k a b =
+    let same : getD cs m noCell ≡ getD cs n noCell = term-cell (getD cs m noCell) (fit m l) ∙ ap cellOf (a ∙ sym b) ∙ sym (term-cell (getD cs n noCell) (fit n k)) in
+    let seen : any (λ e. sameCell e (getD cs n noCell)) (take n cs) ≡ true =
+    any-take (λ e. sameCell e (getD cs n noCell)) cs m n h l (subst (λ (c : Cell). sameCell c (getD cs n noCell) ≡ true) (sym same) (cell-same (getD cs n noCell))) in
+    true≢false (sym (first n k) ∙ ap not seen)
+
+distinct-of : (cs : List Cell) → ((k : ℕ) → k < length cs → termFits (getD cs k noCell) ≡ true) → ((k : ℕ) → k < length cs → isFirst sameCell cs k (getD cs k noCell) ≡ true)
+    → (m n : ℕ) (t : Term) → getTerm (map readTerm cs) m ≡ some t → getTerm (map readTerm cs) n ≡ some t → m ≡ n
+distinct-of cs fit first m n t a b = go (decLt m n) (decLt n m) (term-at cs m t a) (term-at cs n t b)
+  where
+    go : Dec (m < n) → Dec (n < m) → (m < length cs) × (readTerm (getD cs m noCell) ≡ t) → (n < length cs) × (readTerm (getD cs n noCell) ≡ t) → m ≡ n
+    go (yes h) q x y = absurd (once-of cs fit first m n t h (x .0) (y .0) (x .1) (y .1))
+    go (no h) (yes k) x y = absurd (once-of cs fit first n m t k (y .0) (x .0) (y .1) (x .1))
+    go (no h) (no k) x y = omega arith
+
+ordered-of : (cs : List Cell) → ((k : ℕ) → k < length cs → termRefers k (readTerm (getD cs k noCell)) ≡ true)
+    → (n f : ℕ) (xs : List ℕ) → getTerm (map readTerm cs) n ≡ some (app f xs) → Below n xs
+ordered-of cs refers n f xs g =
+    let t = term-at cs n (app f xs) g in
+    below-of n xs (subst (λ (u : Term). termRefers n u ≡ true) (t .1) (refers n (t .0)))
 
 module _ {A : Type 0} where
   pub length-tabulate : (n : ℕ) (f : ℕ → A) → length (tabulate n f) ≡ n
@@ -132,13 +172,13 @@ module _ {A : Type 0} where
   length-tabulate (suc n) f = let h = length-tabulate n f in length-append (tabulate n f) (f n ∷ []) ∙ omega arith
 
 -- a job has as many terms as its size says
-terms-length : (ws : List ℕ) → sizesOf ws .terms ≤ length (jobOf ws .terms)
-unfolding readJob tablesOf cellsOf
+terms-length : (ws : List ℕ) → sizesOf ws .terms ≤ length (tablesOf ws .terms)
+unfolding tablesOf cellsOf
 terms-length ws =
     let z = sizesOf ws in
     let cells = cellsOf (kindsOf ws) (endsOf ws) (poolOf ws) (cellCount z) in
     let n : length cells ≡ cellCount z = length-tabulate (cellCount z) _ in
-    let m : length (map readTerm (part cells 0 (z .terms))) ≡ min (z .terms) (length cells) = length-map (part cells 0 (z .terms)) readTerm ∙ length-take (z .terms) cells in
+    let m : length (part cells 0 (z .terms)) ≡ min (z .terms) (length cells) = length-take (z .terms) cells in
     omega arith
 
 -- no test refuses
@@ -152,82 +192,95 @@ pass (u ∷ us) e t m = go (u tt) refl e (List·Memᴰ·cases-cons m) (λ h. pas
     go none h e (inr n) k = k e n
     go (some r) h e i k = absurd (Option·none-ne-some r (sym e))
 
-unmarked-in : (mss : List (List Bool)) → Unmarked (concat mss) → (ms : List Bool) → List·Memᴰ ms mss → Unmarked ms
-unmarked-in [] u ms i m k = absurd (List·Memᴰ·not-nil i)
-unmarked-in (ns ∷ nss) u ms i m k = go (List·Memᴰ·cases-cons i) (λ j. unmarked-in nss (λ b h. u b (Memᴰ·append-right ns h)) ms j m k)
-  where
-    go : (ms ≡ ns) ⊎ List·Memᴰ ms nss → (List·Memᴰ ms nss → m ≡ false) → m ≡ false
-    go (inl e) r = u m (Memᴰ·append-left (concat nss) (subst (List·Memᴰ m) e k))
-    go (inr j) r = r j
+-- what an admitted job's tables pass
+pub record Admitted (z : Sizes) (t : Tables) : Type 0 where
+  pub fits : (k : ℕ) → k < 10 → (i : ℕ) → i < length (getD (tableList t) k []) → getD (fitTests t) k passed i (getD (getD (tableList t) k []) i noCell) ≡ true
+  pub refers : (k : ℕ) → k < 10 → (i : ℕ) → i < length (getD (tableList t) k []) → getD (referTests z) k passed i (getD (getD (tableList t) k []) i noCell) ≡ true
+  pub validated : (k : ℕ) → k < 10 → (i : ℕ) → i < length (getD (tableList t) k []) → getD (validTests t) k passed i (getD (getD (tableList t) k []) i noCell) ≡ true
+  pub once : (k : ℕ) → k < 10 → (i : ℕ) → i < length (getD (tableList t) k []) → getD (onceTests t) k passed i (getD (getD (tableList t) k []) i noCell) ≡ true
 
--- the tests that leave no reference astray and no term twice
-valid-of : (job : Job) (primitives terms : ℕ) → terms ≤ length (job .terms)
-    → Unmarked (failsFrom 0 termRefers (job .terms)) → Unmarked (fails (rowRefers primitives terms) (job .program .rows))
-    → Unmarked (failsFrom 0 (proofRefers terms) (job .proofs)) → Unmarked (repeats sameTerm [] (job .terms)) → Valid job
-valid-of job primitives terms size t r q once = record {
-  ordered = record { lower = λ n f xs g x m. let k : x < 0 + n = ordered-of 0 (job .terms) t n f xs g x m in omega arith };
-  distinct = record { one = distinct-of [] (job .terms) once };
-  rows = λ x m.
-      let h = passes 0 (rowRefers primitives terms) (job .program .rows) r x m in
-      let k = and-left (ltb (x .primitive) primitives && ltb (x .result) terms) _ h in
-      let l : x .result < terms = lt-of (x .result) terms (and-right (ltb (x .primitive) primitives) _ k) in
-      (omega arith, λ y n. let j : y < terms = below-of terms (x .arguments) (and-right (ltb (x .primitive) primitives && ltb (x .result) terms) _ h) y n in omega arith);
-  claims = λ p h.
-      let c = proof-at p h in
-      let l : claimAt (job .proofs) p .lhs < terms = lt-of _ terms (and-left _ (ltb (claimAt (job .proofs) p .rhs) terms) (front p c)) in
-      let k : claimAt (job .proofs) p .rhs < terms = lt-of _ terms (and-right (ltb (claimAt (job .proofs) p .lhs) terms) _ (front p c)) in
-      (omega arith, omega arith);
-  substitutions = λ p h b m.
-      let l : b .term < terms = below-of terms _ (and-right (ltb (claimAt (job .proofs) p .lhs) terms && ltb (claimAt (job .proofs) p .rhs) terms && below p (references (getD (job .proofs) p noProof .justification))) _ (proof-at p h))
-      (b .term) (Memᴰ·map (λ (c : Binding). c .term) m) in
-      omega arith;
-  references = λ p h. below-of p (references (getD (job .proofs) p noProof .justification))
-      (and-right (ltb (claimAt (job .proofs) p .lhs) terms && ltb (claimAt (job .proofs) p .rhs) terms) _
-      (and-left (ltb (claimAt (job .proofs) p .lhs) terms && ltb (claimAt (job .proofs) p .rhs) terms && below p (references (getD (job .proofs) p noProof .justification))) _ (proof-at p h)));
+pub loads-admitted : (ws : List ℕ) (p : ℕ) (lent : Lent) → loadRefusal ws p lent ≡ none → Admitted (sizesOf ws) (tablesOf ws)
+unfolding loadRefusal
+loads-admitted ws p lent e = record {
+  fits = λ k h i l. table 6 (fitTests t) k h refl i l (pass tests e _ (List·Memᴰ·tail (List·Memᴰ·tail (List·Memᴰ·tail (List·Memᴰ·tail (List·Memᴰ·head refl))))));
+  refers = λ k h i l. table 7 (referTests z) k h refl i l (pass tests e _ (List·Memᴰ·tail (List·Memᴰ·tail (List·Memᴰ·tail (List·Memᴰ·tail (List·Memᴰ·tail (List·Memᴰ·head refl)))))));
+  validated = λ k h i l. table 8 (validTests t) k h refl i l (pass tests e _ (List·Memᴰ·tail (List·Memᴰ·tail (List·Memᴰ·tail (List·Memᴰ·tail (List·Memᴰ·tail (List·Memᴰ·tail (List·Memᴰ·head refl))))))));
+  once = λ k h i l. table 9 (onceTests t) k h refl i l (pass tests e _ (List·Memᴰ·tail (List·Memᴰ·tail (List·Memᴰ·tail (List·Memᴰ·tail (List·Memᴰ·tail (List·Memᴰ·tail (List·Memᴰ·tail (List·Memᴰ·head refl)))))))));
 }
   where
-    proof-at : (p : ℕ) → p < length (job .proofs) → proofRefers terms p (getD (job .proofs) p noProof) ≡ true
-    proof-at p h = subst (λ (n : ℕ). proofRefers terms n (getD (job .proofs) p noProof) ≡ true) (omega arith) (passes-at 0 (proofRefers terms) (job .proofs) q p noProof h)
+    z : Sizes
+    z = sizesOf ws
 
-    front : (p : ℕ) → proofRefers terms p (getD (job .proofs) p noProof) ≡ true → (ltb (claimAt (job .proofs) p .lhs) terms && ltb (claimAt (job .proofs) p .rhs) terms) ≡ true
-    front p e = and-left _ (below p (references (getD (job .proofs) p noProof .justification)))
-        (and-left _ (below terms (map (λ b. b .term) (substitution (getD (job .proofs) p noProof .justification)))) e)
+    t : Tables
+    t = tablesOf ws
 
--- an admitted job is valid: the sixth test is 7, the eighth 9 of the terms
+    tests : List (Unit {0} → Option Refusal)
+    tests = loadTests ws (sizesOf ws) (tablesOf ws) p lent
+
+    table : (n : ℕ) (fs : List (ℕ → Cell → Bool)) (k : ℕ) → k < 10 → length fs ≡ 10 → (i : ℕ) → i < length (getD (tableList t) k []) → firstFailing n fs t ≡ none
+        → getD fs k passed i (getD (getD (tableList t) k []) i noCell) ≡ true
+    table n fs k h l i m q = passes (getD fs k passed) (getD (tableList t) k []) (marked-table fs (tableList t) (unmarked n 0 _ q) k (omega arith) h) i m
+
+-- an admitted job is valid
+admitted-valid : (z : Sizes) (t : Tables) → z .terms ≤ length (t .terms) → Admitted z t → Valid (readJob z t)
+unfolding readJob readProgram
+admitted-valid z t size a = record {
+  ordered = record { lower = ordered-of (t .terms) (a .refers 0 (lit< tt)) };
+  distinct = record { one = distinct-of (t .terms) (a .fits 0 (lit< tt)) (a .once 0 (lit< tt)) };
+  rows = λ r m.
+      let k = member-at readRow (t .rows) r m in
+      row r (subst (λ (x : Row). rowRefers (z .primitives) (z .terms) x ≡ true) (k .2) (a .refers 6 (lit< tt) (k .0) (k .1)));
+  claims = λ p h. claims p (inside p h);
+  substitutions = λ p h b m. bound p (inside p h) b m;
+  references = λ p h. below-of p (references (getD (map readProof (t .proofs)) p noProof .justification))
+      (and-right (ltb (claimAt (map readProof (t .proofs)) p .lhs) (z .terms) && ltb (claimAt (map readProof (t .proofs)) p .rhs) (z .terms)) _
+      (and-left (ltb (claimAt (map readProof (t .proofs)) p .lhs) (z .terms) && ltb (claimAt (map readProof (t .proofs)) p .rhs) (z .terms) && below p (references (getD (map readProof (t .proofs)) p noProof .justification))) _ (proof-at p (inside p h))));
+}
+  where
+    terms : length (map readTerm (t .terms)) ≡ length (t .terms)
+    terms = length-map (t .terms) readTerm
+
+    inside : (p : ℕ) → p < length (map readProof (t .proofs)) → p < length (t .proofs)
+    inside p h = omega (arith, length-map (t .proofs) readProof)
+
+    row : (r : Row) → rowRefers (z .primitives) (z .terms) r ≡ true → (r .result < length (map readTerm (t .terms))) × Below (length (map readTerm (t .terms))) (r .arguments)
+    row r h =
+        let k = and-left (ltb (r .primitive) (z .primitives) && ltb (r .result) (z .terms)) _ h in
+        let l : r .result < z .terms = lt-of (r .result) (z .terms) (and-right (ltb (r .primitive) (z .primitives)) _ k) in
+        (omega (arith, terms), λ y n. let j : y < z .terms = below-of (z .terms) (r .arguments) (and-right (ltb (r .primitive) (z .primitives) && ltb (r .result) (z .terms)) _ h) y n in omega (arith, terms))
+
+    proof-at : (p : ℕ) → p < length (t .proofs) → proofRefers (z .terms) p (getD (map readProof (t .proofs)) p noProof) ≡ true
+    proof-at p h = subst (λ (q : Proof). proofRefers (z .terms) p q ≡ true) (sym (read-at readProof (t .proofs) noProof p h)) (a .refers 9 (lit< tt) p h)
+
+    front : (p : ℕ) → proofRefers (z .terms) p (getD (map readProof (t .proofs)) p noProof) ≡ true
+        → (ltb (claimAt (map readProof (t .proofs)) p .lhs) (z .terms) && ltb (claimAt (map readProof (t .proofs)) p .rhs) (z .terms)) ≡ true
+    front p e = and-left _ (below p (references (getD (map readProof (t .proofs)) p noProof .justification)))
+        (and-left _ (below (z .terms) (map (λ b. b .term) (substitution (getD (map readProof (t .proofs)) p noProof .justification)))) e)
+
+    claims : (p : ℕ) → p < length (t .proofs)
+        → (claimAt (map readProof (t .proofs)) p .lhs < length (map readTerm (t .terms))) × (claimAt (map readProof (t .proofs)) p .rhs < length (map readTerm (t .terms)))
+    claims p h =
+        let c = proof-at p h in
+        let l : claimAt (map readProof (t .proofs)) p .lhs < z .terms = lt-of _ (z .terms) (and-left _ (ltb (claimAt (map readProof (t .proofs)) p .rhs) (z .terms)) (front p c)) in
+        let k : claimAt (map readProof (t .proofs)) p .rhs < z .terms = lt-of _ (z .terms) (and-right (ltb (claimAt (map readProof (t .proofs)) p .lhs) (z .terms)) _ (front p c)) in
+        (omega (arith, terms), omega (arith, terms))
+
+    bound : (p : ℕ) → p < length (t .proofs) → (b : Binding) → List·Memᴰ b (substitution (getD (map readProof (t .proofs)) p noProof .justification)) → b .term < length (map readTerm (t .terms))
+    bound p h b m =
+        let l : b .term < z .terms = below-of (z .terms) _ (and-right (ltb (claimAt (map readProof (t .proofs)) p .lhs) (z .terms) && ltb (claimAt (map readProof (t .proofs)) p .rhs) (z .terms)
+        && below p (references (getD (map readProof (t .proofs)) p noProof .justification))) _ (proof-at p h)) (b .term) (Memᴰ·map (λ (c : Binding). c .term) m) in
+        omega (arith, terms)
+
 pub loads-valid : (ws : List ℕ) (p : ℕ) (lent : Lent) → loadRefusal ws p lent ≡ none → Valid (jobOf ws)
-unfolding loadRefusal readJob readProgram
-loads-valid ws p lent e =
-    let tests = loadTests ws (sizesOf ws) (tablesOf ws) p lent in
-    let u = unmarked 7 0 _ (pass tests e _ (List·Memᴰ·tail (List·Memᴰ·tail (List·Memᴰ·tail (List·Memᴰ·tail (List·Memᴰ·tail (List·Memᴰ·head refl))))))) in
-    let in-strays = unmarked-in (strays (sizesOf ws) (tablesOf ws)) u in
-    valid-of (jobOf ws) (sizesOf ws .primitives) (sizesOf ws .terms) (terms-length ws)
-    (in-strays _ (List·Memᴰ·head refl))
-    (in-strays _ (List·Memᴰ·tail (List·Memᴰ·tail (List·Memᴰ·tail (List·Memᴰ·tail (List·Memᴰ·tail (List·Memᴰ·tail (List·Memᴰ·head refl))))))))
-    (in-strays _ (List·Memᴰ·tail (List·Memᴰ·tail (List·Memᴰ·tail (List·Memᴰ·tail (List·Memᴰ·tail (List·Memᴰ·tail (List·Memᴰ·tail (List·Memᴰ·tail (List·Memᴰ·tail (List·Memᴰ·head refl)))))))))))
-    (unmarked 9 0 _ (pass tests e _ (List·Memᴰ·tail (List·Memᴰ·tail (List·Memᴰ·tail (List·Memᴰ·tail (List·Memᴰ·tail (List·Memᴰ·tail (List·Memᴰ·tail (List·Memᴰ·head refl))))))))))
+loads-valid ws p lent e = admitted-valid (sizesOf ws) (tablesOf ws) (terms-length ws) (loads-admitted ws p lent e)
 
 -- an argument of an admitted job's expression has a lower number
-pub expressions-lower : (ws : List ℕ) (p : ℕ) (lent : Lent) → loadRefusal ws p lent ≡ none → (e : ℕ) → Below e (readArguments (getD (tablesOf ws .expressions) e noCell))
-unfolding loadRefusal
-expressions-lower ws p lent h e = go (decLt e (length cells))
+pub expressions-lower : (z : Sizes) (t : Tables) → Admitted z t → (e : ℕ) → Below e (readArguments (getD (t .expressions) e noCell))
+expressions-lower z t a e = go (decLt e (length (t .expressions)))
   where
-    cells : List Cell
-    cells = tablesOf ws .expressions
-
-    primitives : ℕ
-    primitives = sizesOf ws .primitives
-
-    fit : Unmarked (failsFrom 0 (exprRefers primitives) cells)
-    fit = unmarked-in (strays (sizesOf ws) (tablesOf ws))
-        (unmarked 7 0 _ (pass (loadTests ws (sizesOf ws) (tablesOf ws) p lent) h _ (List·Memᴰ·tail (List·Memᴰ·tail (List·Memᴰ·tail (List·Memᴰ·tail (List·Memᴰ·tail (List·Memᴰ·head refl))))))))
-        _ (List·Memᴰ·tail (List·Memᴰ·head refl))
-
-    go : Dec (e < length cells) → Below e (readArguments (getD cells e noCell))
-    go (yes l) x m =
-        let t = passes-at 0 (exprRefers primitives) cells fit e noCell l in
-        let k : x < 0 + e = below-of (0 + e) _ (and-right (headRefers primitives (readHead (getD cells e noCell))) _ t) x m in
-        omega arith
-    go (no l) x m = absurd (List·Memᴰ·not-nil (subst (λ (c : Cell). List·Memᴰ x (readArguments c)) (List·getD-eq-default cells noCell {n = e} (omega arith)) m))
+    go : Dec (e < length (t .expressions)) → Below e (readArguments (getD (t .expressions) e noCell))
+    go (yes l) x m = below-of e _ (and-right (headRefers (z .primitives) (readHead (getD (t .expressions) e noCell))) _ (a .refers 1 (lit< tt) e l)) x m
+    go (no l) x m = absurd (List·Memᴰ·not-nil (subst (λ (c : Cell). List·Memᴰ x (readArguments c)) (List·getD-eq-default (t .expressions) noCell {n = e} (omega arith)) m))
 
 -- a reference of a valid job's proof has a lower number
 pub references-lower : (job : Job) → Valid job → (p : ℕ) → Below p (references (getD (job .proofs) p noProof .justification))

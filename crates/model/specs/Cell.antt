@@ -1,6 +1,8 @@
 -- Cells: the unit of every table of a job and of the store, kept in two parallel arrays and a pool.
 use mathlib.Core.List.{List, [], _∷_, _++_}
+use mathlib.Core.Bool.{Bool, true, false, _&&_}
 use Prim.Native.Nat.{ℕ, zero, suc, _-_}
+use lib.Dec.{eqb}
 use lib.ListN.{length, getD, take, drop}
 
 -- A cell: its kind and its words of the pool.
@@ -11,6 +13,17 @@ pub record Cell : Type 0 where
 -- What a look-up past the end of a table gives; no admitted job leads there.
 abbrev pub noCell : Cell
 noCell = record { kind = 0; words = [] }
+
+-- Equality of lists of words, as a test.
+abbrev pub sameWords : List ℕ → List ℕ → Bool
+sameWords [] [] = true
+sameWords [] (y ∷ ys) = false
+sameWords (x ∷ xs) [] = false
+sameWords (x ∷ xs) (y ∷ ys) = eqb x y && sameWords xs ys
+
+-- Cells are equal when their kinds and words are.
+abbrev pub sameCell : Cell → Cell → Bool
+sameCell a b = eqb (a .kind) (b .kind) && sameWords (a .words) (b .words)
 
 module _ {A : Type 0} where
   -- f 0, f 1, .., f (n - 1)

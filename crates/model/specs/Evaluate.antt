@@ -4,7 +4,8 @@ use mathlib.Core.List.{List, [], _∷_, _++_, map}
 use mathlib.Core.Bool.{Bool, true, false, _&&_}
 use mathlib.Core.Option.{Option, none, some}
 use lib.Dec.{eqb}
-use Rattle.model.specs.Term.{Term, lit, var, app, sameWords, getTerm}
+use Rattle.model.specs.Cell.{sameWords}
+use Rattle.model.specs.Term.{Term, lit, var, app, getTerm}
 use Rattle.model.specs.Program.{Head, literal, variable, constructor, custom, primitive, Expr, node, Exprs, nil, cons, Proposition, Binding, Row, Program, Primitive}
 use Rattle.model.specs.Check.{Outcome, ok, refused, Check, _>>=_, pure, refuse, orRefuse, Room, addNode}
 

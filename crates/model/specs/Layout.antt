@@ -94,6 +94,11 @@ pub record Tables : Type 0 where
   pub rules : List Cell
   pub proofs : List Cell
 
+-- The ten tables, in their order.
+abbrev pub tableList : Tables → List (List Cell)
+tableList t =
+    t .terms ∷ t .expressions ∷ t .facts ∷ t .actions ∷ t .functions ∷ t .primitives ∷ t .rows ∷ t .normalisers ∷ t .rules ∷ t .proofs ∷ []
+
 -- So many cells from a number on.
 abbrev pub part : List Cell → ℕ → ℕ → List Cell
 part cells from count = take count (drop from cells)

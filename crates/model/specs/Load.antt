@@ -5,11 +5,11 @@ use mathlib.Core.Bool.{Bool, true, false, not, _&&_, _||_}
 use mathlib.Core.Option.{Option, none, some}
 use lib.ListN.{length, getD, take, drop}
 use lib.Dec.{eqb, leb, ltb}
-use Rattle.model.specs.Cell.{Cell, noCell}
-use Rattle.model.specs.Term.{Term, Literal, lit, var, app, readLiteral, readTerm, sameWords, sameTerm, widths}
-use Rattle.model.specs.Program.{Head, literal, variable, constructor, custom, primitive, Proof, references, substitution, Row, Normaliser}
+use Rattle.model.specs.Cell.{Cell, noCell, sameWords, sameCell}
+use Rattle.model.specs.Term.{Term, Literal, lit, var, app, readLiteral, readTerm, widths}
+use Rattle.model.specs.Program.{Head, literal, variable, constructor, custom, primitive, Binding, Proof, references, substitution, Row, Normaliser}
 use Rattle.model.specs.Check.{Refusal}
-use Rattle.model.specs.Layout.{sizeWords, Sizes, sizesOf, firstRow, firstProof, cellCount, endsOf, Tables, tablesOf}
+use Rattle.model.specs.Layout.{sizeWords, Sizes, sizesOf, cellCount, endsOf, Tables, tableList, tablesOf}
 use Rattle.model.specs.Decode.{word, readHead, readArguments, readPrimitive, readRow, readNormaliser, ruleFacts, ruleActions, readProof}
 
 -- What the caller lends: C and W are the lengths of the store's kinds and pool.
@@ -130,28 +130,21 @@ module _ {A : Type 0} where
   any f [] = false
   any f (x ∷ xs) = f x || any f xs
 
-  -- For each entry, whether it is the same as one before it.
-  abbrev pub repeats : (A → A → Bool) → List A → List A → List Bool
-  repeats same seen [] = []
-  repeats same seen (x ∷ xs) = any (same x) seen ∷ repeats same (x ∷ seen) xs
+-- 9: no cell before this one is the same.
+abbrev pub isFirst : (Cell → Cell → Bool) → List Cell → ℕ → Cell → Bool
+isFirst same table i c = not (any (λ e. same e c) (take i table))
 
-  -- For each entry, by its number from i on, whether the test fails.
-  abbrev pub failsFrom : ℕ → (ℕ → A → Bool) → List A → List Bool
-  failsFrom i f [] = []
-  failsFrom i f (x ∷ xs) = not (f i x) ∷ failsFrom (suc i) f xs
+-- Rows by primitive and arguments, normalisers by head.
+abbrev pub sameRow : Cell → Cell → Bool
+sameRow a b = eqb (word a 0) (word b 0) && sameWords (drop 2 (a .words)) (drop 2 (b .words))
 
-  abbrev pub fails : (A → Bool) → List A → List Bool
-  fails f = failsFrom 0 (λ _. f)
+abbrev pub sameHead : Cell → Cell → Bool
+sameHead a b = eqb (word a 0) (word b 0)
 
--- 9: rows by primitive and arguments, normalisers by head, names within one substitution.
-abbrev pub sameRow : Row → Row → Bool
-sameRow a b = eqb (a .primitive) (b .primitive) && sameWords (a .arguments) (b .arguments)
-
-abbrev pub sameHead : Normaliser → Normaliser → Bool
-sameHead a b = eqb (a .head) (b .head)
-
-abbrev pub bindsOnce : Proof → Bool
-bindsOnce p = not (any (λ b. b) (repeats (λ a b. eqb (a .name) (b .name)) [] (substitution (p .justification))))
+-- No name is bound twice.
+abbrev pub bindsOnce : List Binding → Bool
+bindsOnce [] = true
+bindsOnce (b ∷ bs) = not (any (λ c. eqb (b .name) (c .name)) bs) && bindsOnce bs
 
 -- 10: too little room, too much, unequal arrays, or scratch short.
 abbrev pub noRoom : Sizes → List Term → Lent → Bool
@@ -175,44 +168,70 @@ abbrev pub firstRefusal : List (Unit {0} → Option Refusal) → Option Refusal
 firstRefusal [] = none
 firstRefusal (t ∷ ts) = elim (t tt) [ none ↦ firstRefusal ts | some r ↦ some r ]
 
--- The marks of all tables, one behind the other.
-abbrev pub concat : List (List Bool) → List Bool
-concat [] = []
-concat (ms ∷ mss) = ms ++ concat mss
+-- For each cell of a table, by its number from i on, whether the test fails.
+abbrev pub failsFrom : ℕ → (ℕ → Cell → Bool) → List Cell → List Bool
+failsFrom i f [] = []
+failsFrom i f (c ∷ cs) = not (f i c) ∷ failsFrom (suc i) f cs
 
--- Cells that do not fit, by table.
-abbrev pub misfits : Tables → List (List Bool)
-misfits t =
-    fails termFits (t .terms) ∷
-    fails exprFits (t .expressions) ∷
-    fails (counts (2 ∷ 1 ∷ [])) (t .facts) ∷
-    fails (actionFits (t .expressions)) (t .actions) ∷
-    fails (counts (1 ∷ 2 ∷ [])) (t .functions) ∷
-    fails (counts (1 ∷ 1 ∷ 1 ∷ 1 ∷ [])) (t .primitives) ∷
-    fails rowFits (t .rows) ∷
-    fails (counts (2 ∷ [])) (t .normalisers) ∷
-    fails ruleFits (t .rules) ∷
-    fails proofFits (t .proofs) ∷ []
+-- The same over several tables, each with its test.
+abbrev pub marks : List (ℕ → Cell → Bool) → List (List Cell) → List Bool
+marks [] ts = []
+marks (f ∷ fs) [] = []
+marks (f ∷ fs) (t ∷ ts) = failsFrom 0 f t ++ marks fs ts
 
--- Cells with a reference out of range, by table.
-abbrev pub strays : Sizes → Tables → List (List Bool)
-strays z t =
-    failsFrom 0 termRefers (map readTerm (t .terms)) ∷
-    failsFrom 0 (exprRefers (z .primitives)) (t .expressions) ∷
-    fails (λ c. below (z .expressions) (c .words)) (t .facts) ∷
-    fails (actionRefers (z .expressions)) (t .actions) ∷
-    fails (λ c. below (z .expressions) (drop 1 (c .words))) (t .functions) ∷
-    fails (λ _. true) (t .primitives) ∷
-    fails (rowRefers (z .primitives) (z .terms)) (map readRow (t .rows)) ∷
-    fails (λ n. ltb (n .primitive) (z .primitives)) (map readNormaliser (t .normalisers)) ∷
-    fails (ruleRefers (z .facts) (z .actions)) (t .rules) ∷
-    failsFrom 0 (proofRefers (z .terms)) (map readProof (t .proofs)) ∷ []
+-- A test that every cell passes.
+abbrev pub passed : ℕ → Cell → Bool
+passed i c = true
 
--- Rows and normalisers on a primitive without validator.
-abbrev pub unvalidated : Tables → List Bool
-unvalidated t =
-    fails (λ r. validates (t .primitives) (r .primitive)) (map readRow (t .rows)) ++
-    fails (λ n. validates (t .primitives) (n .primitive)) (map readNormaliser (t .normalisers))
+-- The test of each table for 6, by number and cell: a known kind with its operand count.
+abbrev pub fitTests : Tables → List (ℕ → Cell → Bool)
+fitTests t =
+    (λ _. termFits) ∷
+    (λ _. exprFits) ∷
+    (λ _. counts (2 ∷ 1 ∷ [])) ∷
+    (λ _. actionFits (t .expressions)) ∷
+    (λ _. counts (1 ∷ 2 ∷ [])) ∷
+    (λ _. counts (1 ∷ 1 ∷ 1 ∷ 1 ∷ [])) ∷
+    (λ _. rowFits) ∷
+    (λ _. counts (2 ∷ [])) ∷
+    (λ _. ruleFits) ∷
+    (λ _. proofFits) ∷ []
+
+-- For 7: references in range, and lower.
+abbrev pub referTests : Sizes → List (ℕ → Cell → Bool)
+referTests z =
+    (λ i c. termRefers i (readTerm c)) ∷
+    exprRefers (z .primitives) ∷
+    (λ _ c. below (z .expressions) (c .words)) ∷
+    (λ _. actionRefers (z .expressions)) ∷
+    (λ _ c. below (z .expressions) (drop 1 (c .words))) ∷
+    passed ∷
+    (λ _ c. rowRefers (z .primitives) (z .terms) (readRow c)) ∷
+    (λ _ c. ltb (readNormaliser c .primitive) (z .primitives)) ∷
+    (λ _. ruleRefers (z .facts) (z .actions)) ∷
+    (λ i c. proofRefers (z .terms) i (readProof c)) ∷ []
+
+-- For 8: rows and normalisers on a primitive with a validator.
+abbrev pub validTests : Tables → List (ℕ → Cell → Bool)
+validTests t =
+    passed ∷ passed ∷ passed ∷ passed ∷ passed ∷ passed ∷
+    (λ _ c. validates (t .primitives) (readRow c .primitive)) ∷
+    (λ _ c. validates (t .primitives) (readNormaliser c .primitive)) ∷
+    passed ∷ passed ∷ []
+
+-- For 9: terms, rows and normalisers are first of their kind, and no substitution binds a name twice.
+abbrev pub onceTests : Tables → List (ℕ → Cell → Bool)
+onceTests t =
+    isFirst sameCell (t .terms) ∷
+    passed ∷ passed ∷ passed ∷ passed ∷ passed ∷
+    isFirst sameRow (t .rows) ∷
+    isFirst sameHead (t .normalisers) ∷
+    passed ∷
+    (λ _ c. bindsOnce (substitution (readProof c .justification))) ∷ []
+
+-- The refusal of the job's writer: the least cell, over all tables, that fails its table's test.
+abbrev pub firstFailing : ℕ → List (ℕ → Cell → Bool) → Tables → Option Refusal
+firstFailing n tests t = firstMarked n 0 (marks tests (tableList t))
 
 -- The tests for the numbers below 20, in their order; the first refusal is the lowest number that applies.
 abbrev pub loadTests : List ℕ → Sizes → Tables → ℕ → Lent → List (Unit {0} → Option Refusal)
@@ -221,12 +240,10 @@ loadTests ws z t asked lent =
     (λ _. refusedIf (tooLarge z) 2) ∷
     (λ _. refusedIf (leb (z .proofs) asked) 3) ∷
     (λ _. refusedIf (not (endsRise 0 (endsOf ws) (z .pool))) 5) ∷
-    (λ _. firstMarked 6 0 (concat (misfits t))) ∷
-    (λ _. firstMarked 7 0 (concat (strays z t))) ∷
-    (λ _. firstMarked 8 (firstRow z) (unvalidated t)) ∷
-    (λ _. firstMarked 9 0 (repeats sameTerm [] (map readTerm (t .terms)))) ∷
-    (λ _. firstMarked 9 (firstRow z) (repeats sameRow [] (map readRow (t .rows)) ++ repeats sameHead [] (map readNormaliser (t .normalisers)))) ∷
-    (λ _. firstMarked 9 (firstProof z) (fails bindsOnce (map readProof (t .proofs)))) ∷
+    (λ _. firstFailing 6 (fitTests t) t) ∷
+    (λ _. firstFailing 7 (referTests z) t) ∷
+    (λ _. firstFailing 8 (validTests t) t) ∷
+    (λ _. firstFailing 9 (onceTests t) t) ∷
     (λ _. refusedIf (noRoom z (map readTerm (t .terms)) lent) 10) ∷ []
 
 -- The refusal below 20; none for an admitted job.

@@ -5,7 +5,7 @@ use mathlib.Core.Bool.{Bool, true, false, _&&_}
 use mathlib.Core.Option.{Option, none, some}
 use lib.ListN.{length, getD, drop}
 use lib.Dec.{eqb}
-use Rattle.model.specs.Cell.{Cell}
+use Rattle.model.specs.Cell.{Cell, sameWords}
 
 -- A literal's three words.
 pub record Literal : Type 0 where
@@ -31,6 +31,10 @@ termWords (lit l) = l .kind ∷ l .low ∷ l .high ∷ []
 termWords (var x) = x ∷ []
 termWords (app f xs) = f ∷ xs
 
+-- The cell of a term.
+abbrev pub cellOf : Term → Cell
+cellOf t = record { kind = termKind t; words = termWords t }
+
 -- The literal of three words.
 abbrev pub readLiteral : List ℕ → Literal
 readLiteral ws = record { kind = getD ws 0 0; low = getD ws 1 0; high = getD ws 2 0 }
@@ -38,13 +42,6 @@ readLiteral ws = record { kind = getD ws 0 0; low = getD ws 1 0; high = getD ws 
 -- The term of a cell.
 unfoldable pub readTerm : Cell → Term
 readTerm c = getD (lit (readLiteral (c .words)) ∷ var (getD (c .words) 0 0) ∷ []) (c .kind) (app (getD (c .words) 0 0) (drop 1 (c .words)))
-
--- Equality of lists of words, as a test.
-abbrev pub sameWords : List ℕ → List ℕ → Bool
-sameWords [] [] = true
-sameWords [] (y ∷ ys) = false
-sameWords (x ∷ xs) [] = false
-sameWords (x ∷ xs) (y ∷ ys) = eqb x y && sameWords xs ys
 
 -- Literals are equal when all three words are.
 abbrev pub sameLiteral : Literal → Literal → Bool

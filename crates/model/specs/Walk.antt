@@ -5,7 +5,8 @@ use mathlib.Core.Bool.{Bool, true, false, _&&_, _||_, cond}
 use mathlib.Core.Option.{Option, none, some}
 use lib.ListN.{length, getD, set}
 use lib.Dec.{eqb, ltb}
-use Rattle.model.specs.Term.{Term, lit, var, app, sameWords, getTerm}
+use Rattle.model.specs.Cell.{sameWords}
+use Rattle.model.specs.Term.{Term, lit, var, app, getTerm}
 use Rattle.model.specs.Program.{nameGlobalActions, Proposition, Binding, Program, Fact, Rule, Proof, Justification, fiat, rule, mergeFn, trans, symm, congr, containerNormalize, eval, Job}
 use Rattle.model.specs.Check.{Check, _>>=_, pure, refuse, choose, orRefuse, checkThat, getTerms, Room, addNode}
 use Rattle.model.specs.Evaluate.{same}

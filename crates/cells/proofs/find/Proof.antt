@@ -3,8 +3,8 @@ use mathlib.Core.Path.{_≡_, refl, sym, ap, _∙_}
 use native.Mathlib.Omega.{arith}
 use Prim.Native.Nat.{_-_, _≤_}
 use lib.ListN.{drop}
-use Rattle.model.specs.Cell.{Cell, cellsOf}
-use Rattle.cells.specs.Table.{sameCell, findFrom, findCell}
+use Rattle.model.specs.Cell.{Cell, sameCell, cellsOf}
+use Rattle.cells.specs.Table.{findFrom, findCell}
 use Rattle.cells.proofs.Laws.{cells-length, cells-fewer, find-yes, find-no, find-end}
 use Rattle.cells.proofs.find.Statement.{statement}
 use Rattle.cells.proofs.find.Tie as tie

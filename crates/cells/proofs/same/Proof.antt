@@ -1,6 +1,6 @@
 use mathlib.Core.List.{List}
 use Prim.Native.Nat.{ℕ}
-use Rattle.model.specs.Term.{sameWords}
+use Rattle.model.specs.Cell.{sameWords}
 use mathlib.Core.Path.{_≡_, refl, sym, ap, _∙_}
 use native.Mathlib.Omega.{arith}
 use Rattle.cells.proofs.Laws.{kind-no, kind-yes}

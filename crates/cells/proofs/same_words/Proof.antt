@@ -2,7 +2,7 @@ use mathlib.Core.Path.{_≡_, refl, sym, ap, _∙_}
 use native.Mathlib.Omega.{arith}
 use Prim.Native.Nat.{ℕ, _-_, _≤_, _<_}
 use lib.ListN.{length, drop}
-use Rattle.model.specs.Term.{sameWords}
+use Rattle.model.specs.Cell.{sameWords}
 use Rattle.cells.proofs.Laws.{same-length, same-no, same-yes, same-end}
 use Rattle.cells.proofs.same_words.Statement.{statement}
 use Rattle.cells.proofs.same_words.Tie as tie
