@@ -9,6 +9,7 @@ use Rattle.model.specs.Layout.{Sizes, cellCount, Tables, tablesIn}
 use Rattle.model.specs.Load.{tooLarge}
 use Rattle.load.specs.declared.sizes.Sizes.{Sizes as SizesHeld}
 use Rattle.cells.specs.Table.{Formed}
+use Rattle.cells.specs.declared.Fill.{Fill}
 
 -- The definitions' sizes.
 abbrev pub sizesIn : SizesHeld → Sizes
@@ -45,3 +46,44 @@ pub record Words (z : SizesHeld) : Type 0 where
 abbrev pub countsOf : Sizes → List ℕ
 countsOf z =
     z .terms ∷ z .expressions ∷ z .facts ∷ z .actions ∷ z .functions ∷ z .primitives ∷ z .rows ∷ z .normalisers ∷ z .rules ∷ z .proofs ∷ []
+
+-- The limits of the sizes.
+pub record Limits (z : SizesHeld) : Type 0 where
+  pub terms : z .terms ≤ 16384
+  pub expressions : z .expressions ≤ 4096
+  pub facts : z .facts ≤ 4096
+  pub actions : z .actions ≤ 4096
+  pub functions : z .functions ≤ 4096
+  pub primitives : z .primitives ≤ 4096
+  pub rows : z .rows ≤ 4096
+  pub normalisers : z .normalisers ≤ 4096
+  pub rules : z .rules ≤ 4096
+  pub proofs : z .proofs ≤ 4096
+  pub pool : z .pool ≤ 131072
+
+-- How much the arrays of a job with these sizes hold.
+abbrev pub fillOf : SizesHeld → Fill
+fillOf z = record { cells = cellCount (sizesIn z); words = z .pool }
+
+-- Three arrays that hold the cells of a job with these sizes.
+pub record Held (K E P : List ℕ) (z : SizesHeld) : Type 0 where
+  pub formed : Formed K E P (fillOf z)
+  pub limits : Limits z
+
+-- The tables that they hold.
+abbrev pub tablesFor : List ℕ → List ℕ → List ℕ → SizesHeld → Tables
+tablesFor K E P z = tablesIn (sizesIn z) (cellsOf K E P (cellCount (sizesIn z)))
+
+-- The sum of the first n numbers.
+abbrev pub sumOf : ℕ → List ℕ → ℕ
+sumOf zero xs = 0
+sumOf (suc n) [] = 0
+sumOf (suc n) (x ∷ xs) = x + sumOf n xs
+
+-- The number, over all tables, of the first cell of a table.
+abbrev pub cellNumber : Sizes → ℕ → ℕ
+cellNumber z table = sumOf table (countsOf z)
+
+-- The operand count of each kind: of facts (2), functions (4), primitives (5) and normalisers.
+abbrev pub fixedCounts : ℕ → List ℕ
+fixedCounts table = getD ((2 ∷ []) ∷ (2 ∷ []) ∷ (2 ∷ 1 ∷ []) ∷ (2 ∷ []) ∷ (1 ∷ 2 ∷ []) ∷ (1 ∷ 1 ∷ 1 ∷ 1 ∷ []) ∷ []) table (2 ∷ [])

@@ -3,4 +3,5 @@ pub mod fit;
 pub mod once;
 pub mod refer;
 pub mod sizes;
+pub mod tables;
 pub mod words;

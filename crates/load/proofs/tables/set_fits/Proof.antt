@@ -1,0 +1,103 @@
+use Rattle.load.proofs.TableLaws.{set-other, set-out, set-in, set-call, exprs-length, part-at, set-held}
+use native.Mathlib.Omega.{arith}
+use mathlib.Core.Path.{_≡_, refl, sym, ap, _∙_}
+use lib.ListN.{length, getD, drop}
+use Prim.Native.Nat.{ℕ, _+_, _<_, _≤_}
+use mathlib.Core.List.{List}
+use mathlib.Core.Bool.{Bool, _&&_}
+use lib.Dec.{ltb}
+use Rattle.cells.proofs.Laws.{cells-length, cell-at}
+use Rattle.cells.specs.declared.Fill.{Fill}
+use Rattle.cells.specs.Table.{Formed}
+use Rattle.load.specs.Held.{sizesIn, tablesFor, fillOf}
+use Rattle.model.specs.Cell.{Cell, noCell, cellsOf, cellAt}
+use Rattle.model.specs.Layout.{cellCount}
+use Rattle.model.specs.Load.{isSetCall}
+use borrow.Author.Needs.{needs}
+use Rattle.load.proofs.tables.set_fits.Statement.{statement}
+use Rattle.load.proofs.tables.set_fits.Tie as tie
+use Rattle.load.proofs.tables.set_fits.Reads as reads
+use Rattle.load.proofs.tables.set_fits.Lts as lts
+use Rattle.cells.proofs.wide.Reads as wide-reads
+use Rattle.cells.proofs.words.Reads as words-reads
+use Rattle.load.proofs.tables.fill.Reads as fill-reads
+use Rattle.load.proofs.words.at.Reads as at-reads
+use Rattle.load.proofs.words.rest.Reads as rest-reads
+
+-- src/tables.rt:39:9
+returns : tie.Need-returns
+returns c = let a = c .before .before .before .before .before .args in set-other (tablesFor (a .kinds .now) (a .ends .now) (a .pool .now) (a .z) .expressions) (a .ws .now) (a .kind) (c .if1 .taken)
+
+-- src/tables.rt:41:18
+at-requires : tie.Need-at-requires
+at-requires c κs = search needs
+
+-- src/tables.rt:41:9
+wide-requires : tie.Need-wide-requires
+wide-requires c κs = search needs
+
+-- src/tables.rt:43:9
+returns-2 : tie.Need-returns-2
+returns-2 c = let s = c .before .before .before .before .before .before .before .before .before in
+    let a = s .args in
+    let cs = cellsOf (a .kinds .now) (a .ends .now) (a .pool .now) (cellCount (sizesIn (a .z))) in
+    let e : c .before .before .wide .result ≡ getD (a .ws .now) 0 0 = c .before .before .wide .ensures ∙ c .before .before .before .at .ensures in
+    let h : a .z .expressions ≤ getD (a .ws .now) 0 0 = omega arith in
+    rw (c .before .before .before .before .if1 .left) (set-out (tablesFor (a .kinds .now) (a .ends .now) (a .pool .now) (a .z) .expressions) (a .ws .now) (a .z .expressions) (exprs-length (sizesIn (a .z)) cs (cells-length (a .kinds .now) (a .ends .now) (a .pool .now) (cellCount (sizesIn (a .z))))) h)
+
+-- src/tables.rt:45:13
+add-i : tie.Need-add-i
+add-i c = search needs
+
+-- src/tables.rt:46:51
+fill-requires : tie.Need-fill-requires
+fill-requires c κs = search needs
+
+-- src/tables.rt:46:26
+words-requires : tie.Need-words-requires
+words-requires c κs = let s = c .before .before .before .before .before .before .before .before .before .before .before in
+    let f = c .fill .ensures in
+    (rw f (s .pre .formed), omega (arith, ap (λ (x : Fill). x .cells) f))
+
+-- src/tables.rt:46:9
+rest-requires : tie.Need-rest-requires
+rest-requires c κs = search needs
+
+-- src/tables.rt:47:10
+mul-result : tie.Need-mul-result
+mul-result c = search needs
+
+-- src/tables.rt:47:10
+shared-slice-read-result : tie.Need-shared-slice-read-result
+shared-slice-read-result c = search needs
+
+-- src/tables.rt:34:1
+returns-3 : tie.Need-returns-3
+returns-3 c = let s = c .before .before .before .before .before .before .before .before .before .before .before .before .before .before in
+    let a = s .args in
+    let K = a .kinds .now in
+    let E = a .ends .now in
+    let P = a .pool .now in
+    let n = cellCount (sizesIn (a .z)) in
+    let cs = cellsOf K E P n in
+    let i = a .z .terms + c .before .before .before .before .before .before .before .wide .result in
+    let e : c .before .before .before .before .before .before .before .wide .result ≡ getD (a .ws .now) 0 0 = c .before .before .before .before .before .before .before .wide .ensures ∙ c .before .before .before .before .before .before .before .before .at .ensures in
+    let w : c .before .before .words .result .now ≡ getD cs i noCell .words = c .before .before .words .ensures ∙ ap (λ (x : Fill). getD (cellsOf K E P (x .cells)) i noCell .words) (c .before .before .before .fill .ensures) in
+    rw (c .before .before .before .before .before .before .before .before .before .if1 .left) (set-held (sizesIn (a .z)) cs (getD K i 0) i (c .before .rest .result .now) (a .ws .now) (cells-length K E P n) (ap (λ (x : ℕ). a .z .terms + x) e) (omega arith)
+    (sym (ap (λ (x : Cell). x .kind) (cell-at K E P n i (omega arith)))) (c .before .rest .ensures ∙ ap (drop 1) w))
+
+pub set-fits-spec : {M : Type 1} → statement M
+set-fits-spec =
+    tie.close
+    (tie.spec
+    returns
+    at-requires
+    wide-requires
+    returns-2
+    add-i
+    fill-requires
+    words-requires
+    rest-requires
+    mul-result
+    shared-slice-read-result
+    returns-3)
