@@ -1,0 +1,115 @@
+//! Steps of one rule inside each other: the same expressions under other bindings, before and
+//! after a premise is checked.
+
+use job::{Table, Tables};
+
+use crate::random::Random;
+
+const C: u32 = 4;
+const G: u32 = 5;
+const RULE: u32 = 6;
+const ASSUMING: u32 = 7;
+const X: u32 = 20;
+const Y: u32 = 21;
+const Z: u32 = 22;
+const W: u32 = 23;
+
+/// What stands opposite a fact.
+#[derive(Clone, Copy)]
+enum Premise {
+    /// The step below, of the same rule.
+    Below,
+    /// An assumed proof of G(x).
+    Call,
+    /// Anything: it stands opposite a side condition.
+    Unchecked,
+}
+
+/// Step i proves t(i) = t(i+1) from the step below; c(t(i)) is t(i+1) by rows.
+pub fn nested(random: &mut Random, length: usize) -> Tables {
+    let mut tables = Tables::default();
+    let terms: Vec<u32> = (0..length as i64 + 2)
+        .map(|value| tables.term_integer(value))
+        .collect();
+    let first = [tables.integer(0), tables.integer(1)];
+    tables.union_action(first[0], first[1]);
+    tables.globals = 1;
+    let primitive = tables.primitive(3, C);
+    for pair in terms.windows(2) {
+        tables.row(primitive, pair[1], &pair[..1]);
+    }
+    let opposite = rule(&mut tables, primitive, random);
+    assuming_rule(&mut tables);
+    let mut below = tables.fiat((terms[0], terms[1]));
+    for step in 1..=length {
+        let premises: Vec<u32> = opposite
+            .iter()
+            .map(|premise| match premise {
+                Premise::Below => below,
+                Premise::Call => assumed_call(&mut tables, terms[step]),
+                Premise::Unchecked => random.below(below as usize + 1) as u32,
+            })
+            .collect();
+        let pairs = [(Y, terms[step - 1]), (X, terms[step])];
+        let claimed = (terms[step], terms[step + 1]);
+        below = tables.rule_step(claimed, RULE, &premises, &pairs);
+    }
+    if random.once_in(3) {
+        spoil(&mut tables, random);
+    }
+    tables
+}
+
+/// y = x, z = c(x) and G(x), some more than once, in any order; the head evaluates c(x) again.
+fn rule(tables: &mut Tables, primitive: u32, random: &mut Random) -> Vec<Premise> {
+    let [x, y, z, w] = [X, Y, Z, W].map(|name| tables.variable(name));
+    let container = tables.primitive_call(primitive, &[x]);
+    let call = tables.constructor(G, &[x]);
+    let mut facts = vec![(tables.equality(y, x), Premise::Below)];
+    for _ in 0..random.between(1, 3) {
+        facts.push((tables.equality(z, container), Premise::Unchecked));
+    }
+    for _ in 0..random.below(3) {
+        facts.push((tables.bare(call), Premise::Call));
+    }
+    for place in (1..facts.len()).rev() {
+        facts.swap(place, random.below(place + 1));
+    }
+    let actions = match random.below(3) {
+        0 => vec![tables.union_action(x, container)],
+        1 => vec![tables.union_action(x, z), tables.expression_action(call)],
+        _ => vec![tables.let_action(W, container), tables.union_action(x, w)],
+    };
+    let numbers: Vec<u32> = facts.iter().map(|fact| fact.0).collect();
+    tables.rule(RULE, &numbers, &actions);
+    facts.iter().map(|fact| fact.1).collect()
+}
+
+fn assuming_rule(tables: &mut Tables) {
+    let x = tables.variable(X);
+    let action = tables.expression_action(x);
+    tables.rule(ASSUMING, &[], &[action]);
+}
+
+/// A proof of G(t), which enters the job.
+fn assumed_call(tables: &mut Tables, term: u32) -> u32 {
+    let words = vec![G, term];
+    let there = tables
+        .of(Table::Terms)
+        .iter()
+        .position(|cell| cell.kind == 2 && cell.words == words);
+    let call = match there {
+        Some(number) => number as u32,
+        None => tables.term_application(G, &[term]),
+    };
+    tables.rule_step((call, call), ASSUMING, &[], &[(X, call)])
+}
+
+/// One row or one claim is wrong.
+fn spoil(tables: &mut Tables, random: &mut Random) {
+    let table = random.pick(&[Table::Rows, Table::Proofs]);
+    let count = tables.count(table) as usize;
+    let number = random.below(count);
+    let terms = tables.count(Table::Terms) as usize;
+    tables.of_mut(table)[number].words[1] = random.below(terms) as u32;
+}

@@ -1,0 +1,117 @@
+//! One function from a job to the eight words and the words of the store.
+
+use std::thread;
+
+use job::limits;
+use job::{Job, Lent, Table, refusal};
+
+use crate::answer::{self, Answer};
+use crate::panics;
+use crate::program;
+use crate::proofs::proof_format::ProofStore;
+use crate::store;
+use crate::util::Room;
+
+/// The text would take more steps than are waited for; there is no answer.
+#[derive(Clone, Copy, PartialEq, Eq, Debug)]
+pub struct TooManySteps;
+
+/// Jobs with more proofs or expressions than this run on a stack of their own.
+const SHALLOW: usize = 64;
+const DEEP_STACK: usize = 512 << 20;
+
+/// The check with lent arrays. Writes the answer and, on 0 and from 20 up, the store's words.
+pub fn check(
+    job: &[u32],
+    asked: u32,
+    kinds: &mut [u32],
+    ends: &mut [u32],
+    pool: &mut [u32],
+    scratch: usize,
+    answer: &mut [u32],
+) -> Result<u32, TooManySteps> {
+    if answer.len() != limits::ANSWER {
+        return Ok(10);
+    }
+    let lent = Lent {
+        kinds: kinds.len(),
+        ends: ends.len(),
+        pool: pool.len(),
+        scratch,
+    };
+    let words = match refusal(job, asked, &lent) {
+        Some(refusal) => answer::words(refusal.number, 0, &[refusal.cell]),
+        None => {
+            let job = Job::read(job).expect("a job that passed the load checks");
+            on_fitting_stack(&job, || judge(&job, asked, kinds, ends, pool))?
+        }
+    };
+    answer.copy_from_slice(&words);
+    Ok(words[0])
+}
+
+/// The host entry: a job as bytes, with the program's own store.
+pub fn check_bytes(bytes: &[u8], asked: u32, answer: &mut [u32]) -> Result<u32, TooManySteps> {
+    if answer.len() != limits::ANSWER {
+        return Ok(10);
+    }
+    if bytes.len() > limits::PROGRAM_BYTES || !bytes.len().is_multiple_of(4) {
+        answer.copy_from_slice(&answer::words(1, 0, &[]));
+        return Ok(1);
+    }
+    let job: Vec<u32> = bytes
+        .chunks(4)
+        .map(|word| u32::from_le_bytes(word.try_into().expect("four bytes")))
+        .collect();
+    let mut kinds = vec![0; limits::PROGRAM_CELLS];
+    let mut ends = vec![0; limits::PROGRAM_CELLS];
+    let mut pool = vec![0; limits::PROGRAM_POOL];
+    let scratch = limits::scratch_words(limits::PROGRAM_CELLS, limits::CELLS as usize);
+    check(
+        &job, asked, &mut kinds, &mut ends, &mut pool, scratch, answer,
+    )
+}
+
+/// The text recurses as deep as proofs, expressions and terms go.
+fn on_fitting_stack<R: Send>(job: &Job, run: impl FnOnce() -> R + Send) -> R {
+    let shallow = job.count(Table::Proofs) <= SHALLOW
+        && job.count(Table::Expressions) <= SHALLOW
+        && job.count(Table::Terms) <= 8 * SHALLOW;
+    if shallow {
+        return run();
+    }
+    thread::scope(|scope| {
+        thread::Builder::new()
+            .stack_size(DEEP_STACK)
+            .spawn_scoped(scope, run)
+            .expect("a thread")
+            .join()
+            .expect("a judge that returns")
+    })
+}
+
+/// Runs `check_proof` on a job that passed the load checks.
+fn judge(
+    job: &Job,
+    asked: u32,
+    kinds: &mut [u32],
+    ends: &mut [u32],
+    pool: &mut [u32],
+) -> Result<Answer, TooManySteps> {
+    let validators = program::validators(job);
+    let commands = program::commands(job, &validators)?;
+    let room = Room {
+        cells: kinds.len(),
+        pool: pool.len(),
+    };
+    let mut proofs: ProofStore = program::proof_store(job, &validators, room);
+    let result = panics::catch(|| proofs.check_proof(program::proof_id(asked), &commands));
+    let terms = proofs.term_dag().size();
+    let words = match result {
+        Ok(Ok(proved)) => answer::accepted(job, asked, &proved, terms),
+        Ok(Err(error)) => answer::refused(&error, terms),
+        Err(unwound) => answer::unwound(unwound, terms).ok_or(TooManySteps)?,
+    };
+    store::write(proofs.term_dag(), kinds, ends, pool);
+    Ok(words)
+}

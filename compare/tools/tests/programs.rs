@@ -1,0 +1,66 @@
+//! The command line program, and the bench jobs' answers in their order.
+
+use std::io::Write;
+use std::process::{Command, Stdio};
+
+use tools::{bench_jobs, to_bytes};
+
+/// What `checkproof` prints for a job.
+fn printed(bytes: &[u8]) -> String {
+    let mut child = Command::new(env!("CARGO_BIN_EXE_checkproof"))
+        .stdin(Stdio::piped())
+        .stdout(Stdio::piped())
+        .spawn()
+        .expect("the program");
+    child
+        .stdin
+        .take()
+        .expect("its input")
+        .write_all(bytes)
+        .expect("a written job");
+    let output = child.wait_with_output().expect("its output");
+    String::from_utf8(output.stdout).expect("text")
+}
+
+#[test]
+fn checkproof_on_job_a() {
+    let job = to_bytes(&bench_jobs::job_a().words());
+    assert_eq!(printed(&job), "0 1 0 0 2 0 0 0\n");
+}
+
+#[test]
+fn checkproof_on_no_job() {
+    assert_eq!(printed(&[]), "1 0 0 0 0 0 0 0\n");
+    assert_eq!(printed(&[0; 48]), "3 0 0 0 0 0 0 0\n");
+    assert_eq!(printed(&[0; 47]), "1 0 0 0 0 0 0 0\n");
+}
+
+#[test]
+fn bench_jobs_in_their_order() {
+    let answers: Vec<Vec<u32>> = bench_jobs::cases()
+        .iter()
+        .map(|case| case.judge().expect("few steps").answer.to_vec())
+        .collect();
+    let expected: [[u32; 8]; 19] = [
+        [0, 1, 0, 0, 2, 0, 0, 0],
+        [0, 4, 0, 1, 1, 0, 0, 0],
+        [0, 4, 0, 0, 1, 0, 0, 0],
+        [0, 4, 2, 2, 1, 0, 0, 0],
+        [33, 4, 0, 3, 3, 0, 0, 0],
+        [0, 4, 0, 0, 2, 0, 0, 0],
+        [21, 4, 2, 1, 0, 0, 0, 0],
+        [20, 4, 1, 0, 1, 1, 0, 0],
+        [0, 4, 2, 3, 2, 0, 0, 0],
+        [23, 4, 2, 1, 1, 0, 0, 0],
+        [24, 4, 2, 1, 0, 0, 0, 0],
+        [25, 4, 2, 2, 3, 0, 0, 0],
+        [26, 4, 2, 0, 0, 0, 0, 0],
+        [41, 4, 0, 0, 0, 0, 0, 0],
+        [53, 3, 8, 0, 0, 0, 0, 0],
+        [53, 3, 8, 0, 0, 0, 0, 0],
+        [25, 4, 2, 2, 3, 0, 0, 0],
+        [0, 5, 0, 1, 1, 0, 0, 0],
+        [6, 0, 7, 0, 0, 0, 0, 0],
+    ];
+    assert_eq!(answers, expected);
+}
