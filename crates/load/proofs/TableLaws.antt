@@ -3,17 +3,18 @@ use mathlib.Core.Path.{_≡_, refl, sym, ap, _∙_}
 use mathlib.Core.Bool.{Bool, true, false, not, _&&_, _||_}
 use mathlib.Core.List.{List, [], _∷_, _++_}
 use Prim.Native.Nat.{ℕ, zero, suc, _+_, _-_, _≤_, _<_}
+use native.Mathlib.Numerals.{add-one}
 use native.Mathlib.Omega.{arith}
 use lib.Dec.{eqb, leb, ltb}
-use lib.ListN.{length, getD, take, drop, length-take, length-drop}
-use lib.Seq.{getD-take, getD-drop}
+use lib.ListN.{length, getD, take, drop, length-take, length-drop, drop-of-length-le, List·getD-eq-default}
+use lib.Seq.{getD-take, getD-drop, drop-cons}
 use borrow.Author.Tests.{eq-eqb, ne-eqb, lt-ltb, le-ltb, le-leb, lt-leb}
 use Rattle.model.specs.Cell.{Cell, noCell, cellAt, cellsOf}
 use Rattle.model.specs.Layout.{Sizes, Tables, part, tablesIn, tableList, cellCount, firstFact, firstAction, firstFunction, firstPrimitive, firstRow, firstNormaliser, firstRule, firstProof}
-use Rattle.model.specs.Decode.{word, readArguments}
-use Rattle.model.specs.Load.{counts, isSetCall, setFits, actionFits, passed, fitTests}
+use Rattle.model.specs.Decode.{word, readArguments, readPrimitive}
+use Rattle.model.specs.Load.{any, sameHead, counts, isSetCall, setFits, actionFits, validates, passed, fitTests, validTests}
 use Rattle.cells.proofs.Laws.{cell-at}
-use Rattle.load.specs.Held.{countsOf, sumOf, cellNumber, fixedCounts}
+use Rattle.load.specs.Held.{countsOf, sumOf, cellNumber, fixedCounts, alikeBy}
 
 -- a cell of a table is a cell of the job
 pub part-at : (cs : List Cell) (from count i : ℕ) → i < count → getD (part cs from count) i noCell ≡ getD cs (from + i) noCell
@@ -102,3 +103,67 @@ last-table (suc (suc (suc (suc (suc (suc (suc zero))))))) h a b d e f g i j l = 
 last-table (suc (suc (suc (suc (suc (suc (suc (suc zero)))))))) h a b d e f g i j l = absurd (l refl)
 last-table (suc (suc (suc (suc (suc (suc (suc (suc (suc zero))))))))) h a b d e f g i j l = refl
 last-table (suc (suc (suc (suc (suc (suc (suc (suc (suc (suc k)))))))))) h a b d e f g i j l = absurd (omega arith)
+
+-- a cell read off the arrays
+pub held-cell : (K E P : List ℕ) (n i : ℕ) (us : List ℕ) → i < n → us ≡ getD (cellsOf K E P n) i noCell .words → record { kind = getD K i 0; words = us } ≡ getD (cellsOf K E P n) i noCell
+held-cell K E P n i us h e =
+    let k : getD K i 0 ≡ getD (cellsOf K E P n) i noCell .kind = sym (ap (λ (x : Cell). x .kind) (cell-at K E P n i h)) in
+    λ t. record { kind = k t; words = e t }
+
+pub validator-kind : (k : ℕ) → (not (eqb k 0) && not (eqb k 2)) ≡ getD (false ∷ true ∷ false ∷ []) k true
+validator-kind zero = refl
+validator-kind (suc zero) = refl
+validator-kind (suc (suc zero)) = refl
+validator-kind (suc (suc (suc k))) = rw (ne-eqb (suc (suc (suc k))) 0 (λ e. omega arith), ne-eqb (suc (suc (suc k))) 2 (λ e. omega arith))
+
+-- the primitives of a job
+pub primitive-held : (z : Sizes) (cs : List Cell) (p k : ℕ) → p < z .primitives → k ≡ getD cs (firstPrimitive z + p) noCell .kind
+    → (not (eqb k 0) && not (eqb k 2)) ≡ validates (tablesIn z cs .primitives) p
+primitive-held z cs p k h e =
+    let x = part-at cs (firstPrimitive z) (z .primitives) p h in
+    rw e (validator-kind (getD cs (firstPrimitive z + p) noCell .kind)) ∙ ap (λ (c : Cell). readPrimitive c .validator) (sym x)
+
+pub primitive-out : (z : Sizes) (cs : List Cell) (p : ℕ) → z .primitives ≤ p → false ≡ validates (tablesIn z cs .primitives) p
+primitive-out z cs p h =
+    let l : length (tablesIn z cs .primitives) ≤ p = simp length-take (omega arith) in
+    ap (λ (c : Cell). readPrimitive c .validator) (sym (List·getD-eq-default (tablesIn z cs .primitives) noCell l))
+
+pub valid-other : (t : Tables) (k i : ℕ) (c : Cell) → (k ≡ 6 → ⊥) → (k ≡ 7 → ⊥) → true ≡ getD (validTests t) k passed i c
+valid-other t zero i c a b = refl
+valid-other t (suc zero) i c a b = refl
+valid-other t (suc (suc zero)) i c a b = refl
+valid-other t (suc (suc (suc zero))) i c a b = refl
+valid-other t (suc (suc (suc (suc zero)))) i c a b = refl
+valid-other t (suc (suc (suc (suc (suc zero))))) i c a b = refl
+valid-other t (suc (suc (suc (suc (suc (suc zero)))))) i c a b = absurd (a refl)
+valid-other t (suc (suc (suc (suc (suc (suc (suc zero))))))) i c a b = absurd (b refl)
+valid-other t (suc (suc (suc (suc (suc (suc (suc (suc zero)))))))) i c a b = refl
+valid-other t (suc (suc (suc (suc (suc (suc (suc (suc (suc zero))))))))) i c a b = refl
+valid-other t (suc (suc (suc (suc (suc (suc (suc (suc (suc (suc k)))))))))) i c a b = refl
+
+pub alike-other : (k : ℕ) (a b : Cell) → (k ≡ 0 → ⊥) → (k ≡ 6 → ⊥) → sameHead a b ≡ alikeBy k a b
+alike-other zero a b g h = absurd (g refl)
+alike-other (suc zero) a b g h = refl
+alike-other (suc (suc zero)) a b g h = refl
+alike-other (suc (suc (suc zero))) a b g h = refl
+alike-other (suc (suc (suc (suc zero)))) a b g h = refl
+alike-other (suc (suc (suc (suc (suc zero))))) a b g h = refl
+alike-other (suc (suc (suc (suc (suc (suc zero)))))) a b g h = absurd (h refl)
+alike-other (suc (suc (suc (suc (suc (suc (suc k))))))) a b g h = refl
+
+-- one earlier cell after another
+module _ (f : Cell → Bool) (cs : List Cell) (first i j : ℕ) (h : j < i) (l : first + i ≤ length cs) where
+  any-step : any f (drop j (take i (drop first cs))) ≡ (f (getD cs (first + j) noCell) || any f (drop (j + 1) (take i (drop first cs))))
+  any-step =
+      let n : length (take i (drop first cs)) ≡ i = simp (length-take, length-drop) (omega arith) in
+      let e : getD (take i (drop first cs)) j noCell ≡ getD cs (first + j) noCell = getD-take i (drop first cs) j noCell h ∙ getD-drop first cs j noCell in
+      rw (drop-cons (take i (drop first cs)) j noCell (omega arith), e, add-one)
+
+  pub earlier-yes : f (getD cs (first + j) noCell) ≡ true → false ≡ not (any f (drop j (take i (drop first cs))))
+  earlier-yes e = rw (any-step, e)
+
+  pub earlier-no : f (getD cs (first + j) noCell) ≡ false → any f (drop j (take i (drop first cs))) ≡ any f (drop (j + 1) (take i (drop first cs)))
+  earlier-no e = rw (any-step, e)
+
+pub earlier-end : (f : Cell → Bool) (cs : List Cell) (first i j : ℕ) → i ≤ j → true ≡ not (any f (drop j (take i (drop first cs))))
+earlier-end f cs first i j h = rw (drop-of-length-le (take i (drop first cs)) {i = j} (simp length-take (omega arith)))

@@ -1,15 +1,16 @@
 -- A job's sizes and arrays as the code holds them.
 use mathlib.Core.Path.{_≡_}
-use mathlib.Core.Bool.{Bool, true, false}
+use mathlib.Core.Bool.{Bool, true, false, not}
 use mathlib.Core.List.{List, [], _∷_}
 use Prim.Native.Nat.{ℕ, zero, suc, _+_, _≤_, _<_, _^_}
-use lib.ListN.{length, getD}
-use Rattle.model.specs.Cell.{Cell, cellsOf}
+use lib.ListN.{length, getD, take, drop}
+use Rattle.model.specs.Cell.{Cell, noCell, sameCell, cellsOf}
 use Rattle.model.specs.Layout.{Sizes, cellCount, Tables, tablesIn}
-use Rattle.model.specs.Load.{tooLarge}
+use Rattle.model.specs.Load.{any, sameRow, sameHead, fitTests, referTests, validTests, onceTests}
 use Rattle.load.specs.declared.sizes.Sizes.{Sizes as SizesHeld}
 use Rattle.cells.specs.Table.{Formed}
 use Rattle.cells.specs.declared.Fill.{Fill}
+use Rattle.cells.specs.declared.Found.{Found}
 
 -- The definitions' sizes.
 abbrev pub sizesIn : SizesHeld → Sizes
@@ -87,3 +88,21 @@ cellNumber z table = sumOf table (countsOf z)
 -- The operand count of each kind: of facts (2), functions (4), primitives (5) and normalisers.
 abbrev pub fixedCounts : ℕ → List ℕ
 fixedCounts table = getD ((2 ∷ []) ∷ (2 ∷ []) ∷ (2 ∷ 1 ∷ []) ∷ (2 ∷ []) ∷ (1 ∷ 2 ∷ []) ∷ (1 ∷ 1 ∷ 1 ∷ 1 ∷ []) ∷ []) table (2 ∷ [])
+
+-- When two cells of a table are the same: terms, rows (6), and normalisers.
+abbrev pub alikeBy : ℕ → Cell → Cell → Bool
+alikeBy table = getD (sameCell ∷ sameHead ∷ sameHead ∷ sameHead ∷ sameHead ∷ sameHead ∷ sameRow ∷ []) table sameHead
+
+-- Of the cells from `first` on, none before place i is the same as that at place i.
+abbrev pub firstAmong : (Cell → Cell → Bool) → List Cell → ℕ → ℕ → Bool
+firstAmong same cells first i = not (any (λ e. same e (getD cells (first + i) noCell)) (take i (drop first cells)))
+
+-- The number of the first mark that is set, where the list's first has the number i.
+unfoldable pub firstFound : ℕ → List Bool → Found
+firstFound i [] = Found.Nothing
+firstFound i (true ∷ ms) = Found.At i
+firstFound i (false ∷ ms) = firstFound (suc i) ms
+
+-- The tests of the tables for 6, 7, 8 and 9.
+abbrev pub testsFor : ℕ → Sizes → Tables → List (ℕ → Cell → Bool)
+testsFor round z t = getD (fitTests t ∷ referTests z ∷ validTests t ∷ []) round (onceTests t)

@@ -16,8 +16,12 @@ ghost use mathlib.Core.Bool.{Bool, true, false};
 ghost use Prim.Native.Nat.{ℕ, _+_, _<_, _≤_};
 ghost use lib.ListN.{length, getD};
 ghost use Rattle.model.specs.Cell.{Cell, noCell};
-ghost use Rattle.model.specs.Load.{counts, setFits, actionFits, passed, fitTests, referTests, validTests, onceTests, validates};
-ghost use Rattle.load.specs.Held.{sizesIn, fillOf, Limits, Held, tablesFor, fixedCounts, cellNumber};
+ghost use Rattle.model.specs.Load.{counts, setFits, actionFits, passed, fitTests, referTests, validTests, onceTests, validates, bindsOnce};
+ghost use Rattle.model.specs.Cell.{cellsOf};
+ghost use Rattle.model.specs.Layout.{cellCount};
+ghost use Rattle.model.specs.Program.{substitution};
+ghost use Rattle.model.specs.Decode.{readProof};
+ghost use Rattle.load.specs.Held.{sizesIn, fillOf, Limits, Held, tablesFor, fixedCounts, alikeBy, firstAmong, cellNumber};
 
 // How much the job's arrays hold.
 pub fn fill(z: Sizes) -> Fill
@@ -152,4 +156,91 @@ pub fn refers(z: Sizes, table: usize, i: usize, kind: u32, ws: &[u32]) -> bool
         return refer::rule_refers(z.facts, z.actions, ws);
     }
     refer::proof_refers(z.terms, i, kind, ws)
+}
+
+// The primitive has a validator.
+pub fn has_validator(kinds: &[u32], ends: &[u32], pool: &[u32], z: Sizes, p: usize) -> bool
+    requires { ⌜ Held (now kinds) (now ends) (now pool) z ⌝ }
+    ensures { λ r. ⌜ r ≡ validates (tablesFor (now (kinds .entry)) (now (ends .entry)) (now (pool .entry)) z .primitives) p ⌝ }
+{
+    if z.primitives <= p {
+        return false;
+    }
+    let i = z.terms + z.expressions + z.facts + z.actions + z.functions + p;
+    let kind = kinds[i];
+    (kind != 0) & (kind != 2)
+}
+
+// 8, by table.
+pub fn valid(
+    kinds: &[u32],
+    ends: &[u32],
+    pool: &[u32],
+    z: Sizes,
+    table: usize,
+    ws: &[u32],
+) -> bool
+    requires { ⌜ Held (now kinds) (now ends) (now pool) z ⌝ }
+    ensures { λ r. ⌜ ((i kind : ℕ) → r ≡ getD (validTests (tablesFor (now (kinds .entry)) (now (ends .entry)) (now (pool .entry)) z)) table passed i (record { kind = kind; words = now (ws .entry) })) ⌝ }
+{
+    if table == 6 {
+        return has_validator(kinds, ends, pool, z, wide(at(ws, 0)));
+    }
+    if table == 7 {
+        return has_validator(kinds, ends, pool, z, wide(at(ws, 1)));
+    }
+    true
+}
+
+// Two cells of a table are the same: terms by kind and words, rows by primitive and arguments, normalisers by head.
+pub fn alike(table: usize, j: u32, a: &[u32], k: u32, b: &[u32]) -> bool
+    ensures { λ r. ⌜ r ≡ alikeBy table (record { kind = j; words = now (a .entry) }) (record { kind = k; words = now (b .entry) }) ⌝ }
+{
+    if table == 0 {
+        let whole = same_words(a, b);
+        return (j == k) & whole;
+    }
+    if table == 6 {
+        return once::same_row(a, b);
+    }
+    once::same_head(a, b)
+}
+
+// No cell of a table, from its first on, is the same as this one.
+pub fn is_first(
+    kinds: &[u32],
+    ends: &[u32],
+    pool: &[u32],
+    z: Sizes,
+    table: usize,
+    first: usize,
+    i: usize,
+) -> bool
+    requires { ⌜ Held (now kinds) (now ends) (now pool) z ⌝ }
+    requires { ⌜ first + i < cellCount (sizesIn z) ⌝ }
+    ensures { λ r. ⌜ r ≡ firstAmong (alikeBy table) (cellsOf (now (kinds .entry)) (now (ends .entry)) (now (pool .entry)) (cellCount (sizesIn z))) first i ⌝ }
+{
+    let f = fill(z);
+    let at = first + i;
+    let kind = kinds[at];
+    let mut j = 0;
+    while j < i {
+        let k = first + j;
+        if alike(table, kinds[k], words(kinds, ends, pool, f, k), kind, words(kinds, ends, pool, f, at)) {
+            return false;
+        }
+        j += 1;
+    }
+    true
+}
+
+// A proof's substitution binds no name twice.
+pub fn proof_once(kind: u32, ws: &[u32]) -> bool
+    ensures { λ r. ⌜ r ≡ bindsOnce (substitution (readProof (record { kind = kind; words = now (ws .entry) }) .justification)) ⌝ }
+{
+    if kind == 1 {
+        let m = wide(at(ws, 3));
+        return once::binds_once(rest(rest(ws, 4), m));
+    }
+    true
 }
