@@ -180,3 +180,11 @@ module _ (ws : List ℕ) (k : ℕ) (p : 1 ≤ k) where
 
   pub once-end : length ws ≤ k → true ≡ bindsOnce (readBindings (drop (k - 1) ws))
   once-end h = rw (pairs-end ws k p h)
+
+pub not-true : (b : Bool) → not b ≡ true → b ≡ false
+not-true true e = sym e
+not-true false e = refl
+
+pub not-false : (b : Bool) → not b ≡ false → b ≡ true
+not-false true e = refl
+not-false false e = sym e

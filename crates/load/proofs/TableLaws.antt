@@ -7,14 +7,15 @@ use native.Mathlib.Numerals.{add-one}
 use native.Mathlib.Omega.{arith}
 use lib.Dec.{eqb, leb, ltb}
 use lib.ListN.{length, getD, take, drop, length-take, length-drop, drop-of-length-le, List·getD-eq-default}
-use lib.Seq.{getD-take, getD-drop, drop-cons}
+use lib.Seq.{getD-take, getD-drop, drop-cons, take-take}
 use borrow.Author.Tests.{eq-eqb, ne-eqb, lt-ltb, le-ltb, le-leb, lt-leb}
 use Rattle.model.specs.Cell.{Cell, noCell, cellAt, cellsOf}
 use Rattle.model.specs.Layout.{Sizes, Tables, part, tablesIn, tableList, cellCount, firstFact, firstAction, firstFunction, firstPrimitive, firstRow, firstNormaliser, firstRule, firstProof}
 use Rattle.model.specs.Decode.{word, readArguments, readPrimitive}
-use Rattle.model.specs.Load.{any, sameHead, counts, isSetCall, setFits, actionFits, validates, passed, fitTests, validTests}
+use Rattle.model.specs.Load.{any, failsFrom, marks, isFirst, sameHead, counts, isSetCall, setFits, actionFits, validates, passed, fitTests, validTests, onceTests}
 use Rattle.cells.proofs.Laws.{cell-at}
-use Rattle.load.specs.Held.{countsOf, sumOf, cellNumber, fixedCounts, alikeBy}
+use Rattle.cells.specs.declared.Found.{Found}
+use Rattle.load.specs.Held.{countsOf, sumOf, cellNumber, fixedCounts, alikeBy, firstAmong, testsFor, firstFound}
 
 -- a cell of a table is a cell of the job
 pub part-at : (cs : List Cell) (from count i : ℕ) → i < count → getD (part cs from count) i noCell ≡ getD cs (from + i) noCell
@@ -167,3 +168,143 @@ module _ (f : Cell → Bool) (cs : List Cell) (first i j : ℕ) (h : j < i) (l :
 
 pub earlier-end : (f : Cell → Bool) (cs : List Cell) (first i j : ℕ) → i ≤ j → true ≡ not (any f (drop j (take i (drop first cs))))
 earlier-end f cs first i j h = rw (drop-of-length-le (take i (drop first cs)) {i = j} (simp length-take (omega arith)))
+
+-- a place of a table is a cell of the job
+pub place-inside : (z : Sizes) (k i : ℕ) → k < 10 → i < getD (countsOf z) k 0 → cellNumber z k + i < cellCount z
+place-inside z zero i h l = omega arith
+place-inside z (suc zero) i h l = omega arith
+place-inside z (suc (suc zero)) i h l = omega arith
+place-inside z (suc (suc (suc zero))) i h l = omega arith
+place-inside z (suc (suc (suc (suc zero)))) i h l = omega arith
+place-inside z (suc (suc (suc (suc (suc zero))))) i h l = omega arith
+place-inside z (suc (suc (suc (suc (suc (suc zero)))))) i h l = omega arith
+place-inside z (suc (suc (suc (suc (suc (suc (suc zero))))))) i h l = omega arith
+place-inside z (suc (suc (suc (suc (suc (suc (suc (suc zero)))))))) i h l = omega arith
+place-inside z (suc (suc (suc (suc (suc (suc (suc (suc (suc zero))))))))) i h l = omega arith
+place-inside z (suc (suc (suc (suc (suc (suc (suc (suc (suc (suc k)))))))))) i h l = absurd (omega arith)
+
+-- a table's cell before which none is the same
+pub first-in : (z : Sizes) (cs : List Cell) (same : Cell → Cell → Bool) (k first i : ℕ) → k < 10 → first ≡ cellNumber z k → i < getD (countsOf z) k 0
+    → firstAmong same cs first i ≡ isFirst same (getD (tableList (tablesIn z cs)) k []) i (getD cs (first + i) noCell)
+first-in z cs same k first i h e l =
+    let n = getD (countsOf z) k 0 in
+    let t : getD (tableList (tablesIn z cs)) k [] ≡ part cs first n = table-is z cs k h ∙ ap (λ (f : ℕ). part cs f n) (sym e) in
+    let c = getD cs (first + i) noCell in
+    ap (λ (l : List Cell). not (any (λ x. same x c) l)) (sym (take-take i n (drop first cs) (omega arith))) ∙ ap (λ (l : List Cell). isFirst same l i c) (sym t)
+
+pub once-other : (t : Tables) (k i : ℕ) (c : Cell) → (k ≡ 9 → ⊥) → (k ≡ 0 → ⊥) → (k ≡ 6 → ⊥) → (k ≡ 7 → ⊥) → true ≡ getD (onceTests t) k passed i c
+once-other t zero i c a b d e = absurd (b refl)
+once-other t (suc zero) i c a b d e = refl
+once-other t (suc (suc zero)) i c a b d e = refl
+once-other t (suc (suc (suc zero))) i c a b d e = refl
+once-other t (suc (suc (suc (suc zero)))) i c a b d e = refl
+once-other t (suc (suc (suc (suc (suc zero))))) i c a b d e = refl
+once-other t (suc (suc (suc (suc (suc (suc zero)))))) i c a b d e = absurd (d refl)
+once-other t (suc (suc (suc (suc (suc (suc (suc zero))))))) i c a b d e = absurd (e refl)
+once-other t (suc (suc (suc (suc (suc (suc (suc (suc zero)))))))) i c a b d e = refl
+once-other t (suc (suc (suc (suc (suc (suc (suc (suc (suc zero))))))))) i c a b d e = absurd (a refl)
+once-other t (suc (suc (suc (suc (suc (suc (suc (suc (suc (suc k)))))))))) i c a b d e = refl
+
+-- rounds past the third
+pub last-round : (k : ℕ) (z : Sizes) (t : Tables) → (k ≡ 0 → ⊥) → (k ≡ 1 → ⊥) → (k ≡ 2 → ⊥) → onceTests t ≡ testsFor k z t
+last-round zero z t a b d = absurd (a refl)
+last-round (suc zero) z t a b d = absurd (b refl)
+last-round (suc (suc zero)) z t a b d = absurd (d refl)
+last-round (suc (suc (suc k))) z t a b d = refl
+
+pub number-count : (z : Sizes) (k : ℕ) → k < 10 → cellNumber z k + getD (countsOf z) k 0 ≤ cellCount z
+number-count z zero h = omega arith
+number-count z (suc zero) h = omega arith
+number-count z (suc (suc zero)) h = omega arith
+number-count z (suc (suc (suc zero))) h = omega arith
+number-count z (suc (suc (suc (suc zero)))) h = omega arith
+number-count z (suc (suc (suc (suc (suc zero))))) h = omega arith
+number-count z (suc (suc (suc (suc (suc (suc zero)))))) h = omega arith
+number-count z (suc (suc (suc (suc (suc (suc (suc zero))))))) h = omega arith
+number-count z (suc (suc (suc (suc (suc (suc (suc (suc zero)))))))) h = omega arith
+number-count z (suc (suc (suc (suc (suc (suc (suc (suc (suc zero))))))))) h = omega arith
+number-count z (suc (suc (suc (suc (suc (suc (suc (suc (suc (suc k)))))))))) h = absurd (omega arith)
+
+module _ (z : Sizes) (cs : List Cell) (n : length cs ≡ cellCount z) (k : ℕ) (h : k < 10) where
+  pub table-length : length (getD (tableList (tablesIn z cs)) k []) ≡ getD (countsOf z) k 0
+  table-length = rw (table-is z cs k h) (simp (length-take, length-drop) (omega (arith, number-count z k h)))
+
+  pub table-cell : (i : ℕ) → i < getD (countsOf z) k 0 → getD (getD (tableList (tablesIn z cs)) k []) i noCell ≡ getD cs (cellNumber z k + i) noCell
+  table-cell i l = ap (λ (t : List Cell). getD t i noCell) (table-is z cs k h) ∙ part-at cs (cellNumber z k) (getD (countsOf z) k 0) i l
+
+-- one cell of a table after another
+module _ (f : ℕ → Cell → Bool) (t : List Cell) (first i : ℕ) where
+  fails-step : i < length t → failsFrom i f (drop i t) ≡ not (f i (getD t i noCell)) ∷ failsFrom (i + 1) f (drop (i + 1) t)
+  fails-step h = rw (drop-cons t i noCell h, add-one)
+
+  pub found-yes : i < length t → f i (getD t i noCell) ≡ false → Found.At (first + i) ≡ firstFound (first + i) (failsFrom i f (drop i t))
+  unfolding firstFound
+  found-yes h e = rw (fails-step h, e)
+
+  pub found-no : i < length t → f i (getD t i noCell) ≡ true → firstFound (first + i) (failsFrom i f (drop i t)) ≡ firstFound (first + (i + 1)) (failsFrom (i + 1) f (drop (i + 1) t))
+  unfolding firstFound
+  found-no h e = let s : suc (first + i) ≡ first + (i + 1) = omega arith in rw (fails-step h, e) (ap (λ (j : ℕ). firstFound j (failsFrom (i + 1) f (drop (i + 1) t))) s)
+
+  pub found-end : length t ≤ i → Found.Nothing ≡ firstFound (first + i) (failsFrom i f (drop i t))
+  unfolding firstFound
+  found-end h = rw (drop-of-length-le t h)
+
+pub fails-length : (f : ℕ → Cell → Bool) (i : ℕ) (t : List Cell) → length (failsFrom i f t) ≡ length t
+fails-length f i [] = refl
+fails-length f i (c ∷ cs) = ap suc (fails-length f (suc i) cs)
+
+-- the first mark of two lists
+pub found-left : (ms ns : List Bool) (i j : ℕ) → firstFound i ms ≡ Found.At j → firstFound i (ms ++ ns) ≡ Found.At j
+unfolding firstFound
+found-left [] ns i j e = let z : _≡_ {A = ℕ} 0 1 = cc in absurd (omega arith)
+found-left (true ∷ ms) ns i j e = e
+found-left (false ∷ ms) ns i j e = found-left ms ns (suc i) j e
+
+pub found-right : (ms ns : List Bool) (i : ℕ) → firstFound i ms ≡ Found.Nothing → firstFound i (ms ++ ns) ≡ firstFound (i + length ms) ns
+unfolding firstFound
+found-right [] ns i e = ap (λ (j : ℕ). firstFound j ns) (plus-zero i)
+  where
+    plus-zero : (i : ℕ) → i ≡ i + 0
+    plus-zero i = omega arith
+found-right (true ∷ ms) ns i e = let z : _≡_ {A = ℕ} 0 1 = cc in absurd (omega arith)
+found-right (false ∷ ms) ns i e = found-right ms ns (suc i) e ∙ ap (λ (j : ℕ). firstFound j ns) (shift i (length ms))
+  where
+    shift : (i n : ℕ) → suc i + n ≡ i + suc n
+    shift i n = omega arith
+
+-- one table after another
+marks-step : (fs : List (ℕ → Cell → Bool)) (ts : List (List Cell)) (k : ℕ) → k < length fs → k < length ts
+    → marks (drop k fs) (drop k ts) ≡ failsFrom 0 (getD fs k passed) (getD ts k []) ++ marks (drop (k + 1) fs) (drop (k + 1) ts)
+marks-step fs ts k h l = rw (drop-cons fs k passed h, drop-cons ts k [] l, add-one)
+
+module _ (fs : List (ℕ → Cell → Bool)) (ts : List (List Cell)) (k first : ℕ) (h : k < length fs) (l : k < length ts) where
+  pub tables-yes : (j : ℕ) → firstFound first (failsFrom 0 (getD fs k passed) (getD ts k [])) ≡ Found.At j → firstFound first (marks (drop k fs) (drop k ts)) ≡ Found.At j
+  tables-yes j e = ap (firstFound first) (marks-step fs ts k h l) ∙ found-left _ _ first j e
+
+  pub tables-no : firstFound first (failsFrom 0 (getD fs k passed) (getD ts k [])) ≡ Found.Nothing
+      → firstFound first (marks (drop k fs) (drop k ts)) ≡ firstFound (first + length (getD ts k [])) (marks (drop (k + 1) fs) (drop (k + 1) ts))
+  tables-no e = ap (firstFound first) (marks-step fs ts k h l) ∙ found-right _ _ first e
+      ∙ ap (λ (n : ℕ). firstFound (first + n) (marks (drop (k + 1) fs) (drop (k + 1) ts))) (fails-length (getD fs k passed) 0 (getD ts k []))
+
+pub tests-ten : (round : ℕ) (z : Sizes) (t : Tables) → length (testsFor round z t) ≡ 10
+tests-ten zero z t = refl
+tests-ten (suc zero) z t = refl
+tests-ten (suc (suc zero)) z t = refl
+tests-ten (suc (suc (suc k))) z t = refl
+
+pub tables-end : (round : ℕ) (z : Sizes) (t : Tables) (first : ℕ) → Found.Nothing ≡ firstFound first (marks (drop 10 (testsFor round z t)) (drop 10 (tableList t)))
+unfolding firstFound
+tables-end round z t first = rw (drop-of-length-le (testsFor round z t) {i = 10} (omega (arith, tests-ten round z t)))
+
+pub number-next : (z : Sizes) (k : ℕ) → k < 10 → cellNumber z k + getD (countsOf z) k 0 ≡ cellNumber z (k + 1)
+number-next z zero h = omega arith
+number-next z (suc zero) h = omega arith
+number-next z (suc (suc zero)) h = omega arith
+number-next z (suc (suc (suc zero))) h = omega arith
+number-next z (suc (suc (suc (suc zero)))) h = omega arith
+number-next z (suc (suc (suc (suc (suc zero))))) h = omega arith
+number-next z (suc (suc (suc (suc (suc (suc zero)))))) h = omega arith
+number-next z (suc (suc (suc (suc (suc (suc (suc zero))))))) h = omega arith
+number-next z (suc (suc (suc (suc (suc (suc (suc (suc zero)))))))) h = omega arith
+number-next z (suc (suc (suc (suc (suc (suc (suc (suc (suc zero))))))))) h = omega arith
+number-next z (suc (suc (suc (suc (suc (suc (suc (suc (suc (suc k)))))))))) h = absurd (omega arith)

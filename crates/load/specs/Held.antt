@@ -106,3 +106,13 @@ firstFound i (false ∷ ms) = firstFound (suc i) ms
 -- The tests of the tables for 6, 7, 8 and 9.
 abbrev pub testsFor : ℕ → Sizes → Tables → List (ℕ → Cell → Bool)
 testsFor round z t = getD (fitTests t ∷ referTests z ∷ validTests t ∷ []) round (onceTests t)
+
+-- Cell number i of the job.
+abbrev pub cellHeld : List ℕ → List ℕ → List ℕ → SizesHeld → ℕ → Cell
+cellHeld K E P z i = getD (cellsOf K E P (cellCount (sizesIn z))) i noCell
+
+-- Place i of table k, whose first cell has the number n.
+pub record Place (z : SizesHeld) (k n i : ℕ) : Type 0 where
+  pub table : k < 10
+  pub first : n ≡ cellNumber (sizesIn z) k
+  pub inside : i < getD (countsOf (sizesIn z)) k 0

@@ -79,11 +79,7 @@ pub fn rule_fits(kind: u32, ws: &[u32]) -> bool
     let n = wide(at(ws, 1));
     let operands = rest(ws, 2);
     let actions = rest(operands, n);
-    (kind == 0)
-        & (2 <= ws.len())
-        & (n <= operands.len())
-        & (n <= 16)
-        & (actions.len() <= 64)
+    (kind == 0) & (2 <= ws.len()) & (n <= operands.len()) & (n <= 16) & (actions.len() <= 64)
 }
 
 // The words of a rule's proof behind its premises are pairs, at most 32.

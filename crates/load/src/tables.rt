@@ -2,26 +2,29 @@
 use crate::fit;
 use crate::once;
 use crate::refer;
-use crate::sizes::cell_count;
 use crate::sizes::Sizes;
+use crate::sizes::cell_count;
+use crate::sizes::counts;
 use crate::words::all_below;
 use crate::words::at;
 use crate::words::rest;
+use cells::Fill;
+use cells::Found;
 use cells::same_words;
 use cells::wide;
 use cells::words;
-use cells::Fill;
 ghost use mathlib.Core.Path.{_≡_};
 ghost use mathlib.Core.Bool.{Bool, true, false};
 ghost use Prim.Native.Nat.{ℕ, _+_, _<_, _≤_};
 ghost use lib.ListN.{length, getD};
+ghost use mathlib.Core.List.{[]};
 ghost use Rattle.model.specs.Cell.{Cell, noCell};
-ghost use Rattle.model.specs.Load.{counts, setFits, actionFits, passed, fitTests, referTests, validTests, onceTests, validates, bindsOnce};
+ghost use Rattle.model.specs.Load.{counts as operandCounts, failsFrom, marks, setFits, actionFits, passed, fitTests, referTests, validTests, onceTests, validates, bindsOnce};
 ghost use Rattle.model.specs.Cell.{cellsOf};
-ghost use Rattle.model.specs.Layout.{cellCount};
+ghost use Rattle.model.specs.Layout.{cellCount, tableList};
 ghost use Rattle.model.specs.Program.{substitution};
 ghost use Rattle.model.specs.Decode.{readProof};
-ghost use Rattle.load.specs.Held.{sizesIn, fillOf, Limits, Held, tablesFor, fixedCounts, alikeBy, firstAmong, cellNumber};
+ghost use Rattle.load.specs.Held.{sizesIn, fillOf, Limits, Held, tablesFor, fixedCounts, alikeBy, firstAmong, cellHeld, Place, testsFor, firstFound, countsOf, cellNumber};
 
 // How much the job's arrays hold.
 pub fn fill(z: Sizes) -> Fill
@@ -105,7 +108,7 @@ pub fn fits(
 
 // 6, for the tables whose kinds have each one operand count.
 pub fn fixed_fits(table: usize, kind: u32, ws: &[u32]) -> bool
-    ensures { λ r. ⌜ r ≡ counts (fixedCounts table) (record { kind = kind; words = now (ws .entry) }) ⌝ }
+    ensures { λ r. ⌜ r ≡ operandCounts (fixedCounts table) (record { kind = kind; words = now (ws .entry) }) ⌝ }
 {
     if table == 2 {
         let ns: [u32; 2] = [2, 1];
@@ -172,14 +175,7 @@ pub fn has_validator(kinds: &[u32], ends: &[u32], pool: &[u32], z: Sizes, p: usi
 }
 
 // 8, by table.
-pub fn valid(
-    kinds: &[u32],
-    ends: &[u32],
-    pool: &[u32],
-    z: Sizes,
-    table: usize,
-    ws: &[u32],
-) -> bool
+pub fn valid(kinds: &[u32], ends: &[u32], pool: &[u32], z: Sizes, table: usize, ws: &[u32]) -> bool
     requires { ⌜ Held (now kinds) (now ends) (now pool) z ⌝ }
     ensures { λ r. ⌜ ((i kind : ℕ) → r ≡ getD (validTests (tablesFor (now (kinds .entry)) (now (ends .entry)) (now (pool .entry)) z)) table passed i (record { kind = kind; words = now (ws .entry) })) ⌝ }
 {
@@ -226,7 +222,13 @@ pub fn is_first(
     let mut j = 0;
     while j < i {
         let k = first + j;
-        if alike(table, kinds[k], words(kinds, ends, pool, f, k), kind, words(kinds, ends, pool, f, at)) {
+        if alike(
+            table,
+            kinds[k],
+            words(kinds, ends, pool, f, k),
+            kind,
+            words(kinds, ends, pool, f, at),
+        ) {
             return false;
         }
         j += 1;
@@ -243,4 +245,114 @@ pub fn proof_once(kind: u32, ws: &[u32]) -> bool
         return once::binds_once(rest(rest(ws, 4), m));
     }
     true
+}
+
+// 9, by table.
+pub fn once(
+    kinds: &[u32],
+    ends: &[u32],
+    pool: &[u32],
+    z: Sizes,
+    table: usize,
+    first: usize,
+    i: usize,
+    kind: u32,
+    ws: &[u32],
+) -> bool
+    requires { ⌜ Held (now kinds) (now ends) (now pool) z ⌝ }
+    requires { ⌜ Place z table first i ⌝ }
+    requires { ⌜ record { kind = kind; words = now ws } ≡ cellHeld (now kinds) (now ends) (now pool) z (first + i) ⌝ }
+    ensures { λ r. ⌜ r ≡ getD (onceTests (tablesFor (now (kinds .entry)) (now (ends .entry)) (now (pool .entry)) z)) table passed i (cellHeld (now (kinds .entry)) (now (ends .entry)) (now (pool .entry)) z (first + i)) ⌝ }
+{
+    if table == 9 {
+        return proof_once(kind, ws);
+    }
+    if table == 0 {
+        return is_first(kinds, ends, pool, z, table, first, i);
+    }
+    if table == 6 {
+        return is_first(kinds, ends, pool, z, table, first, i);
+    }
+    if table == 7 {
+        return is_first(kinds, ends, pool, z, table, first, i);
+    }
+    true
+}
+
+// The cell at place i of a table passes its test: 6, 7, 8 and 9 are rounds 0 to 3.
+pub fn passes(
+    kinds: &[u32],
+    ends: &[u32],
+    pool: &[u32],
+    z: Sizes,
+    round: usize,
+    table: usize,
+    first: usize,
+    i: usize,
+) -> bool
+    requires { ⌜ Held (now kinds) (now ends) (now pool) z ⌝ }
+    requires { ⌜ Place z table first i ⌝ }
+    ensures { λ r. ⌜ r ≡ getD (testsFor round (sizesIn z) (tablesFor (now (kinds .entry)) (now (ends .entry)) (now (pool .entry)) z)) table passed i (cellHeld (now (kinds .entry)) (now (ends .entry)) (now (pool .entry)) z (first + i)) ⌝ }
+{
+    let f = fill(z);
+    let at = first + i;
+    let kind = kinds[at];
+    let ws = words(kinds, ends, pool, f, at);
+    if round == 0 {
+        return fits(kinds, ends, pool, z, table, kind, ws);
+    }
+    if round == 1 {
+        return refers(z, table, i, kind, ws);
+    }
+    if round == 2 {
+        return valid(kinds, ends, pool, z, table, ws);
+    }
+    once(kinds, ends, pool, z, table, first, i, kind, ws)
+}
+
+// The first cell of a table that fails its test.
+pub fn first_failing(
+    kinds: &[u32],
+    ends: &[u32],
+    pool: &[u32],
+    z: Sizes,
+    round: usize,
+    table: usize,
+    first: usize,
+    count: usize,
+) -> Found
+    requires { ⌜ Held (now kinds) (now ends) (now pool) z ⌝ }
+    requires { ⌜ table < 10 ⌝ }
+    requires { ⌜ first ≡ cellNumber (sizesIn z) table ⌝ }
+    requires { ⌜ count ≡ getD (countsOf (sizesIn z)) table 0 ⌝ }
+    ensures { λ r. ⌜ r ≡ firstFound first (failsFrom 0 (getD (testsFor round (sizesIn z) (tablesFor (now (kinds .entry)) (now (ends .entry)) (now (pool .entry)) z)) table passed) (getD (tableList (tablesFor (now (kinds .entry)) (now (ends .entry)) (now (pool .entry)) z)) table [])) ⌝ }
+{
+    let mut i = 0;
+    while i < count {
+        if !passes(kinds, ends, pool, z, round, table, first, i) {
+            return Found::At(first + i);
+        }
+        i += 1;
+    }
+    Found::Nothing
+}
+
+// The first cell of all tables that fails its table's test.
+pub fn first_marked(kinds: &[u32], ends: &[u32], pool: &[u32], z: Sizes, round: usize) -> Found
+    requires { ⌜ Held (now kinds) (now ends) (now pool) z ⌝ }
+    ensures { λ r. ⌜ r ≡ firstFound 0 (marks (testsFor round (sizesIn z) (tablesFor (now (kinds .entry)) (now (ends .entry)) (now (pool .entry)) z)) (tableList (tablesFor (now (kinds .entry)) (now (ends .entry)) (now (pool .entry)) z))) ⌝ }
+{
+    let ns = counts(z);
+    let mut first = 0;
+    let mut table = 0;
+    while table < 10 {
+        let n = ns[table];
+        let f = first_failing(kinds, ends, pool, z, round, table, first, n);
+        if let Found::At(_) = f {
+            return f;
+        }
+        first += n;
+        table += 1;
+    }
+    Found::Nothing
 }

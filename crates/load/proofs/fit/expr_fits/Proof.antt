@@ -8,27 +8,19 @@ use Rattle.load.proofs.Laws.{past, call-kind, expr-unknown}
 use borrow.Author.Needs.{needs}
 use Rattle.load.proofs.fit.expr_fits.Statement.{statement}
 use Rattle.load.proofs.fit.expr_fits.Tie as tie
-use Rattle.load.proofs.fit.expr_fits.Reads as reads
-use Rattle.load.proofs.fit.expr_fits.Lts as lts
-use Rattle.load.proofs.fit.literal_fits.Reads as literal-fits-reads
 
--- src/fit.rt:59:9
 literal-fits-requires : tie.Need-literal-fits-requires
 literal-fits-requires c κs = search needs
 
--- src/fit.rt:59:9
 returns : tie.Need-returns
 returns c = rw (c .before .if1 .taken) (c .literal-fits .ensures 0)
 
--- src/fit.rt:62:9
 returns-2 : tie.Need-returns-2
 returns-2 c = rw (c .if2 .taken)
 
--- src/fit.rt:65:9
 returns-3 : tie.Need-returns-3
 returns-3 c = call-kind _ _ _ (c .before .before .before .before .args .kind) (omega arith) (omega arith)
 
--- src/fit.rt:54:1
 returns-4 : tie.Need-returns-4
 returns-4 c = expr-unknown (c .before .before .before .before .args .kind) (c .before .before .before .before .args .ws .now) (omega arith)
 

@@ -13,43 +13,32 @@ use Rattle.load.proofs.Laws.{past, and-true, and-false, literal-unknown
 use borrow.Author.Needs.{needs}
 use Rattle.load.proofs.fit.literal_fits.Statement.{statement}
 use Rattle.load.proofs.fit.literal_fits.Tie as tie
-use Rattle.load.proofs.fit.literal_fits.Reads as reads
-use Rattle.load.proofs.fit.literal_fits.Lts as lts
-use Rattle.load.proofs.words.at.Reads as at-reads
 
--- src/fit.rt:20:9
 at-requires : tie.Need-at-requires
 at-requires c κs = search needs
 
--- src/fit.rt:21:9
 at-requires-2 : tie.Need-at-requires-2
 at-requires-2 c κs = search needs
 
--- src/fit.rt:22:9
 at-requires-3 : tie.Need-at-requires-3
 at-requires-3 c κs = search needs
 
--- src/fit.rt:24:9
 returns : tie.Need-returns
 returns c = let e : getD (c .before .before .before .before .before .args .ws .now) 0 0 ≡ 0 = sym (c .before .before .before .at .ensures) ∙ c .if1 .taken in
     λ kind. rw (c .before .before .at2 .ensures, c .before .at3 .ensures, e)
 
--- src/fit.rt:27:9
 returns-2 : tie.Need-returns-2
 returns-2 c = let e : getD (c .before .before .before .before .before .before .args .ws .now) 0 0 ≡ 1 = sym (c .before .before .before .before .at .ensures) ∙ c .if2 .taken in
     λ kind. rw (c .before .before .before .at2 .ensures, c .before .before .at3 .ensures, e)
 
--- src/fit.rt:30:9
 returns-3 : tie.Need-returns-3
 returns-3 c = let e : getD (c .before .before .before .before .before .before .before .args .ws .now) 0 0 ≡ 2 = sym (c .before .before .before .before .before .at .ensures) ∙ c .if3 .taken in
     λ kind. rw (e, and-true)
 
--- src/fit.rt:33:9
 returns-4 : tie.Need-returns-4
 returns-4 c = let e : getD (c .before .before .before .before .before .before .before .before .args .ws .now) 0 0 ≡ 3 = sym (c .before .before .before .before .before .before .at .ensures) ∙ c .if4 .taken in
     λ kind. rw (c .before .before .before .before .at3 .ensures, e)
 
--- src/fit.rt:17:1
 returns-5 : tie.Need-returns-5
 returns-5 c = let ws = c .before .before .before .before .before .before .before .before .args .ws .now in
     let e : getD ws 0 0 ≡ c .before .before .before .before .before .before .at .result = sym (c .before .before .before .before .before .before .at .ensures) in

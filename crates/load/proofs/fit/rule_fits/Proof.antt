@@ -1,29 +1,19 @@
 use borrow.Author.Needs.{needs}
 use Rattle.load.proofs.fit.rule_fits.Statement.{statement}
 use Rattle.load.proofs.fit.rule_fits.Tie as tie
-use Rattle.load.proofs.fit.rule_fits.Reads as reads
-use Rattle.load.proofs.fit.rule_fits.Lts as lts
-use Rattle.cells.proofs.wide.Reads as wide-reads
-use Rattle.load.proofs.words.at.Reads as at-reads
-use Rattle.load.proofs.words.rest.Reads as rest-reads
 
--- src/fit.rt:79:18
 at-requires : tie.Need-at-requires
 at-requires c κs = search needs
 
--- src/fit.rt:79:9
 wide-requires : tie.Need-wide-requires
 wide-requires c κs = search needs
 
--- src/fit.rt:80:9
 rest-requires : tie.Need-rest-requires
 rest-requires c κs = search needs
 
--- src/fit.rt:81:9
 rest-requires-2 : tie.Need-rest-requires-2
 rest-requires-2 c κs = search needs
 
--- src/fit.rt:76:1
 returns : tie.Need-returns
 returns c = rw (c .rest2 .ensures, c .before .rest .ensures, c .before .before .wide .ensures, c .before .before .before .at .ensures)
 

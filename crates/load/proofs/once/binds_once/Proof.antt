@@ -12,10 +12,6 @@ use Rattle.load.proofs.Laws.{once-no, once-yes, once-end}
 use Rattle.model.specs.Load.{any, bindsOnce}
 use Rattle.load.proofs.once.binds_once.Statement.{statement}
 use Rattle.load.proofs.once.binds_once.Tie as tie
-use Rattle.load.proofs.once.binds_once.Reads as reads
-use Rattle.load.proofs.once.binds_once.Lts as lts
-use Rattle.load.proofs.once.is_bound.Reads as is-bound-reads
-use Rattle.load.proofs.words.rest.Reads as rest-reads
 
 abbrev Inv-loop : tie.InvT-loop
 Inv-loop ws len k₀ k = (1 ≤ k) × (k ≤ length ws + 1) × (bindsOnce (readBindings ws) ≡ bindsOnce (readBindings (drop (k - 1) ws)))
@@ -23,57 +19,45 @@ Inv-loop ws len k₀ k = (1 ≤ k) × (k ≤ length ws + 1) × (bindsOnce (readB
 abbrev μ-loop : tie.MeasureT-loop
 μ-loop ws len k₀ k = length ws + 1 - k
 
--- src/once.rt:48:5
 loop-holds : tie.Need-loop-holds Inv-loop μ-loop
 loop-holds c = (omega arith, omega arith, refl)
 
--- src/once.rt:49:24
 sub-is-bound : tie.Need-sub-is-bound Inv-loop μ-loop
 sub-is-bound c = omega arith
 
--- src/once.rt:49:21
 mul-is-bound : tie.Need-mul-is-bound Inv-loop μ-loop
 mul-is-bound c = omega arith
 
--- src/once.rt:49:21
 shared-slice-read-is-bound : tie.Need-shared-slice-read-is-bound Inv-loop μ-loop
 shared-slice-read-is-bound c = omega arith
 
--- src/once.rt:49:41
 add-rest : tie.Need-add-rest Inv-loop μ-loop
 add-rest c = omega arith
 
--- src/once.rt:49:32
 rest-requires : tie.Need-rest-requires Inv-loop μ-loop
 rest-requires c κs = search needs
 
--- src/once.rt:49:12
 is-bound-requires : tie.Need-is-bound-requires Inv-loop μ-loop
 is-bound-requires c κs = search needs
 
--- src/once.rt:50:13
 returns : tie.Need-returns Inv-loop μ-loop
 returns c = let ws = c .before .before .before .before .before .before .before .args .ws .now in
     let l = c .before .before .before .before .before .loop in
     let e = c .before .is-bound .ensures ∙ ap (λ (us : List ℕ). any (λ b. eqb (getD ws (l .k - 1) 0) (b .name)) (readBindings us)) (c .before .before .rest .ensures) in
     once-no ws (l .k) (l .inv .0) (c .before .is-bound .result) (omega arith) e (c .if1 .taken) ∙ sym (l .inv .2)
 
--- src/once.rt:52:9
 add-k : tie.Need-add-k Inv-loop μ-loop
 add-k c = omega arith
 
--- src/once.rt:48:5
 loop-less : tie.Need-loop-less Inv-loop μ-loop
 loop-less c = omega arith
 
--- src/once.rt:48:5
 loop-again : tie.Need-loop-again Inv-loop μ-loop
 loop-again c = let ws = c .before .before .before .before .before .before .before .args .ws .now in
     let l = c .before .before .before .before .before .loop in
     let e = c .before .is-bound .ensures ∙ ap (λ (us : List ℕ). any (λ b. eqb (getD ws (l .k - 1) 0) (b .name)) (readBindings us)) (c .before .before .rest .ensures) in
     (omega arith, omega arith, l .inv .2 ∙ once-yes ws (l .k) (l .inv .0) (c .before .is-bound .result) (omega arith) e (c .if1 .left))
 
--- src/once.rt:43:1
 returns-2 : tie.Need-returns-2 Inv-loop μ-loop
 returns-2 c = let l = c .before .loop in
     once-end (c .before .before .before .args .ws .now) (l .k) (l .inv .0) (omega arith) ∙ sym (l .inv .2)

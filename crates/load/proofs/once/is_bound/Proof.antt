@@ -11,8 +11,6 @@ use Rattle.model.specs.Load.{any}
 use Rattle.model.specs.Program.{Binding}
 use Rattle.load.proofs.once.is_bound.Statement.{statement}
 use Rattle.load.proofs.once.is_bound.Tie as tie
-use Rattle.load.proofs.once.is_bound.Reads as reads
-use Rattle.load.proofs.once.is_bound.Lts as lts
 
 abbrev Inv-loop : tie.InvT-loop
 Inv-loop name ws len k₀ k = (1 ≤ k) × (k ≤ length ws + 1) × (any (λ b. eqb name (b .name)) (readBindings ws) ≡ any (λ b. eqb name (b .name)) (readBindings (drop (k - 1) ws)))
@@ -20,43 +18,34 @@ Inv-loop name ws len k₀ k = (1 ≤ k) × (k ≤ length ws + 1) × (any (λ b. 
 abbrev μ-loop : tie.MeasureT-loop
 μ-loop name ws len k₀ k = length ws + 1 - k
 
--- src/once.rt:33:5
 loop-holds : tie.Need-loop-holds Inv-loop μ-loop
 loop-holds c = (omega arith, omega arith, refl)
 
--- src/once.rt:34:23
 sub-if1 : tie.Need-sub-if1 Inv-loop μ-loop
 sub-if1 c = omega arith
 
--- src/once.rt:34:20
 mul-if1 : tie.Need-mul-if1 Inv-loop μ-loop
 mul-if1 c = omega arith
 
--- src/once.rt:34:20
 shared-slice-read-if1 : tie.Need-shared-slice-read-if1 Inv-loop μ-loop
 shared-slice-read-if1 c = omega arith
 
--- src/once.rt:35:13
 returns : tie.Need-returns Inv-loop μ-loop
 returns c = let a = c .before .before .before .before .args in
     let l = c .before .before .before .loop in
     bound-yes (a .ws .now) (l .k) (l .inv .0) (a .name) (omega arith) (c .if1 .taken) ∙ sym (l .inv .2)
 
--- src/once.rt:37:9
 add-k : tie.Need-add-k Inv-loop μ-loop
 add-k c = omega arith
 
--- src/once.rt:33:5
 loop-less : tie.Need-loop-less Inv-loop μ-loop
 loop-less c = omega arith
 
--- src/once.rt:33:5
 loop-again : tie.Need-loop-again Inv-loop μ-loop
 loop-again c = let a = c .before .before .before .before .args in
     let l = c .before .before .before .loop in
     (omega arith, omega arith, l .inv .2 ∙ bound-no (a .ws .now) (l .k) (l .inv .0) (a .name) (omega arith) (c .if1 .left))
 
--- src/once.rt:28:1
 returns-2 : tie.Need-returns-2 Inv-loop μ-loop
 returns-2 c = let a = c .before .before .args in
     let l = c .before .loop in

@@ -1,19 +1,13 @@
 use borrow.Author.Needs.{needs}
 use Rattle.load.proofs.once.same_head.Statement.{statement}
 use Rattle.load.proofs.once.same_head.Tie as tie
-use Rattle.load.proofs.once.same_head.Reads as reads
-use Rattle.load.proofs.once.same_head.Lts as lts
-use Rattle.load.proofs.words.at.Reads as at-reads
 
--- src/once.rt:24:5
 at-requires : tie.Need-at-requires
 at-requires c κs = search needs
 
--- src/once.rt:24:17
 at-requires-2 : tie.Need-at-requires-2
 at-requires-2 c κs = search needs
 
--- src/once.rt:21:1
 returns : tie.Need-returns
 returns c = λ j k. rw (c .at2 .ensures, c .before .at .ensures)
 

@@ -2,28 +2,19 @@ use Rattle.load.proofs.Laws.{action-other}
 use borrow.Author.Needs.{needs}
 use Rattle.load.proofs.refer.action_refers.Statement.{statement}
 use Rattle.load.proofs.refer.action_refers.Tie as tie
-use Rattle.load.proofs.refer.action_refers.Reads as reads
-use Rattle.load.proofs.refer.action_refers.Lts as lts
-use Rattle.load.proofs.words.all_below.Reads as all-below-reads
-use Rattle.load.proofs.words.rest.Reads as rest-reads
 
--- src/refer.rt:43:39
 rest-requires : tie.Need-rest-requires
 rest-requires c κs = search needs
 
--- src/refer.rt:43:9
 all-below-requires : tie.Need-all-below-requires
 all-below-requires c κs = search needs
 
--- src/refer.rt:43:9
 returns : tie.Need-returns
 returns c = rw (c .before .before .if1 .taken, c .all-below .ensures, c .before .rest .ensures)
 
--- src/refer.rt:45:5
 all-below-requires-2 : tie.Need-all-below-requires-2
 all-below-requires-2 c κs = search needs
 
--- src/refer.rt:39:1
 returns-2 : tie.Need-returns-2
 returns-2 c = let a = c .before .before .before .args in rw (c .all-below2 .ensures) (action-other (a .expressions) (a .ws .now) (a .kind) (c .before .if1 .left))
 

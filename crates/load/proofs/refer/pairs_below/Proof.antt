@@ -11,9 +11,6 @@ use Rattle.model.specs.Load.{below}
 use Rattle.model.specs.Program.{Binding}
 use Rattle.load.proofs.refer.pairs_below.Statement.{statement}
 use Rattle.load.proofs.refer.pairs_below.Tie as tie
-use Rattle.load.proofs.refer.pairs_below.Reads as reads
-use Rattle.load.proofs.refer.pairs_below.Lts as lts
-use Rattle.cells.proofs.wide.Reads as wide-reads
 
 abbrev Inv-loop : tie.InvT-loop
 Inv-loop n ws len k₀ k = (1 ≤ k) × (k ≤ length ws + 1) × (below n (map (λ b. b .term) (readBindings ws)) ≡ below n (map (λ b. b .term) (readBindings (drop (k - 1) ws))))
@@ -21,43 +18,34 @@ Inv-loop n ws len k₀ k = (1 ≤ k) × (k ≤ length ws + 1) × (below n (map (
 abbrev μ-loop : tie.MeasureT-loop
 μ-loop n ws len k₀ k = length ws + 1 - k
 
--- src/refer.rt:99:5
 loop-holds : tie.Need-loop-holds Inv-loop μ-loop
 loop-holds c = (omega arith, omega arith, refl)
 
--- src/refer.rt:100:22
 mul-wide : tie.Need-mul-wide Inv-loop μ-loop
 mul-wide c = omega arith
 
--- src/refer.rt:100:22
 shared-slice-read-wide : tie.Need-shared-slice-read-wide Inv-loop μ-loop
 shared-slice-read-wide c = omega arith
 
--- src/refer.rt:100:17
 wide-requires : tie.Need-wide-requires Inv-loop μ-loop
 wide-requires c κs = search needs
 
--- src/refer.rt:101:13
 returns : tie.Need-returns Inv-loop μ-loop
 returns c = let a = c .before .before .before .before .before .before .args in
     let l = c .before .before .before .before .loop in
     pairs-no (a .ws .now) (l .k) (l .inv .0) (a .n) (omega arith) (omega arith) ∙ sym (l .inv .2)
 
--- src/refer.rt:103:9
 add-k : tie.Need-add-k Inv-loop μ-loop
 add-k c = omega arith
 
--- src/refer.rt:99:5
 loop-less : tie.Need-loop-less Inv-loop μ-loop
 loop-less c = omega arith
 
--- src/refer.rt:99:5
 loop-again : tie.Need-loop-again Inv-loop μ-loop
 loop-again c = let a = c .before .before .before .before .before .before .args in
     let l = c .before .before .before .before .loop in
     (omega arith, omega arith, l .inv .2 ∙ pairs-yes (a .ws .now) (l .k) (l .inv .0) (a .n) (omega arith) (omega arith))
 
--- src/refer.rt:94:1
 returns-2 : tie.Need-returns-2 Inv-loop μ-loop
 returns-2 c = let a = c .before .before .before .args in
     let l = c .before .loop in

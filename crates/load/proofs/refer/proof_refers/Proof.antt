@@ -1,38 +1,25 @@
 use borrow.Author.Needs.{needs}
 use Rattle.load.proofs.refer.proof_refers.Statement.{statement}
 use Rattle.load.proofs.refer.proof_refers.Tie as tie
-use Rattle.load.proofs.refer.proof_refers.Reads as reads
-use Rattle.load.proofs.refer.proof_refers.Lts as lts
-use Rattle.cells.proofs.wide.Reads as wide-reads
-use Rattle.load.proofs.refer.references_below.Reads as references-below-reads
-use Rattle.load.proofs.refer.substitution_below.Reads as substitution-below-reads
-use Rattle.load.proofs.words.at.Reads as at-reads
 
--- src/refer.rt:122:20
 at-requires : tie.Need-at-requires
 at-requires c κs = search needs
 
--- src/refer.rt:122:9
 wide-requires : tie.Need-wide-requires
 wide-requires c κs = search needs
 
--- src/refer.rt:123:20
 at-requires-2 : tie.Need-at-requires-2
 at-requires-2 c κs = search needs
 
--- src/refer.rt:123:9
 wide-requires-2 : tie.Need-wide-requires-2
 wide-requires-2 c κs = search needs
 
--- src/refer.rt:124:9
 references-below-requires : tie.Need-references-below-requires
 references-below-requires c κs = search needs
 
--- src/refer.rt:125:9
 substitution-below-requires : tie.Need-substitution-below-requires
 substitution-below-requires c κs = search needs
 
--- src/refer.rt:119:1
 returns : tie.Need-returns
 returns c = rw (c .substitution-below .ensures, c .before .references-below .ensures, c .before .before .wide2 .ensures, c .before .before .before .at2 .ensures, c .before .before .before .before .wide .ensures, c .before .before .before .before .before .at .ensures)
 

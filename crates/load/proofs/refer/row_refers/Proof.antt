@@ -1,38 +1,25 @@
 use borrow.Author.Needs.{needs}
 use Rattle.load.proofs.refer.row_refers.Statement.{statement}
 use Rattle.load.proofs.refer.row_refers.Tie as tie
-use Rattle.load.proofs.refer.row_refers.Reads as reads
-use Rattle.load.proofs.refer.row_refers.Lts as lts
-use Rattle.cells.proofs.wide.Reads as wide-reads
-use Rattle.load.proofs.words.all_below.Reads as all-below-reads
-use Rattle.load.proofs.words.at.Reads as at-reads
-use Rattle.load.proofs.words.rest.Reads as rest-reads
 
--- src/refer.rt:51:38
 rest-requires : tie.Need-rest-requires
 rest-requires c κs = search needs
 
--- src/refer.rt:51:9
 all-below-requires : tie.Need-all-below-requires
 all-below-requires c κs = search needs
 
--- src/refer.rt:52:11
 at-requires : tie.Need-at-requires
 at-requires c κs = search needs
 
--- src/refer.rt:52:6
 wide-requires : tie.Need-wide-requires
 wide-requires c κs = search needs
 
--- src/refer.rt:52:44
 at-requires-2 : tie.Need-at-requires-2
 at-requires-2 c κs = search needs
 
--- src/refer.rt:52:39
 wide-requires-2 : tie.Need-wide-requires-2
 wide-requires-2 c κs = search needs
 
--- src/refer.rt:48:1
 returns : tie.Need-returns
 returns c = λ kind. rw (c .wide2 .ensures, c .before .at2 .ensures, c .before .before .wide .ensures, c .before .before .before .at .ensures, c .before .before .before .before .all-below .ensures, c .before .before .before .before .before .rest .ensures)
 

@@ -1,43 +1,28 @@
 use borrow.Author.Needs.{needs}
 use Rattle.load.proofs.refer.rule_refers.Statement.{statement}
 use Rattle.load.proofs.refer.rule_refers.Tie as tie
-use Rattle.load.proofs.refer.rule_refers.Reads as reads
-use Rattle.load.proofs.refer.rule_refers.Lts as lts
-use Rattle.cells.proofs.wide.Reads as wide-reads
-use Rattle.load.proofs.words.all_below.Reads as all-below-reads
-use Rattle.load.proofs.words.at.Reads as at-reads
-use Rattle.load.proofs.words.front.Reads as front-reads
-use Rattle.load.proofs.words.rest.Reads as rest-reads
 
--- src/refer.rt:58:18
 at-requires : tie.Need-at-requires
 at-requires c κs = search needs
 
--- src/refer.rt:58:9
 wide-requires : tie.Need-wide-requires
 wide-requires c κs = search needs
 
--- src/refer.rt:59:9
 rest-requires : tie.Need-rest-requires
 rest-requires c κs = search needs
 
--- src/refer.rt:60:37
 front-requires : tie.Need-front-requires
 front-requires c κs = search needs
 
--- src/refer.rt:60:9
 all-below-requires : tie.Need-all-below-requires
 all-below-requires c κs = search needs
 
--- src/refer.rt:61:41
 rest-requires-2 : tie.Need-rest-requires-2
 rest-requires-2 c κs = search needs
 
--- src/refer.rt:61:9
 all-below-requires-2 : tie.Need-all-below-requires-2
 all-below-requires-2 c κs = search needs
 
--- src/refer.rt:55:1
 returns : tie.Need-returns
 returns c = λ kind. rw (c .all-below2 .ensures, c .before .rest2 .ensures, c .before .before .all-below .ensures, c .before .before .before .front .ensures, c .before .before .before .before .rest .ensures, c .before .before .before .before .before .wide .ensures, c .before .before .before .before .before .before .at .ensures)
 

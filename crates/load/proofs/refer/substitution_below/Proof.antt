@@ -6,38 +6,25 @@ use Rattle.model.specs.Load.{below}
 use borrow.Author.Needs.{needs}
 use Rattle.load.proofs.refer.substitution_below.Statement.{statement}
 use Rattle.load.proofs.refer.substitution_below.Tie as tie
-use Rattle.load.proofs.refer.substitution_below.Reads as reads
-use Rattle.load.proofs.refer.substitution_below.Lts as lts
-use Rattle.cells.proofs.wide.Reads as wide-reads
-use Rattle.load.proofs.refer.pairs_below.Reads as pairs-below-reads
-use Rattle.load.proofs.words.at.Reads as at-reads
-use Rattle.load.proofs.words.rest.Reads as rest-reads
 
--- src/refer.rt:113:22
 at-requires : tie.Need-at-requires
 at-requires c κs = search needs
 
--- src/refer.rt:113:13
 wide-requires : tie.Need-wide-requires
 wide-requires c κs = search needs
 
--- src/refer.rt:114:36
 rest-requires : tie.Need-rest-requires
 rest-requires c κs = search needs
 
--- src/refer.rt:114:31
 rest-requires-2 : tie.Need-rest-requires-2
 rest-requires-2 c κs = search needs
 
--- src/refer.rt:114:9
 pairs-below-requires : tie.Need-pairs-below-requires
 pairs-below-requires c κs = search needs
 
--- src/refer.rt:114:9
 returns : tie.Need-returns
 returns c = rw (c .before .before .before .before .before .if1 .taken, c .pairs-below .ensures, c .before .rest2 .ensures, c .before .before .rest .ensures, c .before .before .before .wide .ensures, c .before .before .before .before .at .ensures)
 
--- src/refer.rt:109:1
 returns-2 : tie.Need-returns-2
 returns-2 c = let a = c .before .before .args in ap (λ (bs : List Binding). below (a .n) (map (λ b. b .term) bs)) (no-substitution (a .n) (a .ws .now) (a .kind) (c .if1 .left))
 

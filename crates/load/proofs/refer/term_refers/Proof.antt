@@ -4,24 +4,16 @@ use mathlib.Core.Path.{_≡_, refl, sym, ap, _∙_}
 use borrow.Author.Needs.{needs}
 use Rattle.load.proofs.refer.term_refers.Statement.{statement}
 use Rattle.load.proofs.refer.term_refers.Tie as tie
-use Rattle.load.proofs.refer.term_refers.Reads as reads
-use Rattle.load.proofs.refer.term_refers.Lts as lts
-use Rattle.load.proofs.words.all_below.Reads as all-below-reads
-use Rattle.load.proofs.words.rest.Reads as rest-reads
 
--- src/refer.rt:21:9
 returns : tie.Need-returns
 returns c = let a = c .before .before .args in term-leaf (a .i) (a .ws .now) (a .kind) (c .if1 .taken)
 
--- src/refer.rt:23:18
 rest-requires : tie.Need-rest-requires
 rest-requires c κs = search needs
 
--- src/refer.rt:23:5
 all-below-requires : tie.Need-all-below-requires
 all-below-requires c κs = search needs
 
--- src/refer.rt:17:1
 returns-2 : tie.Need-returns-2
 returns-2 c = let a = c .before .before .before .before .args in rw (c .all-below .ensures, c .before .rest .ensures) (term-app (a .i) (a .ws .now) (a .kind) (omega arith))
 

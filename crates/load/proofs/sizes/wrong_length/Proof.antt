@@ -9,36 +9,25 @@ use Rattle.model.specs.Layout.{Sizes, cellCount}
 use borrow.Author.Needs.{needs}
 use Rattle.load.proofs.sizes.wrong_length.Statement.{statement}
 use Rattle.load.proofs.sizes.wrong_length.Tie as tie
-use Rattle.load.proofs.sizes.wrong_length.Reads as reads
-use Rattle.load.proofs.sizes.wrong_length.Lts as lts
-use Rattle.load.proofs.sizes.cell_count.Reads as cell-count-reads
-use Rattle.load.proofs.sizes.read_sizes.Reads as read-sizes-reads
 
--- src/sizes.rt:72:9
 returns : tie.Need-returns
 returns c = rw (lt-ltb (length (c .before .before .args .job .now)) 12 (omega arith))
 
--- src/sizes.rt:74:9
 read-sizes-requires : tie.Need-read-sizes-requires
 read-sizes-requires c κs = search needs
 
--- src/sizes.rt:75:9
 cell-count-requires : tie.Need-cell-count-requires
 cell-count-requires c κs = search needs
 
--- src/sizes.rt:76:17
 mul-result : tie.Need-mul-result
 mul-result c = search needs
 
--- src/sizes.rt:76:12
 add-result : tie.Need-add-result
 add-result c = search needs
 
--- src/sizes.rt:76:12
 add-result-2 : tie.Need-add-result-2
 add-result-2 c = search needs
 
--- src/sizes.rt:67:1
 returns-2 : tie.Need-returns-2
 returns-2 c = let job = c .before .before .before .before .before .args .job .now in
     rw (le-ltb (length job) 12 (omega arith), c .before .cell-count .ensures)

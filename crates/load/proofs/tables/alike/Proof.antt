@@ -4,33 +4,22 @@ use Rattle.model.specs.Cell.{Cell, noCell, cellsOf}
 use borrow.Author.Needs.{needs}
 use Rattle.load.proofs.tables.alike.Statement.{statement}
 use Rattle.load.proofs.tables.alike.Tie as tie
-use Rattle.load.proofs.tables.alike.Reads as reads
-use Rattle.load.proofs.tables.alike.Lts as lts
-use Rattle.cells.proofs.same_words.Reads as same-words-reads
-use Rattle.load.proofs.once.same_head.Reads as same-head-reads
-use Rattle.load.proofs.once.same_row.Reads as same-row-reads
 
--- src/tables.rt:200:13
 same-words-requires : tie.Need-same-words-requires
 same-words-requires c κs = search needs
 
--- src/tables.rt:201:9
 returns : tie.Need-returns
 returns c = rw (c .before .if1 .taken, c .same-words .ensures)
 
--- src/tables.rt:204:9
 same-row-requires : tie.Need-same-row-requires
 same-row-requires c κs = search needs
 
--- src/tables.rt:204:9
 returns-2 : tie.Need-returns-2
 returns-2 c = rw (c .before .if2 .taken) (c .same-row .ensures (c .before .before .before .before .before .args .j) (c .before .before .before .before .before .args .k))
 
--- src/tables.rt:206:5
 same-head-requires : tie.Need-same-head-requires
 same-head-requires c κs = search needs
 
--- src/tables.rt:196:1
 returns-3 : tie.Need-returns-3
 returns-3 c = let x = c .before .before .before .before .before .args in c .same-head .ensures (x .j) (x .k) ∙ alike-other (x .table) (record { kind = x .j; words = x .a .now }) (record { kind = x .k; words = x .b .now }) (c .before .before .if1 .left) (c .before .if2 .left)
 

@@ -4,69 +4,46 @@ use Rattle.load.specs.Held.{tablesFor}
 use borrow.Author.Needs.{needs}
 use Rattle.load.proofs.tables.fits.Statement.{statement}
 use Rattle.load.proofs.tables.fits.Tie as tie
-use Rattle.load.proofs.tables.fits.Reads as reads
-use Rattle.load.proofs.tables.fits.Lts as lts
-use Rattle.load.proofs.fit.expr_fits.Reads as expr-fits-reads
-use Rattle.load.proofs.fit.proof_fits.Reads as proof-fits-reads
-use Rattle.load.proofs.fit.row_fits.Reads as row-fits-reads
-use Rattle.load.proofs.fit.rule_fits.Reads as rule-fits-reads
-use Rattle.load.proofs.fit.term_fits.Reads as term-fits-reads
-use Rattle.load.proofs.tables.action_fits.Reads as action-fits-reads
-use Rattle.load.proofs.tables.fixed_fits.Reads as fixed-fits-reads
 
--- src/tables.rt:82:9
 term-fits-requires : tie.Need-term-fits-requires
 term-fits-requires c κs = search needs
 
--- src/tables.rt:82:9
 returns : tie.Need-returns
 returns c = λ i. rw (c .before .if1 .taken) (c .term-fits .ensures)
 
--- src/tables.rt:85:9
 expr-fits-requires : tie.Need-expr-fits-requires
 expr-fits-requires c κs = search needs
 
--- src/tables.rt:85:9
 returns-2 : tie.Need-returns-2
 returns-2 c = λ i. rw (c .before .if2 .taken) (c .expr-fits .ensures)
 
--- src/tables.rt:88:9
 action-fits-requires : tie.Need-action-fits-requires
 action-fits-requires c κs = search needs
 
--- src/tables.rt:88:9
 returns-3 : tie.Need-returns-3
 returns-3 c = λ i. rw (c .before .if3 .taken) (c .action-fits .ensures)
 
--- src/tables.rt:91:9
 row-fits-requires : tie.Need-row-fits-requires
 row-fits-requires c κs = search needs
 
--- src/tables.rt:91:9
 returns-4 : tie.Need-returns-4
 returns-4 c = λ i. rw (c .before .if4 .taken) (c .row-fits .ensures)
 
--- src/tables.rt:94:9
 rule-fits-requires : tie.Need-rule-fits-requires
 rule-fits-requires c κs = search needs
 
--- src/tables.rt:94:9
 returns-5 : tie.Need-returns-5
 returns-5 c = λ i. rw (c .before .if5 .taken) (c .rule-fits .ensures)
 
--- src/tables.rt:97:9
 proof-fits-requires : tie.Need-proof-fits-requires
 proof-fits-requires c κs = search needs
 
--- src/tables.rt:97:9
 returns-6 : tie.Need-returns-6
 returns-6 c = λ i. rw (c .before .if6 .taken) (c .proof-fits .ensures)
 
--- src/tables.rt:99:5
 fixed-fits-requires : tie.Need-fixed-fits-requires
 fixed-fits-requires c κs = search needs
 
--- src/tables.rt:68:1
 returns-7 : tie.Need-returns-7
 returns-7 c = let s = c .before .before .before .before .before .before .before .before .before .before .before in
     let a = s .args in

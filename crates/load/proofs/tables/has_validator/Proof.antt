@@ -9,42 +9,31 @@ use Prim.Native.Nat.{_+_, _<_}
 use borrow.Author.Needs.{needs}
 use Rattle.load.proofs.tables.has_validator.Statement.{statement}
 use Rattle.load.proofs.tables.has_validator.Tie as tie
-use Rattle.load.proofs.tables.has_validator.Reads as reads
-use Rattle.load.proofs.tables.has_validator.Lts as lts
 
--- src/tables.rt:167:9
 returns : tie.Need-returns
 returns c = let a = c .before .before .args in primitive-out (sizesIn (a .z)) (cellsOf (a .kinds .now) (a .ends .now) (a .pool .now) (cellCount (sizesIn (a .z)))) (a .p) (omega arith)
 
--- src/tables.rt:169:13
 add-i : tie.Need-add-i
 add-i c = search needs
 
--- src/tables.rt:169:13
 add-i-2 : tie.Need-add-i-2
 add-i-2 c = search needs
 
--- src/tables.rt:169:13
 add-i-3 : tie.Need-add-i-3
 add-i-3 c = search needs
 
--- src/tables.rt:169:13
 add-i-4 : tie.Need-add-i-4
 add-i-4 c = search needs
 
--- src/tables.rt:169:13
 add-i-5 : tie.Need-add-i-5
 add-i-5 c = search needs
 
--- src/tables.rt:170:16
 mul-kind : tie.Need-mul-kind
 mul-kind c = search needs
 
--- src/tables.rt:170:16
 shared-slice-read-kind : tie.Need-shared-slice-read-kind
 shared-slice-read-kind c = search needs
 
--- src/tables.rt:162:1
 returns-2 : tie.Need-returns-2
 returns-2 c = let a = c .before .before .before .before .before .before .before .args in
     let z = a .z in

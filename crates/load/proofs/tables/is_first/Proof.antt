@@ -14,11 +14,6 @@ use mathlib.Core.Bool.{Bool, not}
 use Rattle.model.specs.Load.{any}
 use Rattle.load.proofs.tables.is_first.Statement.{statement}
 use Rattle.load.proofs.tables.is_first.Tie as tie
-use Rattle.load.proofs.tables.is_first.Reads as reads
-use Rattle.load.proofs.tables.is_first.Lts as lts
-use Rattle.cells.proofs.words.Reads as words-reads
-use Rattle.load.proofs.tables.alike.Reads as alike-reads
-use Rattle.load.proofs.tables.fill.Reads as fill-reads
 
 abbrev Inv-loop : tie.InvT-loop
 Inv-loop kinds ends pool table first i f at kind j₀ j = (j ≤ i) × (any (λ e. alikeBy table e (getD (cellsOf kinds ends pool (f .cells)) (first + i) noCell)) (take i (drop first (cellsOf kinds ends pool (f .cells)))) ≡ any (λ e. alikeBy table e (getD (cellsOf kinds ends pool (f .cells)) (first + i) noCell)) (drop j (take i (drop first (cellsOf kinds ends pool (f .cells))))))
@@ -26,51 +21,39 @@ Inv-loop kinds ends pool table first i f at kind j₀ j = (j ≤ i) × (any (λ 
 abbrev μ-loop : tie.MeasureT-loop
 μ-loop kinds ends pool table first i f at kind j₀ j = i - j
 
--- src/tables.rt:223:9
 fill-requires : tie.Need-fill-requires Inv-loop μ-loop
 fill-requires c κs = c .before .before .before .pre .0 .limits
 
--- src/tables.rt:224:14
 add-at : tie.Need-add-at Inv-loop μ-loop
 add-at c = omega arith
 
--- src/tables.rt:225:16
 mul-kind : tie.Need-mul-kind Inv-loop μ-loop
 mul-kind c = omega arith
 
--- src/tables.rt:225:16
 shared-slice-read-kind : tie.Need-shared-slice-read-kind Inv-loop μ-loop
 shared-slice-read-kind c = omega arith
 
--- src/tables.rt:227:5
 loop-holds : tie.Need-loop-holds Inv-loop μ-loop
 loop-holds c = (omega arith, refl)
 
--- src/tables.rt:228:17
 add-k : tie.Need-add-k Inv-loop μ-loop
 add-k c = omega arith
 
--- src/tables.rt:229:25
 mul-alike : tie.Need-mul-alike Inv-loop μ-loop
 mul-alike c = omega arith
 
--- src/tables.rt:229:25
 shared-slice-read-alike : tie.Need-shared-slice-read-alike Inv-loop μ-loop
 shared-slice-read-alike c = omega arith
 
--- src/tables.rt:229:35
 words-requires : tie.Need-words-requires Inv-loop μ-loop
 words-requires c κs = let fe = c .before .before .before .before .fill .ensures in (rw fe (c .before .before .before .before .before .before .before .before .pre .0 .formed), omega (arith, ap (λ (x : Fill). x .cells) fe))
 
--- src/tables.rt:229:73
 words-requires-2 : tie.Need-words-requires-2 Inv-loop μ-loop
 words-requires-2 c κs = let fe = c .before .before .before .before .before .fill .ensures in (rw fe (c .before .before .before .before .before .before .before .before .before .pre .0 .formed), omega (arith, ap (λ (x : Fill). x .cells) fe))
 
--- src/tables.rt:229:12
 alike-requires : tie.Need-alike-requires Inv-loop μ-loop
 alike-requires c κs = search needs
 
--- src/tables.rt:230:13
 returns : tie.Need-returns Inv-loop μ-loop
 returns c = let s = c .before .before .before .before .before .before .before .before .before .before .before .before in
     let a = s .args in
@@ -90,15 +73,12 @@ returns c = let s = c .before .before .before .before .before .before .before .b
     earlier-yes same cs (a .first) (a .i) (l .j) (omega arith) (omega arith) (e ∙ c .if1 .taken) ∙ ap not (sym (l .inv .1))
     ∙ ap (λ (x : Fill). firstAmong (alikeBy (a .table)) (cellsOf K E P (x .cells)) (a .first) (a .i)) fe
 
--- src/tables.rt:232:9
 add-j : tie.Need-add-j Inv-loop μ-loop
 add-j c = omega arith
 
--- src/tables.rt:227:5
 loop-less : tie.Need-loop-less Inv-loop μ-loop
 loop-less c = omega arith
 
--- src/tables.rt:227:5
 loop-again : tie.Need-loop-again Inv-loop μ-loop
 loop-again c = let s = c .before .before .before .before .before .before .before .before .before .before .before .before in
     let a = s .args in
@@ -117,7 +97,6 @@ loop-again c = let s = c .before .before .before .before .before .before .before
     let same : Cell → Bool = λ x. alikeBy (a .table) x (getD cs (a .first + a .i) noCell) in
     (omega arith, l .inv .1 ∙ earlier-no same cs (a .first) (a .i) (l .j) (omega arith) (omega arith) (e ∙ c .if1 .left))
 
--- src/tables.rt:210:1
 returns-2 : tie.Need-returns-2 Inv-loop μ-loop
 returns-2 c = let a = c .before .before .before .before .before .before .before .args in
     let K = a .kinds .now in

@@ -7,100 +7,67 @@ use mathlib.Core.List.{List}
 use borrow.Author.Needs.{needs}
 use Rattle.load.proofs.tables.refers.Statement.{statement}
 use Rattle.load.proofs.tables.refers.Tie as tie
-use Rattle.load.proofs.tables.refers.Reads as reads
-use Rattle.load.proofs.tables.refers.Lts as lts
-use Rattle.cells.proofs.wide.Reads as wide-reads
-use Rattle.load.proofs.refer.action_refers.Reads as action-refers-reads
-use Rattle.load.proofs.refer.expr_refers.Reads as expr-refers-reads
-use Rattle.load.proofs.refer.proof_refers.Reads as proof-refers-reads
-use Rattle.load.proofs.refer.row_refers.Reads as row-refers-reads
-use Rattle.load.proofs.refer.rule_refers.Reads as rule-refers-reads
-use Rattle.load.proofs.refer.term_refers.Reads as term-refers-reads
-use Rattle.load.proofs.words.all_below.Reads as all-below-reads
-use Rattle.load.proofs.words.at.Reads as at-reads
-use Rattle.load.proofs.words.rest.Reads as rest-reads
 
--- src/tables.rt:128:9
 term-refers-requires : tie.Need-term-refers-requires
 term-refers-requires c κs = search needs
 
--- src/tables.rt:128:9
 returns : tie.Need-returns
 returns c = rw (c .before .if1 .taken) (c .term-refers .ensures)
 
--- src/tables.rt:131:9
 expr-refers-requires : tie.Need-expr-refers-requires
 expr-refers-requires c κs = search needs
 
--- src/tables.rt:131:9
 returns-2 : tie.Need-returns-2
 returns-2 c = rw (c .before .if2 .taken) (c .expr-refers .ensures)
 
--- src/tables.rt:134:9
 all-below-requires : tie.Need-all-below-requires
 all-below-requires c κs = search needs
 
--- src/tables.rt:134:9
 returns-3 : tie.Need-returns-3
 returns-3 c = rw (c .before .if3 .taken) (c .all-below .ensures)
 
--- src/tables.rt:137:9
 action-refers-requires : tie.Need-action-refers-requires
 action-refers-requires c κs = search needs
 
--- src/tables.rt:137:9
 returns-4 : tie.Need-returns-4
 returns-4 c = rw (c .before .if4 .taken) (c .action-refers .ensures)
 
--- src/tables.rt:140:41
 rest-requires : tie.Need-rest-requires
 rest-requires c κs = search needs
 
--- src/tables.rt:140:9
 all-below-requires-2 : tie.Need-all-below-requires-2
 all-below-requires-2 c κs = search needs
 
--- src/tables.rt:140:9
 returns-5 : tie.Need-returns-5
 returns-5 c = rw (c .before .before .if5 .taken) (c .all-below2 .ensures ∙ ap (below (c .before .before .before .before .before .before .before .before .args .z .expressions)) (c .before .rest .ensures))
 
--- src/tables.rt:143:9
 returns-6 : tie.Need-returns-6
 returns-6 c = rw (c .if6 .taken)
 
--- src/tables.rt:146:9
 row-refers-requires : tie.Need-row-refers-requires
 row-refers-requires c κs = search needs
 
--- src/tables.rt:146:9
 returns-7 : tie.Need-returns-7
 returns-7 c = rw (c .before .if7 .taken) (c .row-refers .ensures (c .before .before .before .before .before .before .before .before .before .args .kind))
 
--- src/tables.rt:149:21
 at-requires : tie.Need-at-requires
 at-requires c κs = search needs
 
--- src/tables.rt:149:16
 wide-requires : tie.Need-wide-requires
 wide-requires c κs = search needs
 
--- src/tables.rt:149:9
 returns-8 : tie.Need-returns-8
 returns-8 c = rw (c .before .before .before .if8 .taken, c .before .wide .ensures, c .before .before .at .ensures)
 
--- src/tables.rt:152:9
 rule-refers-requires : tie.Need-rule-refers-requires
 rule-refers-requires c κs = search needs
 
--- src/tables.rt:152:9
 returns-9 : tie.Need-returns-9
 returns-9 c = rw (c .before .if9 .taken) (c .rule-refers .ensures (c .before .before .before .before .before .before .before .before .before .before .before .args .kind))
 
--- src/tables.rt:154:5
 proof-refers-requires : tie.Need-proof-refers-requires
 proof-refers-requires c κs = search needs
 
--- src/tables.rt:123:1
 returns-10 : tie.Need-returns-10
 returns-10 c = let e = last-table (c .before .before .before .before .before .before .before .before .before .before .before .args .table) (c .before .before .before .before .before .before .before .before .before .before .before .pre) (c .before .before .before .before .before .before .before .before .before .if1 .left) (c .before .before .before .before .before .before .before .before .if2 .left) (c .before .before .before .before .before .before .before .if3 .left) (c .before .before .before .before .before .before .if4 .left) (c .before .before .before .before .before .if5 .left) (c .before .before .before .before .if6 .left) (c .before .before .before .if7 .left) (c .before .before .if8 .left) (c .before .if9 .left) in
     rw e (c .proof-refers .ensures)

@@ -16,27 +16,16 @@ use Rattle.model.specs.Load.{isSetCall}
 use borrow.Author.Needs.{needs}
 use Rattle.load.proofs.tables.set_fits.Statement.{statement}
 use Rattle.load.proofs.tables.set_fits.Tie as tie
-use Rattle.load.proofs.tables.set_fits.Reads as reads
-use Rattle.load.proofs.tables.set_fits.Lts as lts
-use Rattle.cells.proofs.wide.Reads as wide-reads
-use Rattle.cells.proofs.words.Reads as words-reads
-use Rattle.load.proofs.tables.fill.Reads as fill-reads
-use Rattle.load.proofs.words.at.Reads as at-reads
-use Rattle.load.proofs.words.rest.Reads as rest-reads
 
--- src/tables.rt:39:9
 returns : tie.Need-returns
 returns c = let a = c .before .before .before .before .before .args in set-other (tablesFor (a .kinds .now) (a .ends .now) (a .pool .now) (a .z) .expressions) (a .ws .now) (a .kind) (c .if1 .taken)
 
--- src/tables.rt:41:18
 at-requires : tie.Need-at-requires
 at-requires c κs = search needs
 
--- src/tables.rt:41:9
 wide-requires : tie.Need-wide-requires
 wide-requires c κs = search needs
 
--- src/tables.rt:43:9
 returns-2 : tie.Need-returns-2
 returns-2 c = let s = c .before .before .before .before .before .before .before .before .before in
     let a = s .args in
@@ -45,33 +34,26 @@ returns-2 c = let s = c .before .before .before .before .before .before .before 
     let h : a .z .expressions ≤ getD (a .ws .now) 0 0 = omega arith in
     rw (c .before .before .before .before .if1 .left) (set-out (tablesFor (a .kinds .now) (a .ends .now) (a .pool .now) (a .z) .expressions) (a .ws .now) (a .z .expressions) (exprs-length (sizesIn (a .z)) cs (cells-length (a .kinds .now) (a .ends .now) (a .pool .now) (cellCount (sizesIn (a .z))))) h)
 
--- src/tables.rt:45:13
 add-i : tie.Need-add-i
 add-i c = search needs
 
--- src/tables.rt:46:51
 fill-requires : tie.Need-fill-requires
 fill-requires c κs = search needs
 
--- src/tables.rt:46:26
 words-requires : tie.Need-words-requires
 words-requires c κs = let s = c .before .before .before .before .before .before .before .before .before .before .before in
     let f = c .fill .ensures in
     (rw f (s .pre .formed), omega (arith, ap (λ (x : Fill). x .cells) f))
 
--- src/tables.rt:46:9
 rest-requires : tie.Need-rest-requires
 rest-requires c κs = search needs
 
--- src/tables.rt:47:10
 mul-result : tie.Need-mul-result
 mul-result c = search needs
 
--- src/tables.rt:47:10
 shared-slice-read-result : tie.Need-shared-slice-read-result
 shared-slice-read-result c = search needs
 
--- src/tables.rt:34:1
 returns-3 : tie.Need-returns-3
 returns-3 c = let s = c .before .before .before .before .before .before .before .before .before .before .before .before .before .before in
     let a = s .args in

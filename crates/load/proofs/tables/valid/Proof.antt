@@ -4,45 +4,31 @@ use Rattle.load.specs.Held.{sizesIn, tablesFor, fillOf, alikeBy}
 use borrow.Author.Needs.{needs}
 use Rattle.load.proofs.tables.valid.Statement.{statement}
 use Rattle.load.proofs.tables.valid.Tie as tie
-use Rattle.load.proofs.tables.valid.Reads as reads
-use Rattle.load.proofs.tables.valid.Lts as lts
-use Rattle.cells.proofs.wide.Reads as wide-reads
-use Rattle.load.proofs.tables.has_validator.Reads as has-validator-reads
-use Rattle.load.proofs.words.at.Reads as at-reads
 
--- src/tables.rt:187:57
 at-requires : tie.Need-at-requires
 at-requires c κs = search needs
 
--- src/tables.rt:187:52
 wide-requires : tie.Need-wide-requires
 wide-requires c κs = search needs
 
--- src/tables.rt:187:9
 has-validator-requires : tie.Need-has-validator-requires
 has-validator-requires c κs = search needs
 
--- src/tables.rt:187:9
 returns : tie.Need-returns
 returns c = λ i kind. rw (c .before .before .before .if1 .taken, c .has-validator .ensures, c .before .wide .ensures, c .before .before .at .ensures)
 
--- src/tables.rt:190:57
 at-requires-2 : tie.Need-at-requires-2
 at-requires-2 c κs = search needs
 
--- src/tables.rt:190:52
 wide-requires-2 : tie.Need-wide-requires-2
 wide-requires-2 c κs = search needs
 
--- src/tables.rt:190:9
 has-validator-requires-2 : tie.Need-has-validator-requires-2
 has-validator-requires-2 c κs = search needs
 
--- src/tables.rt:190:9
 returns-2 : tie.Need-returns-2
 returns-2 c = λ i kind. rw (c .before .before .before .if2 .taken, c .has-validator2 .ensures, c .before .wide2 .ensures, c .before .before .at2 .ensures)
 
--- src/tables.rt:175:1
 returns-3 : tie.Need-returns-3
 returns-3 c = let a = c .before .before .before .before .before .before .args in λ i kind. valid-other (tablesFor (a .kinds .now) (a .ends .now) (a .pool .now) (a .z)) (a .table) i (record { kind = kind; words = a .ws .now }) (c .before .if1 .left) (c .if2 .left)
 

@@ -7,9 +7,6 @@ use Rattle.model.specs.Load.{below}
 use Rattle.load.proofs.Laws.{below-no, below-yes, below-end}
 use Rattle.load.proofs.words.all_below.Statement.{statement}
 use Rattle.load.proofs.words.all_below.Tie as tie
-use Rattle.load.proofs.words.all_below.Reads as reads
-use Rattle.load.proofs.words.all_below.Lts as lts
-use Rattle.cells.proofs.wide.Reads as wide-reads
 
 abbrev Inv-loop : tie.InvT-loop
 Inv-loop n ws k₀ k = (k ≤ length ws) × (below n ws ≡ below n (drop k ws))
@@ -17,43 +14,34 @@ Inv-loop n ws k₀ k = (k ≤ length ws) × (below n ws ≡ below n (drop k ws))
 abbrev μ-loop : tie.MeasureT-loop
 μ-loop n ws k₀ k = length ws - k
 
--- src/words.rt:45:5
 loop-holds : tie.Need-loop-holds Inv-loop μ-loop
 loop-holds c = (omega arith, refl)
 
--- src/words.rt:46:22
 mul-wide : tie.Need-mul-wide Inv-loop μ-loop
 mul-wide c = search needs
 
--- src/words.rt:46:22
 shared-slice-read-wide : tie.Need-shared-slice-read-wide Inv-loop μ-loop
 shared-slice-read-wide c = search needs
 
--- src/words.rt:46:17
 wide-requires : tie.Need-wide-requires Inv-loop μ-loop
 wide-requires c κs = search needs
 
--- src/words.rt:47:13
 returns : tie.Need-returns Inv-loop μ-loop
 returns c = let a = c .before .before .before .before .before .before .args in
     let l = c .before .before .before .before .loop in
     below-no (a .n) (a .ws .now) (l .k) (omega arith) (omega arith) ∙ sym (l .inv .1)
 
--- src/words.rt:49:9
 add-k : tie.Need-add-k Inv-loop μ-loop
 add-k c = omega arith
 
--- src/words.rt:45:5
 loop-less : tie.Need-loop-less Inv-loop μ-loop
 loop-less c = omega arith
 
--- src/words.rt:45:5
 loop-again : tie.Need-loop-again Inv-loop μ-loop
 loop-again c = let a = c .before .before .before .before .before .before .args in
     let l = c .before .before .before .before .loop in
     (omega arith, l .inv .1 ∙ below-yes (a .n) (a .ws .now) (l .k) (omega arith) (omega arith))
 
--- src/words.rt:41:1
 returns-2 : tie.Need-returns-2 Inv-loop μ-loop
 returns-2 c = let a = c .before .before .before .args in
     let l = c .before .loop in

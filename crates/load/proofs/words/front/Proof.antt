@@ -5,38 +5,28 @@ use native.Mathlib.Omega.{arith}
 use borrow.Author.Needs.{needs}
 use Rattle.load.proofs.words.front.Statement.{statement}
 use Rattle.load.proofs.words.front.Tie as tie
-use Rattle.load.proofs.words.front.Reads as reads
-use Rattle.load.proofs.words.front.Lts as lts
 
--- src/words.rt:35:16
 sub-result : tie.Need-sub-result
 sub-result c = search needs
 
--- src/words.rt:35:16
 part-result-start : tie.Need-part-result-start
 part-result-start c = search needs
 
--- src/words.rt:35:16
 part-result-end : tie.Need-part-result-end
 part-result-end c = search needs
 
--- src/words.rt:35:9
 returns : tie.Need-returns
 returns c = rw (sub-zero (c .before .before .args .n))
 
--- src/words.rt:37:5
 sub-result-2 : tie.Need-sub-result-2
 sub-result-2 c = search needs
 
--- src/words.rt:37:5
 part-result-start-2 : tie.Need-part-result-start-2
 part-result-start-2 c = search needs
 
--- src/words.rt:37:5
 part-result-end-2 : tie.Need-part-result-end-2
 part-result-end-2 c = search needs
 
--- src/words.rt:30:1
 returns-2 : tie.Need-returns-2
 returns-2 c = front-none (c .before .before .args .ws .now) (c .before .before .args .n) (omega arith)
 

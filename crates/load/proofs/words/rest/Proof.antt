@@ -3,42 +3,31 @@ use native.Mathlib.Omega.{arith}
 use borrow.Author.Needs.{needs}
 use Rattle.load.proofs.words.rest.Statement.{statement}
 use Rattle.load.proofs.words.rest.Tie as tie
-use Rattle.load.proofs.words.rest.Reads as reads
-use Rattle.load.proofs.words.rest.Lts as lts
 
--- src/words.rt:24:16
 mul-result : tie.Need-mul-result
 mul-result c = search needs
 
--- src/words.rt:24:16
 part-result-start : tie.Need-part-result-start
 part-result-start c = search needs
 
--- src/words.rt:24:16
 part-result-end : tie.Need-part-result-end
 part-result-end c = search needs
 
--- src/words.rt:24:9
 returns : tie.Need-returns
 returns c = rest-part (c .before .before .args .ws .now) (c .before .before .args .n) (omega arith)
 
--- src/words.rt:26:5
 mul-result-2 : tie.Need-mul-result-2
 mul-result-2 c = search needs
 
--- src/words.rt:26:5
 sub-result : tie.Need-sub-result
 sub-result c = search needs
 
--- src/words.rt:26:5
 part-result-start-2 : tie.Need-part-result-start-2
 part-result-start-2 c = search needs
 
--- src/words.rt:26:5
 part-result-end-2 : tie.Need-part-result-end-2
 part-result-end-2 c = search needs
 
--- src/words.rt:19:1
 returns-2 : tie.Need-returns-2
 returns-2 c = rest-none (c .before .before .args .ws .now) (c .before .before .args .n) (omega arith)
 
