@@ -128,16 +128,17 @@ unfolding total
 total-snoc [] c = omega arith
 total-snoc (x ∷ cs) c = omega (arith, total-snoc cs c)
 
-pub held-total : {K E P : List ℕ} {f : Fill} → Formed K E P f → total (cellsOf K E P (f .cells)) ≡ f .words
-unfolding cellsOf tabulate total startOf
-held-total {K} {E} {P} {f} F = go (f .cells) (omega arith) ∙ F .top
-  where
-    go : (k : ℕ) → k ≤ f .cells → total (tabulate k (cellAt K E P)) ≡ startOf E k
-    go zero h = refl
-    go (suc k) h =
-        let r : startOf E k ≤ getD E k 0 = F .rises k h in
-        let w : getD E k 0 ≤ length P = omega (arith, F .below k h) in
-        total-snoc (tabulate k (cellAt K E P)) (cellAt K E P k) ∙ omega (arith, go k (omega arith), words-length E P k r w)
+module _ {K E P : List ℕ} {f : Fill} (F : Formed K E P f) where
+  pub total-at : (k : ℕ) → k ≤ f .cells → total (cellsOf K E P k) ≡ startOf E k
+  unfolding cellsOf tabulate total startOf
+  total-at zero h = refl
+  total-at (suc k) h =
+      let r : startOf E k ≤ getD E k 0 = F .rises k h in
+      let w : getD E k 0 ≤ length P = omega (arith, F .below k h) in
+      total-snoc (tabulate k (cellAt K E P)) (cellAt K E P k) ∙ omega (arith, total-at k (omega arith), words-length E P k r w)
+
+  pub held-total : total (cellsOf K E P (f .cells)) ≡ f .words
+  held-total = total-at (f .cells) (omega arith) ∙ F .top
 
 -- the contracts of `append` and `add`, case by case
 module _ {K E P : List ℕ} {f : Fill} (F : Formed K E P f) where

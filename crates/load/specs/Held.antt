@@ -1,13 +1,18 @@
 -- A job's sizes and arrays as the code holds them.
 use mathlib.Core.Path.{_≡_}
-use mathlib.Core.Bool.{Bool, true, false, not}
-use mathlib.Core.List.{List, [], _∷_}
-use Prim.Native.Nat.{ℕ, zero, suc, _+_, _≤_, _<_, _^_}
+use mathlib.Core.Bool.{Bool, true, false, not, _||_}
+use mathlib.Core.List.{List, [], _∷_, map}
+use Prim.Native.Nat.{ℕ, zero, suc, _+_, _*_, _≤_, _<_, _^_}
+use mathlib.Core.Option.{Option, none, some}
+use lib.Dec.{eqb, ltb}
 use lib.ListN.{length, getD, take, drop}
 use Rattle.model.specs.Cell.{Cell, noCell, sameCell, cellsOf}
+use Rattle.model.specs.Term.{readTerm}
+use Rattle.model.specs.Check.{Refusal}
 use Rattle.model.specs.Layout.{Sizes, cellCount, Tables, tablesIn}
-use Rattle.model.specs.Load.{any, sameRow, sameHead, fitTests, referTests, validTests, onceTests}
+use Rattle.model.specs.Load.{Lent, any, endsRise, noRoom, refusedIf, firstRefusal, firstFailing, sameRow, sameHead, fitTests, referTests, validTests, onceTests}
 use Rattle.load.specs.declared.sizes.Sizes.{Sizes as SizesHeld}
+use Rattle.load.specs.declared.Loaded.{Loaded}
 use Rattle.cells.specs.Table.{Formed}
 use Rattle.cells.specs.declared.Fill.{Fill}
 use Rattle.cells.specs.declared.Found.{Found}
@@ -116,3 +121,44 @@ pub record Place (z : SizesHeld) (k n i : ℕ) : Type 0 where
   pub table : k < 10
   pub first : n ≡ cellNumber (sizesIn z) k
   pub inside : i < getD (countsOf (sizesIn z)) k 0
+
+-- The refusal that an answer stands for.
+abbrev pub refusalOf : Loaded → Option Refusal
+refusalOf Loaded.Admitted = none
+refusalOf (Loaded.Host n) = some (record { number = n; fields = [] })
+refusalOf (Loaded.Writer n cell) = some (record { number = n; fields = cell ∷ [] })
+
+-- The tests for 6 to 9, in their order.
+abbrev pub writerTests : Sizes → Tables → List (Unit {0} → Option Refusal)
+writerTests z t =
+    (λ _. firstFailing 6 (testsFor 0 z t) t) ∷
+    (λ _. firstFailing 7 (testsFor 1 z t) t) ∷
+    (λ _. firstFailing 8 (testsFor 2 z t) t) ∷
+    (λ _. firstFailing 9 (testsFor 3 z t) t) ∷ []
+
+-- 10, where the terms take so many words.
+abbrev pub roomLacks : Sizes → ℕ → Lent → Bool
+roomLacks z words l =
+    ltb (l .kinds) (z .terms) || ltb (l .pool) words || ltb 65536 (l .kinds) || ltb 1048576 (l .pool) ||
+    not (eqb (l .kinds) (l .ends)) || ltb (l .scratch) (2 * (l .kinds + z .proofs))
+
+-- Three arrays as long as the sizes say.
+pub record Cut (K E P : List ℕ) (z : SizesHeld) : Type 0 where
+  pub kinds : length K ≡ cellCount (sizesIn z)
+  pub ends : length E ≡ cellCount (sizesIn z)
+  pub pool : length P ≡ z .pool
+  pub limits : Limits z
+
+-- The tests for 5 to 10, in their order.
+abbrev pub cellTests : List ℕ → Sizes → Tables → Lent → List (Unit {0} → Option Refusal)
+cellTests E z t lent =
+    (λ _. refusedIf (not (endsRise 0 E (z .pool))) 5) ∷
+    (λ _. firstFailing 6 (testsFor 0 z t) t) ∷
+    (λ _. firstFailing 7 (testsFor 1 z t) t) ∷
+    (λ _. firstFailing 8 (testsFor 2 z t) t) ∷
+    (λ _. firstFailing 9 (testsFor 3 z t) t) ∷
+    (λ _. refusedIf (noRoom z (map readTerm (t .terms)) lent) 10) ∷ []
+
+-- The refusal from 5 to 10.
+unfoldable pub cellRefusal : List ℕ → Sizes → Tables → Lent → Option Refusal
+cellRefusal E z t lent = firstRefusal (cellTests E z t lent)

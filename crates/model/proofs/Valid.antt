@@ -182,7 +182,7 @@ terms-length ws =
     omega arith
 
 -- no test refuses
-pass : (ts : List (Unit {0} → Option Refusal)) → firstRefusal ts ≡ none → (t : Unit {0} → Option Refusal) → List·Memᴰ t ts → t tt ≡ none
+pub pass : (ts : List (Unit {0} → Option Refusal)) → firstRefusal ts ≡ none → (t : Unit {0} → Option Refusal) → List·Memᴰ t ts → t tt ≡ none
 pass [] e t m = absurd (List·Memᴰ·not-nil m)
 pass (u ∷ us) e t m = go (u tt) refl e (List·Memᴰ·cases-cons m) (λ h. pass us h t)
   where
@@ -199,13 +199,18 @@ pub record Admitted (z : Sizes) (t : Tables) : Type 0 where
   pub validated : (k : ℕ) → k < 10 → (i : ℕ) → i < length (getD (tableList t) k []) → getD (validTests t) k passed i (getD (getD (tableList t) k []) i noCell) ≡ true
   pub once : (k : ℕ) → k < 10 → (i : ℕ) → i < length (getD (tableList t) k []) → getD (onceTests t) k passed i (getD (getD (tableList t) k []) i noCell) ≡ true
 
+-- where none fails, each cell of each table passes its table's test
+pub table-passes : (t : Tables) (n : ℕ) (fs : List (ℕ → Cell → Bool)) (k : ℕ) → k < 10 → length fs ≡ 10 → (i : ℕ) → i < length (getD (tableList t) k []) → firstFailing n fs t ≡ none
+    → getD fs k passed i (getD (getD (tableList t) k []) i noCell) ≡ true
+table-passes t n fs k h l i m q = passes (getD fs k passed) (getD (tableList t) k []) (marked-table fs (tableList t) (unmarked n 0 _ q) k (omega arith) h) i m
+
 pub loads-admitted : (ws : List ℕ) (p : ℕ) (lent : Lent) → loadRefusal ws p lent ≡ none → Admitted (sizesOf ws) (tablesOf ws)
 unfolding loadRefusal
 loads-admitted ws p lent e = record {
-  fits = λ k h i l. table 6 (fitTests t) k h refl i l (pass tests e _ (List·Memᴰ·tail (List·Memᴰ·tail (List·Memᴰ·tail (List·Memᴰ·tail (List·Memᴰ·head refl))))));
-  refers = λ k h i l. table 7 (referTests z) k h refl i l (pass tests e _ (List·Memᴰ·tail (List·Memᴰ·tail (List·Memᴰ·tail (List·Memᴰ·tail (List·Memᴰ·tail (List·Memᴰ·head refl)))))));
-  validated = λ k h i l. table 8 (validTests t) k h refl i l (pass tests e _ (List·Memᴰ·tail (List·Memᴰ·tail (List·Memᴰ·tail (List·Memᴰ·tail (List·Memᴰ·tail (List·Memᴰ·tail (List·Memᴰ·head refl))))))));
-  once = λ k h i l. table 9 (onceTests t) k h refl i l (pass tests e _ (List·Memᴰ·tail (List·Memᴰ·tail (List·Memᴰ·tail (List·Memᴰ·tail (List·Memᴰ·tail (List·Memᴰ·tail (List·Memᴰ·tail (List·Memᴰ·head refl)))))))));
+  fits = λ k h i l. table-passes t 6 (fitTests t) k h refl i l (pass tests e _ (List·Memᴰ·tail (List·Memᴰ·tail (List·Memᴰ·tail (List·Memᴰ·tail (List·Memᴰ·head refl))))));
+  refers = λ k h i l. table-passes t 7 (referTests z) k h refl i l (pass tests e _ (List·Memᴰ·tail (List·Memᴰ·tail (List·Memᴰ·tail (List·Memᴰ·tail (List·Memᴰ·tail (List·Memᴰ·head refl)))))));
+  validated = λ k h i l. table-passes t 8 (validTests t) k h refl i l (pass tests e _ (List·Memᴰ·tail (List·Memᴰ·tail (List·Memᴰ·tail (List·Memᴰ·tail (List·Memᴰ·tail (List·Memᴰ·tail (List·Memᴰ·head refl))))))));
+  once = λ k h i l. table-passes t 9 (onceTests t) k h refl i l (pass tests e _ (List·Memᴰ·tail (List·Memᴰ·tail (List·Memᴰ·tail (List·Memᴰ·tail (List·Memᴰ·tail (List·Memᴰ·tail (List·Memᴰ·tail (List·Memᴰ·head refl)))))))));
 }
   where
     z : Sizes
@@ -216,10 +221,6 @@ loads-admitted ws p lent e = record {
 
     tests : List (Unit {0} → Option Refusal)
     tests = loadTests ws (sizesOf ws) (tablesOf ws) p lent
-
-    table : (n : ℕ) (fs : List (ℕ → Cell → Bool)) (k : ℕ) → k < 10 → length fs ≡ 10 → (i : ℕ) → i < length (getD (tableList t) k []) → firstFailing n fs t ≡ none
-        → getD fs k passed i (getD (getD (tableList t) k []) i noCell) ≡ true
-    table n fs k h l i m q = passes (getD fs k passed) (getD (tableList t) k []) (marked-table fs (tableList t) (unmarked n 0 _ q) k (omega arith) h) i m
 
 -- an admitted job is valid
 admitted-valid : (z : Sizes) (t : Tables) → z .terms ≤ length (t .terms) → Admitted z t → Valid (readJob z t)

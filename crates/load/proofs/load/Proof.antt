@@ -1,0 +1,121 @@
+use borrow.Author.Tests.{le-leb, lt-leb}
+use Rattle.load.proofs.Loading.{refuses-1, refuses-2, refuses-3, behind-3, sizes-words, limits-of, inside, cut-of, cut-refusal}
+use Rattle.load.specs.Held.{sizesIn}
+use mathlib.Core.Path.{_≡_, refl, sym, ap, _∙_}
+use mathlib.Core.Bool.{Bool, true, false}
+use native.Mathlib.Omega.{arith}
+use Prim.Native.Nat.{ℕ}
+use lib.Dec.{leb}
+use Rattle.model.specs.Layout.{Sizes}
+use Rattle.model.specs.Load.{Lent, wrongLength, tooLarge}
+use borrow.Author.Needs.{needs}
+use Rattle.load.proofs.load.Statement.{statement}
+use Rattle.load.proofs.load.Tie as tie
+
+wrong-length-requires : tie.Need-wrong-length-requires
+wrong-length-requires c κs = search needs
+
+returns : tie.Need-returns
+returns c = let a = c .before .before .before .args in
+    let l : Lent = record { kinds = a .kinds; ends = a .ends; pool = a .pool; scratch = a .scratch } in
+    refuses-1 (a .job .now) (a .asked) l (sym (c .before .wrong-length .ensures) ∙ c .if1 .taken)
+
+read-sizes-requires : tie.Need-read-sizes-requires
+read-sizes-requires c κs = sizes-words (c .before .before .before .args .job .now) (sym (c .before .wrong-length .ensures) ∙ c .if1 .left)
+
+too-large-requires : tie.Need-too-large-requires
+too-large-requires c κs = search needs
+
+returns-2 : tie.Need-returns-2
+returns-2 c = let a = c .before .before .before .before .before .before .args in
+    let l : Lent = record { kinds = a .kinds; ends = a .ends; pool = a .pool; scratch = a .scratch } in
+    refuses-2 (a .job .now) (a .asked) l (sym (c .before .before .before .before .wrong-length .ensures) ∙ c .before .before .before .if1 .left) (ap tooLarge (sym (c .before .before .read-sizes .ensures .0)) ∙ sym (c .before .too-large .ensures) ∙ c .if2 .taken)
+
+wide-requires : tie.Need-wide-requires
+wide-requires c κs = search needs
+
+returns-3 : tie.Need-returns-3
+returns-3 c = let a = c .before .before .before .before .before .before .before .before .before .args in
+    let l : Lent = record { kinds = a .kinds; ends = a .ends; pool = a .pool; scratch = a .scratch } in
+    refuses-3 (a .job .now) (a .asked) l (sym (c .before .before .before .before .before .before .before .wrong-length .ensures) ∙ c .before .before .before .before .before .before .if1 .left) (ap tooLarge (sym (c .before .before .before .before .before .read-sizes .ensures .0)) ∙ sym (c .before .before .before .before .too-large .ensures) ∙ c .before .before .before .if2 .left) (ap (λ (y : Sizes). leb (y .proofs) (a .asked)) (sym (c .before .before .before .before .before .read-sizes .ensures .0)) ∙ le-leb (c .before .before .before .before .before .read-sizes .result .proofs) (a .asked) (omega (arith, c .before .before .wide .ensures)))
+
+cell-count-requires : tie.Need-cell-count-requires
+cell-count-requires c κs = c .before .before .before .before .before .read-sizes .ensures .1
+
+add-a : tie.Need-add-a
+add-a c = search needs
+
+add-b : tie.Need-add-b
+add-b c = search needs
+
+sub-load-cells : tie.Need-sub-load-cells
+sub-load-cells c = search needs
+
+part-load-cells-start : tie.Need-part-load-cells-start
+part-load-cells-start c = search needs
+
+part-load-cells-end : tie.Need-part-load-cells-end
+part-load-cells-end c = let i = inside (c .before .before .before .before .before .before .before .before .before .before .args .job .now) (c .before .before .before .before .before .before .read-sizes .result) (c .cell-count .result) (c .before .before .before .before .before .before .read-sizes .ensures .0) (c .cell-count .ensures) (sym (c .before .before .before .before .before .before .before .before .wrong-length .ensures) ∙ c .before .before .before .before .before .before .before .if1 .left) in omega (arith, i)
+
+mul-load-cells : tie.Need-mul-load-cells
+mul-load-cells c = search needs
+
+sub-load-cells-2 : tie.Need-sub-load-cells-2
+sub-load-cells-2 c = search needs
+
+part-load-cells-start-2 : tie.Need-part-load-cells-start-2
+part-load-cells-start-2 c = search needs
+
+part-load-cells-end-2 : tie.Need-part-load-cells-end-2
+part-load-cells-end-2 c = let i = inside (c .before .before .before .before .before .before .before .before .before .before .before .args .job .now) (c .before .before .before .before .before .before .before .read-sizes .result) (c .before .cell-count .result) (c .before .before .before .before .before .before .before .read-sizes .ensures .0) (c .before .cell-count .ensures) (sym (c .before .before .before .before .before .before .before .before .before .wrong-length .ensures) ∙ c .before .before .before .before .before .before .before .before .if1 .left) in omega (arith, i)
+
+mul-load-cells-2 : tie.Need-mul-load-cells-2
+mul-load-cells-2 c = search needs
+
+sub-load-cells-3 : tie.Need-sub-load-cells-3
+sub-load-cells-3 c = inside (c .before .before .before .before .before .before .before .before .before .before .before .before .args .job .now) (c .before .before .before .before .before .before .before .before .read-sizes .result) (c .before .before .cell-count .result) (c .before .before .before .before .before .before .before .before .read-sizes .ensures .0) (c .before .before .cell-count .ensures) (sym (c .before .before .before .before .before .before .before .before .before .before .wrong-length .ensures) ∙ c .before .before .before .before .before .before .before .before .before .if1 .left)
+
+part-load-cells-start-3 : tie.Need-part-load-cells-start-3
+part-load-cells-start-3 c = let i = inside (c .before .before .before .before .before .before .before .before .before .before .before .before .args .job .now) (c .before .before .before .before .before .before .before .before .read-sizes .result) (c .before .before .cell-count .result) (c .before .before .before .before .before .before .before .before .read-sizes .ensures .0) (c .before .before .cell-count .ensures) (sym (c .before .before .before .before .before .before .before .before .before .before .wrong-length .ensures) ∙ c .before .before .before .before .before .before .before .before .before .if1 .left) in omega (arith, i)
+
+part-load-cells-end-3 : tie.Need-part-load-cells-end-3
+part-load-cells-end-3 c = search needs
+
+load-cells-requires : tie.Need-load-cells-requires
+load-cells-requires c κs = cut-of (c .before .before .before .before .before .before .before .before .before .before .before .before .before .args .job .now) (c .before .before .before .before .before .before .before .before .before .read-sizes .result) (c .before .before .before .cell-count .result) (c .before .before .before .before .before .before .before .before .before .read-sizes .ensures .0) (c .before .before .before .cell-count .ensures) (sym (c .before .before .before .before .before .before .before .before .before .before .before .wrong-length .ensures) ∙ c .before .before .before .before .before .before .before .before .before .before .if1 .left) (limits-of (c .before .before .before .before .before .before .before .before .before .read-sizes .result) (sym (c .before .before .before .before .before .before .before .before .too-large .ensures) ∙ c .before .before .before .before .before .before .before .if2 .left))
+
+returns-4 : tie.Need-returns-4
+returns-4 c = let a = c .before .before .before .before .before .before .before .before .before .before .before .before .before .before .args in
+    let l : Lent = record { kinds = a .kinds; ends = a .ends; pool = a .pool; scratch = a .scratch } in
+    let w = (sym (c .before .before .before .before .before .before .before .before .before .before .before .before .wrong-length .ensures) ∙ c .before .before .before .before .before .before .before .before .before .before .before .if1 .left) in
+    let s = (c .before .before .before .before .before .before .before .before .before .before .read-sizes .ensures .0) in
+    let p = ap (λ (y : Sizes). leb (y .proofs) (a .asked)) (sym s) ∙ lt-leb (c .before .before .before .before .before .before .before .before .before .before .read-sizes .result .proofs) (a .asked) (omega (arith, c .before .before .before .before .before .before .before .wide .ensures)) in
+    c .load-cells .ensures ∙ cut-refusal (a .job .now) (c .before .before .before .before .before .before .before .before .before .before .read-sizes .result) (c .before .before .before .before .cell-count .result) s (c .before .before .before .before .cell-count .ensures) w l ∙ behind-3 (a .job .now) (a .asked) l w (ap tooLarge (sym (c .before .before .before .before .before .before .before .before .before .before .read-sizes .ensures .0)) ∙ sym (c .before .before .before .before .before .before .before .before .before .too-large .ensures) ∙ c .before .before .before .before .before .before .before .before .if2 .left) p
+
+pub load-spec : {M : Type 1} → statement M
+load-spec =
+    tie.close
+    (tie.spec
+    wrong-length-requires
+    returns
+    read-sizes-requires
+    too-large-requires
+    returns-2
+    wide-requires
+    returns-3
+    cell-count-requires
+    add-a
+    add-b
+    sub-load-cells
+    part-load-cells-start
+    part-load-cells-end
+    mul-load-cells
+    sub-load-cells-2
+    part-load-cells-start-2
+    part-load-cells-end-2
+    mul-load-cells-2
+    sub-load-cells-3
+    part-load-cells-start-3
+    part-load-cells-end-3
+    load-cells-requires
+    returns-4)
