@@ -162,3 +162,7 @@ cellTests E z t lent =
 -- The refusal from 5 to 10.
 unfoldable pub cellRefusal : List ℕ → Sizes → Tables → Lent → Option Refusal
 cellRefusal E z t lent = firstRefusal (cellTests E z t lent)
+
+-- The word of the four bytes from i on, the lowest first.
+abbrev pub wordFrom : List ℕ → ℕ → ℕ
+wordFrom bs i = getD bs i 0 + 256 * getD bs (i + 1) 0 + (65536 * getD bs (i + 2) 0 + 16777216 * getD bs (i + 3) 0)

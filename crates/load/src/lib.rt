@@ -1,4 +1,5 @@
 // Loading: from a job's words to the refusal below 20, or none. Each test is that of the definitions' Load.
+pub mod bytes;
 pub mod fit;
 pub mod once;
 pub mod refer;
