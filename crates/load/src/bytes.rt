@@ -27,6 +27,7 @@ fn word_from(bytes: &[u8], i: usize) -> u32
 pub fn words_of_bytes(bytes: &[u8], words: &mut [u32]) -> usize
     requires { ⌜ length (now bytes) ≤ 4 * length (now words) ⌝ }
     ensures count { λ r. ⌜ r ≡ length (wordsOf (now (bytes .entry))) ⌝ }
+    ensures inside { λ r. ⌜ r ≤ length (now (words .exit)) ⌝ }
     ensures words { λ r. ⌜ now (words .exit) ≡ put (now (words .entry)) 0 (wordsOf (now (bytes .entry))) ⌝ }
 {
     let n = bytes.len() / 4;

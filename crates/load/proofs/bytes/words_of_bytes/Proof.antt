@@ -51,7 +51,8 @@ returns : tie.Need-returns Inv-loop μ-loop
 returns c = let a = c .before .before .before .before .args in
     let v = c .before .loop .inv in
     let e : c .before .loop .i ≡ length (wordsOf (a .bytes .now)) = omega arith in
-    (v .0, v .2 ∙ ap (paste (a .words .now) 0 (wordsOf (a .bytes .now))) e ∙ put-paste (a .words .now) 0 (wordsOf (a .bytes .now)))
+    let l = words-least (a .bytes .now) in
+    (v .0, (omega (arith, l, v .0, v .3, c .before .before .before .before .pre), v .2 ∙ ap (paste (a .words .now) 0 (wordsOf (a .bytes .now))) e ∙ put-paste (a .words .now) 0 (wordsOf (a .bytes .now))))
 
 pub words-of-bytes-spec : {M : Type 1} → statement M
 words-of-bytes-spec =
