@@ -1,30 +1,30 @@
 -- Laws of loading as a whole: what rising ends give, the tests in their order, and the room that the terms take.
 use mathlib.Core.Path.{_≡_, refl, sym, ap, ap₂, subst, _∙_}
-use mathlib.Core.Bool.{Bool, true, false, not, _&&_, _||_, true≢false}
+use mathlib.Core.Bool.{Bool, true, false, not, _||_, true≢false}
 use mathlib.Core.List.{List, [], _∷_, _++_, map, List·Memᴰ·head}
 use mathlib.Core.Option.{Option, none, some}
-use mathlib.Core.Logic.{_⊎_, inl, inr}
-use Prim.Native.Nat.{ℕ, zero, suc, _+_, _*_, _-_, _≤_, _<_, _^_}
+use Prim.Native.Nat.{ℕ, zero, suc, _+_, _*_, _-_, _≤_, _<_}
 use native.Mathlib.Omega.{arith}
 use native.Mathlib.Nat.{le-trans, not-suc-le-zero}
 use native.Mathlib.Decide.{decLt}
-use lib.Dec.{eqb, leb, ltb}
+use lib.Dec.{leb, ltb}
 use lib.ListN.{length, getD, take, drop, length-take, length-drop}
 use lib.Seq.{take-append-le, take-all}
 use borrow.Author.Tests.{ltb-false}
 use Rattle.model.specs.Cell.{Cell, noCell, tabulate, startOf, cellAt, cellsOf}
-use Rattle.model.specs.Term.{readTerm, termWords, cellOf, widths}
+use Rattle.model.specs.Term.{readTerm, termWords, widths}
 use Rattle.model.specs.Layout.{Sizes, sizesOf, cellCount, kindsOf, endsOf, poolOf, Tables, tablesIn, tablesOf}
 use Rattle.model.specs.Check.{Refusal}
-use Rattle.model.specs.Load.{Lent, wrongLength, tooLarge, endsRise, noRoom, refusedIf, termFits, fitTests, firstRefusal, firstFailing, loadRefusal}
+use Rattle.model.specs.Load.{Lent, wrongLength, tooLarge, endsRise, noRoom, refusedIf, termFits, fitTests, firstRefusal, loadRefusal}
 use Rattle.model.proofs.Tests.{eq-of, le-of, and-left, and-right}
 use Rattle.model.proofs.Valid.{term-cell, pass, table-passes}
-use Rattle.cells.specs.Table.{Formed, total}
-use Rattle.cells.proofs.Laws.{length-tabulate, cells-length}
+use Rattle.cells.specs.Table.{total}
+use Rattle.cells.proofs.Laws.{length-tabulate}
 use Rattle.cells.proofs.Appending.{total-at}
 use Rattle.load.specs.declared.sizes.Sizes.{Sizes as SizesHeld}
-use Rattle.load.specs.Held.{sizesIn, Limits, fillOf, Held, tablesFor, countsOf, Cut, testsFor, writerTests, roomLacks, cellTests, cellRefusal}
+use Rattle.load.specs.Held.{sizesIn, Limits, Held, tablesFor, Cut, writerTests, roomLacks, cellRefusal}
 use Rattle.load.proofs.Laws.{not-false, rest-part}
+use Rattle.load.proofs.Rounds.{orRest}
 
 -- ends that rise from s
 module _ (p : ℕ) where
@@ -90,9 +90,6 @@ held-of {K} {E} {P} {z} C h =
     }
 
 -- the tests in their order
-abbrev orRest : Option Refusal → Option Refusal → Option Refusal
-orRest o rest = elim o [ none ↦ rest | some r ↦ some r ]
-
 first-append : (xs ys : List (Unit {0} → Option Refusal)) → firstRefusal (xs ++ ys) ≡ orRest (firstRefusal xs) (firstRefusal ys)
 first-append [] ys = refl
 first-append (x ∷ xs) ys = go (x tt) (first-append xs ys)

@@ -28,10 +28,11 @@ found-marked n i [] = refl
 found-marked n i (true ∷ ms) = refl
 found-marked n i (false ∷ ms) = found-marked n (suc i) ms
 
-module _ (z : Sizes) (t : Tables) where
-  abbrev orRest : Option Refusal → Option Refusal → Option Refusal
-  orRest o rest = elim o [ none ↦ rest | some r ↦ some r ]
+-- the first refusal of the two
+abbrev pub orRest : Option Refusal → Option Refusal → Option Refusal
+orRest o rest = elim o [ none ↦ rest | some r ↦ some r ]
 
+module _ (z : Sizes) (t : Tables) where
   round-step : (n k : ℕ) (rest : Option Refusal) (f : Found) → firstFound 0 (marks (testsFor k z t) (tableList t)) ≡ f
       → orRest (firstFailing n (testsFor k z t) t) rest ≡ orRest (foundRefusal n f) rest
   round-step n k rest f e = ap (λ (o : Option Refusal). orRest o rest) (found-marked n 0 _ ∙ ap (foundRefusal n) e)
