@@ -16,7 +16,7 @@ use Rattle.model.specs.Program.{Proposition, Binding, Row, Program, Proo
 use Rattle.model.specs.Layout.{Sizes, sizesOf, cellCount, firstProof, kindsOf, endsOf, poolOf, Tables, part, tableList, tablesOf}
 use Rattle.model.specs.Decode.{readHead, readArguments, readRow, readProof, readProgram, readJob, jobOf}
 use Rattle.model.specs.Check.{Refusal}
-use Rattle.model.specs.Load.{Lent, any, between, termFits, below, termRefers, headRefers, exprRefers, rowRefers, proofRefers, isFirst, failsFrom, marks, passed, fitTests, referTests, validTests, onceTests, firstMarked, firstRefusal, firstFailing, loadTests, loadRefusal}
+use Rattle.model.specs.Load.{Lent, any, between, termFits, below, termRefers, headRefers, exprRefers, rowRefers, proofRefers, isFirst, failsFrom, marks, passed, fitTests, referTests, validTests, onceTests, firstMarked, firstRefusal, firstFailing, Admitted, loadTests, loadRefusal}
 use Rattle.model.specs.Tree.{Tree, leaf, named, apply, Trees, tnil, tcons, treesBy, treeOfTerm, treeIn, treeOf, TreeBinding, treeRows, TreeRow}
 use Rattle.model.specs.Walk.{noProof, claimAt}
 use Rattle.model.proofs.Tests.{eq-of, eqb-same, lt-of, le-of, and-left, and-right, not-false, never, words-same}
@@ -191,13 +191,6 @@ pass (u ∷ us) e t m = go (u tt) refl e (List·Memᴰ·cases-cons m) (λ h. pas
     go none h e (inl i) k = ap (λ (f : Unit {0} → Option Refusal). f tt) i ∙ h
     go none h e (inr n) k = k e n
     go (some r) h e i k = absurd (Option·none-ne-some r (sym e))
-
--- what an admitted job's tables pass
-pub record Admitted (z : Sizes) (t : Tables) : Type 0 where
-  pub fits : (k : ℕ) → k < 10 → (i : ℕ) → i < length (getD (tableList t) k []) → getD (fitTests t) k passed i (getD (getD (tableList t) k []) i noCell) ≡ true
-  pub refers : (k : ℕ) → k < 10 → (i : ℕ) → i < length (getD (tableList t) k []) → getD (referTests z) k passed i (getD (getD (tableList t) k []) i noCell) ≡ true
-  pub validated : (k : ℕ) → k < 10 → (i : ℕ) → i < length (getD (tableList t) k []) → getD (validTests t) k passed i (getD (getD (tableList t) k []) i noCell) ≡ true
-  pub once : (k : ℕ) → k < 10 → (i : ℕ) → i < length (getD (tableList t) k []) → getD (onceTests t) k passed i (getD (getD (tableList t) k []) i noCell) ≡ true
 
 -- where none fails, each cell of each table passes its table's test
 pub table-passes : (t : Tables) (n : ℕ) (fs : List (ℕ → Cell → Bool)) (k : ℕ) → k < 10 → length fs ≡ 10 → (i : ℕ) → i < length (getD (tableList t) k []) → firstFailing n fs t ≡ none

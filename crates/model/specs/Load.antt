@@ -1,5 +1,6 @@
 -- The refusals below 20, by document 01: first by the host, then by the job's writer with the least cell, then for want of room.
-use Prim.Native.Nat.{ℕ, zero, suc, _+_, _*_, _-_, _%_}
+use Prim.Native.Nat.{ℕ, zero, suc, _+_, _*_, _-_, _%_, _<_}
+use mathlib.Core.Path.{_≡_}
 use mathlib.Core.List.{List, [], _∷_, _++_, map}
 use mathlib.Core.Bool.{Bool, true, false, not, _&&_, _||_}
 use mathlib.Core.Option.{Option, none, some}
@@ -228,6 +229,13 @@ onceTests t =
     isFirst sameHead (t .normalisers) ∷
     passed ∷
     (λ _ c. bindsOnce (substitution (readProof c .justification))) ∷ []
+
+-- The tables of an admitted job: every cell passes its table's tests for 6 to 9.
+pub record Admitted (z : Sizes) (t : Tables) : Type 0 where
+  pub fits : (k : ℕ) → k < 10 → (i : ℕ) → i < length (getD (tableList t) k []) → getD (fitTests t) k passed i (getD (getD (tableList t) k []) i noCell) ≡ true
+  pub refers : (k : ℕ) → k < 10 → (i : ℕ) → i < length (getD (tableList t) k []) → getD (referTests z) k passed i (getD (getD (tableList t) k []) i noCell) ≡ true
+  pub validated : (k : ℕ) → k < 10 → (i : ℕ) → i < length (getD (tableList t) k []) → getD (validTests t) k passed i (getD (getD (tableList t) k []) i noCell) ≡ true
+  pub once : (k : ℕ) → k < 10 → (i : ℕ) → i < length (getD (tableList t) k []) → getD (onceTests t) k passed i (getD (getD (tableList t) k []) i noCell) ≡ true
 
 -- The refusal of the job's writer: the least cell, over all tables, that fails its table's test.
 abbrev pub firstFailing : ℕ → List (ℕ → Cell → Bool) → Tables → Option Refusal
