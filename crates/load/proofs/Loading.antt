@@ -1,8 +1,8 @@
 -- Laws of loading as a whole: what rising ends give, the tests in their order, and the room that the terms take.
 use mathlib.Core.Path.{_≡_, refl, sym, ap, ap₂, subst, _∙_}
 use mathlib.Core.Bool.{Bool, true, false, not, _||_, true≢false}
-use mathlib.Core.List.{List, [], _∷_, _++_, map, List·Memᴰ·head}
-use mathlib.Core.Option.{Option, none, some}
+use mathlib.Core.List.{List, [], _∷_, _++_, map, List·Memᴰ, List·Memᴰ·head, List·Memᴰ·tail}
+use mathlib.Core.Option.{Option, none, some, Option·none-ne-some}
 use Prim.Native.Nat.{ℕ, zero, suc, _+_, _*_, _-_, _≤_, _<_}
 use native.Mathlib.Omega.{arith}
 use native.Mathlib.Nat.{le-trans, not-suc-le-zero}
@@ -15,9 +15,9 @@ use Rattle.model.specs.Cell.{Cell, noCell, tabulate, startOf, cellAt, cellsOf}
 use Rattle.model.specs.Term.{readTerm, termWords, widths}
 use Rattle.model.specs.Layout.{Sizes, sizesOf, cellCount, kindsOf, endsOf, poolOf, Tables, tablesIn, tablesOf}
 use Rattle.model.specs.Check.{Refusal}
-use Rattle.model.specs.Load.{Lent, wrongLength, tooLarge, endsRise, noRoom, refusedIf, termFits, fitTests, firstRefusal, loadRefusal}
+use Rattle.model.specs.Load.{Lent, wrongLength, tooLarge, endsRise, noRoom, refusedIf, termFits, fitTests, firstRefusal, Admitted, loadTests, loadRefusal}
 use Rattle.model.proofs.Tests.{eq-of, le-of, and-left, and-right}
-use Rattle.model.proofs.Valid.{term-cell, pass, table-passes}
+use Rattle.model.proofs.Valid.{term-cell, pass, table-passes, loads-admitted}
 use Rattle.cells.specs.Table.{total}
 use Rattle.cells.proofs.Laws.{length-tabulate}
 use Rattle.cells.proofs.Appending.{total-at}
@@ -231,15 +231,15 @@ module _ (ws : List ℕ) (z : SizesHeld) (n : ℕ) (s : sizesIn z ≡ sizesOf ws
   pub inside : 12 + n + n ≤ length ws
   inside = omega (arith, words, e)
 
-  kinds-cut : kindsCut ≡ kindsOf ws
+  pub kinds-cut : kindsCut ≡ kindsOf ws
   unfolding kindsOf
   kinds-cut = let q : 12 + n - 12 ≡ n = omega arith in ap (λ (k : ℕ). take k (drop 12 ws)) (q ∙ count)
 
-  ends-cut : endsCut ≡ endsOf ws
+  pub ends-cut : endsCut ≡ endsOf ws
   unfolding endsOf
   ends-cut = let q : 12 + n + n - (12 + n) ≡ n = omega arith in ap (λ (k : ℕ). take k (drop (12 + n) ws)) q ∙ ap (λ (k : ℕ). take k (drop (12 + k) ws)) count
 
-  pool-cut : poolCut ≡ poolOf ws
+  pub pool-cut : poolCut ≡ poolOf ws
   unfolding poolOf
   pool-cut = rest-part ws (12 + n + n) inside ∙ ap (λ (k : ℕ). drop (12 + k + k) ws) count
 
@@ -254,3 +254,43 @@ module _ (ws : List ℕ) (z : SizesHeld) (n : ℕ) (s : sizesIn z ≡ sizesOf ws
   pub cut-refusal : (l : Lent) → cellRefusal endsCut (sizesIn z) (tablesFor kindsCut endsCut poolCut z) l ≡ cellRefusal (endsOf ws) (sizesOf ws) (tablesOf ws) l
   unfolding tablesOf
   cut-refusal l = λ i. cellRefusal (ends-cut i) (s i) (tablesIn (s i) (cellsOf (kinds-cut i) (ends-cut i) (pool-cut i) (cellCount (s i)))) l
+
+-- a job that loads: its arrays, as the code cuts them, hold its cells, and its tables pass
+refused-no : (b : Bool) (n : ℕ) → refusedIf b n ≡ none → b ≡ false
+unfolding refusedIf
+refused-no false n h = refl
+refused-no true n h = absurd (Option·none-ne-some _ (sym h))
+
+module _ (ws : List ℕ) (asked : ℕ) (l : Lent) (a : loadRefusal ws asked l ≡ none) where
+  abbrev tests : List (Unit {0} → Option Refusal)
+  tests = loadTests ws (sizesOf ws) (tablesOf ws) asked l
+
+  test-passes : (t : Unit {0} → Option Refusal) → List·Memᴰ t tests → t tt ≡ none
+  unfolding loadRefusal
+  test-passes t m = pass tests a t m
+
+  pub right-length : wrongLength ws ≡ false
+  right-length = refused-no _ 1 (test-passes _ (List·Memᴰ·head refl))
+
+  module _ (z : SizesHeld) (n : ℕ) (s : sizesIn z ≡ sizesOf ws) (e : n ≡ cellCount (sizesIn z)) where
+    abbrev K : List ℕ
+    K = kindsCut ws z n s e right-length
+
+    abbrev E : List ℕ
+    E = endsCut ws z n s e right-length
+
+    abbrev P : List ℕ
+    P = poolCut ws z n s e right-length
+
+    pub loads-held : Held K E P z
+    loads-held =
+        let small : tooLarge (sizesIn z) ≡ false = ap tooLarge s ∙ refused-no _ 2 (test-passes _ (List·Memᴰ·tail (List·Memᴰ·head refl))) in
+        let rise = not-false _ (refused-no _ 5 (test-passes _ (List·Memᴰ·tail (List·Memᴰ·tail (List·Memᴰ·tail (List·Memᴰ·head refl)))))) in
+        held-of (cut-of ws z n s e right-length (limits-of z small)) ((λ i. endsRise 0 (ends-cut ws z n s e right-length i) (s i .pool)) ∙ rise)
+
+    pub loads-pass : Admitted (sizesIn z) (tablesFor K E P z)
+    unfolding tablesOf
+    loads-pass =
+        let same : _≡_ {A = Sizes × Tables} (sizesIn z, tablesFor K E P z) (sizesOf ws, tablesOf ws) =
+        λ i. (s i, tablesIn (s i) (cellsOf (kinds-cut ws z n s e right-length i) (ends-cut ws z n s e right-length i) (pool-cut ws z n s e right-length i) (cellCount (s i)))) in
+        subst (λ (x : Sizes × Tables). Admitted (x .0) (x .1)) (sym same) (loads-admitted ws asked l a)
