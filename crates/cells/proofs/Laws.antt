@@ -10,19 +10,20 @@ use native.Mathlib.Omega.{arith}
 use lib.Dec.{eqb}
 use borrow.Author.Tests.{eq-eqb, ne-eqb, eqb-true}
 use lib.ListN.{length, getD, take, drop, length-take, length-drop, length-append, drop-of-length-le, List·getD-append}
-use lib.Seq.{drop-cons, getD-at}
+use lib.Seq.{drop-cons, getD-at, take-length}
 use Rattle.model.specs.Cell.{Cell, noCell, sameWords, sameCell, tabulate, startOf, wordsAt, cellAt, cellsOf}
+use Rattle.model.proofs.Tests.{and-false}
+use Rattle.model.proofs.Valid.{length-tabulate}
 use Rattle.cells.specs.Table.{Formed, findFrom, findCell}
 use Rattle.cells.specs.declared.Fill.{Fill}
 use Rattle.cells.specs.declared.Found.{Found}
 
+-- a part up to the end
+pub to-end : (n : ℕ) (ws : List ℕ) → take (length ws - n) (drop n ws) ≡ drop n ws
+to-end n ws = rw (← length-drop n ws) (take-length (drop n ws))
+
 -- tabulated lists
 module _ {A : Type 0} where
-  pub length-tabulate : (n : ℕ) (f : ℕ → A) → length (tabulate n f) ≡ n
-  unfolding tabulate
-  length-tabulate zero f = refl
-  length-tabulate (suc n) f = length-append (tabulate n f) (f n ∷ []) ∙ add-one (length (tabulate n f)) ∙ ap suc (length-tabulate n f)
-
   pub getD-tabulate : (n : ℕ) (f : ℕ → A) (i : ℕ) (d : A) → i < n → getD (tabulate n f) i d ≡ f i
   unfolding tabulate
   getD-tabulate zero f i d h = absurd (not-suc-le-zero h)
@@ -81,10 +82,6 @@ same-step a b k h l = rw (drop-cons a k 0, drop-cons b k 0, add-one)
 
 pub same-end : (a b : List ℕ) (k : ℕ) → length a ≤ k → length b ≤ k → sameWords (drop k a) (drop k b) ≡ true
 same-end a b k h l = rw (drop-of-length-le a h, drop-of-length-le b l)
-
-and-false : (t : Bool) → (t && false) ≡ false
-and-false true = refl
-and-false false = refl
 
 pub same-length : (a b : List ℕ) → (length a ≡ length b → ⊥) → sameWords a b ≡ false
 same-length [] [] h = absurd (h refl)

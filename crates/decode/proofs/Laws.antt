@@ -7,6 +7,7 @@ use native.Mathlib.Nat.{sub-zero, suc-sub-suc, not-suc-le-zero, le-of-suc-le-suc
 use lib.ListN.{length, getD, take, drop, length-drop}
 use lib.Seq.{take-length, drop-drop}
 use borrow.Author.Tests.{lt-ltb, le-ltb}
+use Rattle.cells.proofs.Laws.{to-end}
 use Rattle.model.specs.Decode.{readArguments, readBindings}
 use Rattle.decode.specs.View.{cell, noBinding}
 
@@ -33,10 +34,7 @@ more-sub (suc n) (suc k) h = rw (suc-sub-suc k n) (ap suc (more-sub n k (le-of-s
 pub past : (n k : ℕ) → Others n k → k ≡ more n (k - n)
 past n k h = more-sub n k (above n k h)
 
--- a part up to the end, one of m words, and the rest behind that
-pub to-end : (n : ℕ) (ws : List ℕ) → take (length ws - n) (drop n ws) ≡ drop n ws
-to-end n ws = rw (← length-drop n ws) (take-length (drop n ws))
-
+-- a part of m words, and the rest behind that
 pub part-of : (n m : ℕ) (ws : List ℕ) → take (n + m - n) (drop n ws) ≡ take m (drop n ws)
 part-of n m ws = let e : n + m - n ≡ m = omega arith in rw e
 

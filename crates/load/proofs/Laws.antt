@@ -9,6 +9,7 @@ use lib.Dec.{eqb, leb, ltb}
 use lib.ListN.{length, getD, take, drop, length-drop, drop-of-length-le, List·getD-eq-default}
 use lib.Seq.{drop-cons, drop-length, take-all}
 use borrow.Author.Tests.{eq-eqb, ne-eqb, lt-ltb, le-ltb}
+use Rattle.cells.proofs.Laws.{to-end}
 use Rattle.model.specs.Term.{Literal, readTerm}
 use Rattle.model.specs.Program.{Binding, references, substitution}
 use Rattle.model.specs.Decode.{readArguments, readBindings, readJustification}
@@ -19,20 +20,9 @@ module _ {A : Type 0} where
   pub past : (xs : List A) (d : A) (k : ℕ) → length xs ≤ k → d ≡ getD xs k d
   past xs d k h = sym (List·getD-eq-default xs d h)
 
-pub and-true : (t : Bool) → (t && true) ≡ t
-and-true true = refl
-and-true false = refl
-
-pub and-false : (t : Bool) → (t && false) ≡ false
-and-false true = refl
-and-false false = refl
-
 -- the part of words behind n, as the code cuts it
-pub rest-part : (ws : List ℕ) (n : ℕ) → n ≤ length ws → take (length ws - n) (drop n ws) ≡ drop n ws
-rest-part ws n h = take-all (length ws - n) (drop n ws) (simp length-drop (omega arith))
-
 pub rest-none : (ws : List ℕ) (n : ℕ) → length ws ≤ n → take (length ws - length ws) (drop (length ws) ws) ≡ drop n ws
-rest-none ws n h = rest-part ws (length ws) (omega arith) ∙ drop-length ws ∙ sym (drop-of-length-le ws h)
+rest-none ws n h = to-end (length ws) ws ∙ drop-length ws ∙ sym (drop-of-length-le ws h)
 
 pub front-none : (ws : List ℕ) (n : ℕ) → length ws ≤ n → take (length ws - 0) ws ≡ take n ws
 front-none ws n h = take-all (length ws - 0) ws (omega arith) ∙ sym (take-all n ws h)
@@ -180,11 +170,3 @@ module _ (ws : List ℕ) (k : ℕ) (p : 1 ≤ k) where
 
   pub once-end : length ws ≤ k → true ≡ bindsOnce (readBindings (drop (k - 1) ws))
   once-end h = rw (pairs-end ws k p h)
-
-pub not-true : (b : Bool) → not b ≡ true → b ≡ false
-not-true true e = sym e
-not-true false e = refl
-
-pub not-false : (b : Bool) → not b ≡ false → b ≡ true
-not-false true e = refl
-not-false false e = sym e

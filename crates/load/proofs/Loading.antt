@@ -1,6 +1,6 @@
 -- Laws of loading as a whole: what rising ends give, the tests in their order, and the room that the terms take.
 use mathlib.Core.Path.{_≡_, refl, sym, ap, ap₂, subst, _∙_}
-use mathlib.Core.Bool.{Bool, true, false, not, _||_, true≢false}
+use mathlib.Core.Bool.{Bool, true, false, not, _||_}
 use mathlib.Core.List.{List, [], _∷_, _++_, map, List·Memᴰ, List·Memᴰ·head, List·Memᴰ·tail}
 use mathlib.Core.Option.{Option, none, some, Option·none-ne-some}
 use Prim.Native.Nat.{ℕ, zero, suc, _+_, _*_, _-_, _≤_, _<_}
@@ -16,14 +16,13 @@ use Rattle.model.specs.Term.{readTerm, termWords, widths}
 use Rattle.model.specs.Layout.{Sizes, sizesOf, cellCount, kindsOf, endsOf, poolOf, Tables, tablesIn, tablesOf}
 use Rattle.model.specs.Check.{Refusal}
 use Rattle.model.specs.Load.{Lent, wrongLength, tooLarge, endsRise, noRoom, refusedIf, termFits, fitTests, firstRefusal, Admitted, loadTests, loadRefusal}
-use Rattle.model.proofs.Tests.{eq-of, le-of, and-left, and-right}
-use Rattle.model.proofs.Valid.{term-cell, pass, table-passes, loads-admitted}
+use Rattle.model.proofs.Tests.{eq-of, le-of, and-left, and-right, or-left, or-right, not-false}
+use Rattle.model.proofs.Valid.{term-cell, pass, table-passes, loads-admitted, length-tabulate}
 use Rattle.cells.specs.Table.{total}
-use Rattle.cells.proofs.Laws.{length-tabulate}
+use Rattle.cells.proofs.Laws.{to-end}
 use Rattle.cells.proofs.Appending.{total-at}
 use Rattle.load.specs.declared.sizes.Sizes.{Sizes as SizesHeld}
 use Rattle.load.specs.Held.{sizesIn, Limits, Held, tablesFor, Cut, writerTests, roomLacks, cellRefusal}
-use Rattle.load.proofs.Laws.{not-false, rest-part}
 use Rattle.load.proofs.Rounds.{orRest}
 
 -- ends that rise from s
@@ -159,8 +158,7 @@ module _ {K E P : List ℕ} {z : SizesHeld} (H : Held K E P z) (l : Lent) where
 
 -- a job's words
 or-no : (a b : Bool) → (a || b) ≡ false → (a ≡ false) × (b ≡ false)
-or-no false b h = (refl, h)
-or-no true b h = absurd (true≢false h)
+or-no a b h = (or-left a b h, or-right a b h)
 
 pub limits-of : (z : SizesHeld) → tooLarge (sizesIn z) ≡ false → Limits z
 limits-of z h =
@@ -241,7 +239,7 @@ module _ (ws : List ℕ) (z : SizesHeld) (n : ℕ) (s : sizesIn z ≡ sizesOf ws
 
   pub pool-cut : poolCut ≡ poolOf ws
   unfolding poolOf
-  pool-cut = rest-part ws (12 + n + n) inside ∙ ap (λ (k : ℕ). drop (12 + k + k) ws) count
+  pool-cut = to-end (12 + n + n) ws ∙ ap (λ (k : ℕ). drop (12 + k + k) ws) count
 
   pub cut-of : Limits z → Cut kindsCut endsCut poolCut z
   cut-of l = record {

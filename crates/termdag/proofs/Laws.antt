@@ -10,6 +10,7 @@ use native.Mathlib.Omega.{arith}
 use lib.Dec.{eqb, ltb, leb}
 use lib.ListN.{length, getD, take, drop, length-map}
 use lib.Seq.{take-at}
+use Rattle.model.proofs.Tests.{and-true}
 use Rattle.model.specs.Cell.{Cell, noCell, sameCell, cellsOf}
 use Rattle.model.specs.Term.{Term, lit, var, app, termKind, termWords, cellOf, readTerm, sameTerm, width, widths, findTerm, getTerm}
 use Rattle.model.specs.Check.{Outcome, ok, refused, refuse, addNode}
@@ -32,10 +33,6 @@ unfolding readTerm
 read-cell (lit l) = refl
 read-cell (var x) = refl
 read-cell (app f xs) = refl
-
-and-true : (t : Bool) → (t && true) ≡ t
-and-true true = refl
-and-true false = refl
 
 same-cell : (a b : Term) → sameCell (cellOf a) (cellOf b) ≡ sameTerm a b
 same-cell (lit a) (lit b) = ap (λ (t : Bool). eqb (a .kind) (b .kind) && (eqb (a .low) (b .low) && t)) (and-true (eqb (a .high) (b .high)))

@@ -1,6 +1,7 @@
 use mathlib.Core.Path.{_∙_}
 use borrow.Author.Needs.{needs}
-use Rattle.decode.proofs.Laws.{to-end, arguments-none, arguments-some}
+use Rattle.decode.proofs.Laws.{arguments-none, arguments-some}
+use Rattle.cells.proofs.Laws.{to-end}
 use Rattle.decode.proofs.read_arguments.Statement.{statement}
 use Rattle.decode.proofs.read_arguments.Tie as tie
 

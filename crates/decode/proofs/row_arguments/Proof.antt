@@ -1,4 +1,4 @@
-use Rattle.decode.proofs.Laws.{to-end}
+use Rattle.cells.proofs.Laws.{to-end}
 use borrow.Author.Needs.{needs}
 use Rattle.decode.proofs.row_arguments.Statement.{statement}
 use Rattle.decode.proofs.row_arguments.Tie as tie

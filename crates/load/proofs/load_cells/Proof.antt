@@ -1,5 +1,5 @@
 use Prim.Native.Nat.{ℕ}
-use Rattle.load.proofs.Laws.{not-true, not-false}
+use Rattle.model.proofs.Tests.{not-true, not-false}
 use Rattle.load.proofs.Loading.{held-of, refuses-5, refuses-writer, refuses-10, admits, room-is}
 use Rattle.load.specs.Held.{sizesIn, tablesFor, refusalOf, roomLacks}
 use mathlib.Core.Path.{_≡_, refl, sym, ap, _∙_}

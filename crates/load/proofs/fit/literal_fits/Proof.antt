@@ -9,7 +9,8 @@ use mathlib.Core.Path.{ap}
 use mathlib.Core.Path.{_≡_, sym, _∙_}
 use native.Mathlib.Omega.{arith}
 use lib.ListN.{getD}
-use Rattle.load.proofs.Laws.{past, and-true, and-false, literal-unknown}
+use Rattle.load.proofs.Laws.{past, literal-unknown}
+use Rattle.model.proofs.Tests.{and-true, and-false}
 use borrow.Author.Needs.{needs}
 use Rattle.load.proofs.fit.literal_fits.Statement.{statement}
 use Rattle.load.proofs.fit.literal_fits.Tie as tie

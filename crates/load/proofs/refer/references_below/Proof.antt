@@ -1,4 +1,5 @@
-use Rattle.load.proofs.Laws.{and-true, no-references}
+use Rattle.model.proofs.Tests.{and-true}
+use Rattle.load.proofs.Laws.{no-references}
 use mathlib.Core.Path.{_≡_, refl, sym, ap, _∙_}
 use borrow.Author.Needs.{needs}
 use Rattle.load.proofs.refer.references_below.Statement.{statement}

@@ -1,4 +1,4 @@
-use Rattle.load.proofs.Laws.{not-true, not-false}
+use Rattle.model.proofs.Tests.{not-true, not-false}
 use Rattle.load.proofs.TableLaws.{table-length, table-cell, found-yes, found-no, found-end, place-inside}
 use native.Mathlib.Omega.{arith}
 use mathlib.Core.Path.{_≡_, refl, sym, ap, _∙_}

@@ -1,4 +1,5 @@
-use Rattle.load.proofs.Laws.{rest-part, rest-none}
+use Rattle.cells.proofs.Laws.{to-end}
+use Rattle.load.proofs.Laws.{rest-none}
 use native.Mathlib.Omega.{arith}
 use borrow.Author.Needs.{needs}
 use Rattle.load.proofs.words.rest.Statement.{statement}
@@ -14,7 +15,7 @@ part-result-end : tie.Need-part-result-end
 part-result-end c = search needs
 
 returns : tie.Need-returns
-returns c = rest-part (c .before .before .args .ws .now) (c .before .before .args .n) (omega arith)
+returns c = to-end (c .before .before .args .n) (c .before .before .args .ws .now)
 
 mul-result-2 : tie.Need-mul-result-2
 mul-result-2 c = search needs
