@@ -12,8 +12,8 @@ use Rattle.model.specs.Cell.{sameWords}
 use Rattle.model.specs.Term.{Term, lit, var, app, getTerm}
 use Rattle.model.specs.Program.{Head, literal, variable, constructor, custom, primitive, Expr, node, Exprs, nil, cons, Proposition, Binding, Row, Program, Job}
 use Rattle.model.specs.Check.{Outcome, ok, refused, Check, andThen, _>>=_, pure, orRefuse, Room, addNode}
-use Rattle.model.specs.Evaluate.{lookup, primitiveAt, rowValue, validate, validatedBy, children, concatMap, subtermsIn, same, reflexive, Value, Values, valued, headValue, evalExpr, evalExprs, factHeadValue, evalFactExpr, evalFactExprs}
-use Rattle.model.proofs.Post.{Nonzero, Post, post-ok, post-map, post-bind, post-or, post-result}
+use Rattle.model.specs.Evaluate.{lookup, primitiveAt, rowValue, validate, validatedBy, children, concatMap, subtermsIn, same, reflexive, Value, Values, valued, headValue, evalExpr, evalExprs}
+use Rattle.model.proofs.Post.{Nonzero, Post, post-ok, post-map, post-bind, post-result}
 use Rattle.model.proofs.Agree.{agree-post}
 use Rattle.model.proofs.Store.{Extends, extends-same, extends-then, extends-length, get-extends, get-inside, find-extends, Below, Ordered, Children, Added, add-agrees, add-found}
 use Rattle.model.proofs.Valid.{Valid}
@@ -24,22 +24,22 @@ module _ {A : Type 0} where
     pub grows : Extends s s′
     pub again : (s″ : List Term) → Extends s′ s″ → c s″ ≡ ok a s″
 
-  settled-pure : {a : A} {s : List Term} → Settled (pure a) s a s
+  pub settled-pure : {a : A} {s : List Term} → Settled (pure a) s a s
   settled-pure = record { grows = extends-same; again = λ s″ x. refl }
 
-  settled-or : (o : Option A) (n : ℕ) (fs : List ℕ) (s : List Term) → Nonzero {0} n → Post (orRefuse o n fs s) (Settled (orRefuse o n fs) s)
+  pub settled-or : (o : Option A) (n : ℕ) (fs : List ℕ) (s : List Term) → Nonzero {0} n → Post (orRefuse o n fs s) (Settled (orRefuse o n fs) s)
   unfolding orRefuse
   settled-or none n fs s z = record { holds = z }
   settled-or (some a) n fs s z = post-ok settled-pure
 
 module _ {A B : Type 0} where
-  settled-then : {c : Check A} (f : A → Check B) {s s₁ s₂ : List Term} {a : A} {b : B} → Settled c s a s₁ → Settled (f a) s₁ b s₂ → Settled (c >>= f) s b s₂
+  pub settled-then : {c : Check A} (f : A → Check B) {s s₁ s₂ : List Term} {a : A} {b : B} → Settled c s a s₁ → Settled (f a) s₁ b s₂ → Settled (c >>= f) s b s₂
   settled-then f m n = record {
     grows = extends-then (m .grows) (n .grows);
     again = λ s″ x. ap (λ (o : Outcome A). andThen o f) (m .again s″ (extends-then (n .grows) x)) ∙ n .again s″ x;
   }
 
-added : (room : Room) (t : Term) (s : List Term) → Post (addNode room t s) (λ n s′. Settled (addNode room t) s n s′ × Added room t s n s′)
+pub added : (room : Room) (t : Term) (s : List Term) → Post (addNode room t s) (λ n s′. Settled (addNode room t) s n s′ × Added room t s n s′)
 added room t s = post-map (agree-post (add-agrees room t s (tt {0}) λ n s′ a.
     (record { grows = a .grows; again = λ s″ x. add-found room t s″ n (find-extends s′ s″ t n x (a .found)) }, a))) λ n s′ m. m .2
 
@@ -77,40 +77,11 @@ pub reflexive-extend : (s s′ : List Term) → Ordered s → Extends s s′ →
 unfolding reflexive
 reflexive-extend s s′ o x n h = ap (map same) (subterms-extend s s′ o x (suc n) n h)
 
-module _ (prog : Program) (room : Room) (rule : ℕ) where
-  -- evaluation in ordinary facts: no hypothesis
-  validated-settled : (n p : ℕ) (ts : List ℕ) (s : List Term) → Nonzero {0} n → (b : Bool) → Post (validatedBy prog n p ts b s) (Settled (validatedBy prog n p ts b) s)
+module _ (prog : Program) where
+  pub validated-settled : (n p : ℕ) (ts : List ℕ) (s : List Term) → Nonzero {0} n → (b : Bool) → Post (validatedBy prog n p ts b s) (Settled (validatedBy prog n p ts b) s)
   unfolding validate
   validated-settled n p ts s z false = record { holds = z }
   validated-settled n p ts s z true = settled-or (rowValue (prog .rows) p ts) _ _ s tt
-
-  fact-head-settled : (σ : List Binding) (h : Head) (ts : List ℕ) (s : List Term) → Post (factHeadValue room prog rule σ h ts s) (Settled (factHeadValue room prog rule σ h ts) s)
-  unfolding factHeadValue
-  fact-head-settled σ (literal l) ts s = post-map (added room (lit l) s) λ t s′ m. m .0
-  fact-head-settled σ (variable x) ts s = settled-or (lookup σ x) _ _ s tt
-  fact-head-settled σ (constructor f) ts s = post-map (added room (app f ts) s) λ t s′ m. m .0
-  fact-head-settled σ (custom f) ts s = record { holds = tt }
-  fact-head-settled σ (primitive p) ts s = validated-settled 47 p ts s tt (primitiveAt (prog .primitives) p .validator)
-
-  mutual
-    unfolding evalFactExpr
-
-    pub fact-settled : (e : Expr) (σ : List Binding) (s : List Term) → Post (evalFactExpr room prog rule σ e s) (Settled (evalFactExpr room prog rule σ e) s)
-    fact-settled (node i h es) σ s =
-        post-bind (facts-settled es σ s) λ ts s₁ m.
-        post-map (fact-head-settled σ h ts s₁) λ t s₂ n. settled-then (factHeadValue room prog rule σ h) m n
-
-    facts-settled : (es : Exprs) (σ : List Binding) (s : List Term) → Post (evalFactExprs room prog rule σ es s) (Settled (evalFactExprs room prog rule σ es) s)
-    facts-settled nil σ s = post-ok settled-pure
-    facts-settled (cons e es) σ s =
-        post-bind (fact-settled e σ s) λ t s₁ m.
-        post-bind (facts-settled es σ s₁) λ ts s₂ n.
-        post-ok (settled-then (λ a. evalFactExprs room prog rule σ es >>= λ as′. pure (a ∷ as′)) m (settled-then (λ as′. pure (t ∷ as′)) n settled-pure))
-
-  -- a second evaluation in an ordinary fact
-  pub fact-again : (e : Expr) (σ : List Binding) (s s′ s″ : List Term) (t : ℕ)
-      → evalFactExpr room prog rule σ e s ≡ ok t s′ → Extends s′ s″ → evalFactExpr room prog rule σ e s″ ≡ ok t s″
-  fact-again e σ s s′ s″ t q x = post-result (fact-settled e σ s) q .again s″ x
 
 -- evaluation with pairs: the store is ordered, and the numbers that the bindings and the rows name lie in it
 lookup-member : (σ : List Binding) (x t : ℕ) → lookup σ x ≡ some t → (b : Binding) × List·Memᴰ b σ × (b .term ≡ t)

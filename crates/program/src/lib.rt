@@ -1,4 +1,6 @@
 // Look-ups in the tables of an admitted job's program, and the normal form of a container.
+pub mod read;
+
 use cells::Fill;
 use cells::Found;
 use cells::same_words;

@@ -1,0 +1,305 @@
+-- The evaluator's turns: an expression that is noted, an argument evaluated, refused, all of them evaluated.
+use mathlib.Core.Path.{_≡_, refl, sym, ap, subst, subst⁻¹, _∙_}
+use mathlib.Core.Logic.{_⊎_, inl, inr}
+use mathlib.Core.Bool.{Bool, true, false, true≢false}
+use mathlib.Core.List.{List, [], _∷_, _++_, append-assoc, append-nil, List·Memᴰ, List·Memᴰ·head, List·Memᴰ·tail, List·Memᴰ·not-nil, List·Memᴰ·cases-cons}
+use Prim.Native.Nat.{ℕ, zero, suc, _+_, _<_, _≤_}
+use native.Mathlib.Nat.{not-suc-le-zero, le-of-suc-le-suc}
+use native.Mathlib.Numerals.{add-one}
+use native.Mathlib.Omega.{arith}
+use lib.Dec.{eqb}
+use borrow.Author.Tests.{eqb-true, eqb-false}
+use lib.ListN.{length, getD, set, take, drop, length-set, drop-of-length-le}
+use lib.Seq.{drop-cons, take-suc-set}
+use Rattle.model.specs.Term.{Term}
+use Rattle.model.specs.Program.{Head, Expr, node, Exprs, nil, cons, Binding, Program}
+use Rattle.model.specs.Decode.{argumentsBy}
+use Rattle.model.specs.Check.{Outcome, ok, refused, Check, andThen, pure, Room}
+use Rattle.model.proofs.Post.{post-result}
+use Rattle.model.proofs.Store.{Extends, extends-same}
+use Rattle.cells.specs.declared.Fill.{Fill}
+use Rattle.termdag.specs.Store.{termsIn, Stored, roomOf}
+use Rattle.memo.specs.Memo.{valueAt, isNoted, noteAt, Started}
+use Rattle.memo.proofs.Laws.{note-length, note-other, note-value-other, note-here, note-value, note-past}
+use Rattle.outcome.specs.Does.{passed, refusalOf, outcomeOf, Grown, Does}
+use Rattle.outcome.specs.declared.Refusal.{Refusal}
+use Rattle.outcome.specs.declared.Checked.{Checked}
+use Rattle.outcome.proofs.Laws.{ok-of, refused-of, grown-same, grown-then, room-same, does-here}
+use Rattle.model.proofs.Fuel.{expr-node}
+use Rattle.model.proofs.Valid.{expressions-lower}
+use Rattle.load.specs.Held.{sizesIn, tablesFor}
+use Rattle.load.specs.declared.sizes.Sizes.{Sizes}
+use Rattle.program.specs.Ready.{Ready, programFor}
+use Rattle.evaluate.specs.Value.{exprFor, argumentsFor, headFor, evalFor, valueFor, headTerm, evalTerm, evalTerms, Reaches, here, down}
+use Rattle.evaluate.specs.Evaluation.{Memo, Noted, Evaluates, EvaluatesRoot}
+use Rattle.evaluate.proofs.Settling.{value-term, head-settled, term-again}
+
+-- members by place
+pub member-at : (xs : List ℕ) (i : ℕ) → i < length xs → List·Memᴰ (getD xs i 0) xs
+member-at [] i h = absurd (not-suc-le-zero h)
+member-at (x ∷ xs) zero h = List·Memᴰ·head refl
+member-at (x ∷ xs) (suc i) h = List·Memᴰ·tail (member-at xs i (le-of-suc-le-suc h))
+
+pub place-of : (xs : List ℕ) (a : ℕ) → List·Memᴰ a xs → (i : ℕ) × (i < length xs) × (getD xs i 0 ≡ a)
+place-of [] a m = absurd (List·Memᴰ·not-nil m)
+place-of (x ∷ xs) a m = go (List·Memᴰ·cases-cons m) (place-of xs a)
+  where
+    go : (a ≡ x) ⊎ List·Memᴰ a xs → (List·Memᴰ a xs → (i : ℕ) × (i < length xs) × (getD xs i 0 ≡ a)) → (i : ℕ) × (i < length (x ∷ xs)) × (getD (x ∷ xs) i 0 ≡ a)
+    go (inl e) r = (0, omega arith, sym e)
+    go (inr m) r = let p = r m in (suc (p .0), let q = p .1 in omega arith, p .2)
+
+-- values that are collected one by one
+module _ {B : Type 0} where
+  collect : (o : Outcome (List ℕ)) (t : ℕ) (h k : List ℕ → Check B) → ((ts : List ℕ) (s : List Term) → h (t ∷ ts) s ≡ k ts s)
+      → andThen (andThen o (λ ts. pure (t ∷ ts))) h ≡ andThen o k
+  collect (ok ts s) t h k e = e ts s
+  collect (refused r s) t h k e = refl
+
+module _ (fact : Bool) (prog : Program) (rule : ℕ) (σ : List Binding) (n : ℕ) (args : ℕ → List ℕ) (head : ℕ → Head) (expr : ℕ → Expr) where
+  abbrev eval : Room → ℕ → Check ℕ
+  eval room e = evalTerm fact room prog rule σ (expr e)
+
+  -- what is left to do for e after the values vs, with the arguments xs to come
+  abbrev rest : Room → ℕ → List ℕ → List ℕ → Check ℕ
+  rest room e vs xs s = andThen (evalTerms fact room prog rule σ (argumentsBy expr xs) s) (λ ts. headTerm fact room prog rule σ (head e) (vs ++ ts))
+
+  rest-all : (room : Room) (e : ℕ) (s : List Term) → expr e ≡ node e (head e) (argumentsBy expr (args e)) → rest room e [] (args e) s ≡ eval room e s
+  unfolding evalTerm
+  rest-all room e s q = ap (λ (x : Expr). evalTerm fact room prog rule σ x s) (sym q)
+
+  rest-none : (room : Room) (e : ℕ) (vs : List ℕ) (s : List Term) → rest room e vs [] s ≡ headTerm fact room prog rule σ (head e) vs s
+  unfolding evalTerms
+  rest-none room e vs s = ap (λ (ts : List ℕ). headTerm fact room prog rule σ (head e) ts s) (append-nil vs)
+
+  rest-value : (room : Room) (e a t : ℕ) (vs xs : List ℕ) (s s′ : List Term) → eval room a s ≡ ok t s′ → rest room e vs (a ∷ xs) s ≡ rest room e (vs ++ (t ∷ [])) xs s′
+  unfolding evalTerms
+  rest-value room e a t vs xs s s′ q =
+      ap (λ (o : Outcome ℕ). andThen (andThen o (λ x. λ u. andThen (evalTerms fact room prog rule σ (argumentsBy expr xs) u) (λ ts. pure (x ∷ ts)))) (λ ts. headTerm fact room prog rule σ (head e) (vs ++ ts))) q
+      ∙ collect (evalTerms fact room prog rule σ (argumentsBy expr xs) s′) t _ _ (λ ts u. ap (λ (l : List ℕ). headTerm fact room prog rule σ (head e) l u) (sym (append-assoc vs (t ∷ []) ts)))
+
+  rest-refused : (room : Room) (e a : ℕ) (vs xs : List ℕ) (s s′ : List Term) (r : Refusal) → eval room a s ≡ refused (refusalOf r) s′ → rest room e vs (a ∷ xs) s ≡ refused (refusalOf r) s′
+  unfolding evalTerms
+  rest-refused room e a vs xs s s′ r q =
+      ap (λ (o : Outcome ℕ). andThen (andThen o (λ x. λ u. andThen (evalTerms fact room prog rule σ (argumentsBy expr xs) u) (λ ts. pure (x ∷ ts)))) (λ ts. headTerm fact room prog rule σ (head e) (vs ++ ts))) q
+
+  -- a memo in a room of the same size, and in a larger store
+  memo-room : {a b : Room} {s : List Term} {m : List ℕ} → a ≡ b → Memo args (eval a) n s m → Memo args (eval b) n s m
+  memo-room {s = s} {m = m} q M = subst (λ (x : Room). Memo args (eval x) n s m) q M
+
+  -- after i arguments of e, whose numbers are xs
+  pub record Turn (e : ℕ) (xs K₀ E₀ P₀ : List ℕ) (f₀ : Fill) (m₀ K E P : List ℕ) (f : Fill) (m vals : List ℕ) (i : ℕ) : Type 0 where
+    pub upto : i ≤ length xs
+    pub full : length vals ≡ 16
+    pub grown : Grown K₀ E₀ P₀ f₀ K E P f
+    pub run : rest (roomOf K₀ P₀) e (take i vals) (drop i xs) (termsIn K E P f) ≡ eval (roomOf K₀ P₀) e (termsIn K₀ E₀ P₀ f₀)
+    pub memo : Memo args (eval (roomOf K₀ P₀)) n (termsIn K E P f) m
+    pub lenM : length m ≡ length m₀
+    pub keeps : (k : ℕ) → k < n → isNoted m₀ k ≡ true → isNoted m k ≡ true
+    pub only : (k : ℕ) → k < n → isNoted m k ≡ true → (isNoted m₀ k ≡ true) ⊎ Reaches args k e
+    pub each : (j : ℕ) → j < i → isNoted m (getD xs j 0) ≡ true
+
+  -- an expression that is noted
+  pub known : {e : ℕ} {K E P : List ℕ} {f : Fill} {m : List ℕ} {c : Checked} → e < n → Stored K E P f → Memo args (eval (roomOf K P)) n (termsIn K E P f) m → isNoted m e ≡ true
+      → c ≡ record { refusal = passed; value = valueAt m e; fill = f } → Evaluates args eval n e K E P f m K E P c m
+  known {e} {K} {E} {P} {f} {m} {c} h S M q d = subst (λ (x : Checked). Evaluates args eval n e K E P f m K E P x m) (sym d) (record {
+    does = does-here S (sym (M .value e h q));
+    memo = λ z. M;
+    noted = λ z. record { root = q; keeps = λ k l p. p; only = λ k l p. inl p };
+  })
+
+  pub start : {e : ℕ} {xs K E P : List ℕ} {f : Fill} {m vals : List ℕ} → expr e ≡ node e (head e) (argumentsBy expr (args e)) → xs ≡ args e → Stored K E P f → Memo args (eval (roomOf K P)) n (termsIn K E P f) m → length vals ≡ 16
+      → Turn e xs K E P f m K E P f m vals 0
+  start {e} {xs} {K} {E} {P} {f} d q S M l = record {
+    upto = omega arith;
+    full = l;
+    grown = grown-same S;
+    run = ap (λ (ys : List ℕ). rest (roomOf K P) e [] ys (termsIn K E P f)) q ∙ rest-all (roomOf K P) e (termsIn K E P f) d;
+    memo = M;
+    lenM = refl;
+    keeps = λ k h p. p;
+    only = λ k h p. inl p;
+    each = λ j h. absurd (not-suc-le-zero h);
+  }
+
+  module _ {e : ℕ} {xs K₀ E₀ P₀ : List ℕ} {f₀ : Fill} {m₀ K E P : List ℕ} {f : Fill} {m vals : List ℕ} {i : ℕ} (T : Turn e xs K₀ E₀ P₀ f₀ m₀ K E P f m vals i) where
+    abbrev room : Room
+    room = roomOf K₀ P₀
+
+    same-room : roomOf K P ≡ room
+    same-room = room-same (T .grown)
+
+    -- what the evaluator asks of its next call
+    pub next-memo : Memo args (eval (roomOf K P)) n (termsIn K E P f) m
+    next-memo = memo-room (sym same-room) (T .memo)
+
+    module _ {K′ E′ P′ : List ℕ} {c : Checked} {m′ : List ℕ} (h : i < length xs) (d : Evaluates args eval n (getD xs i 0) K E P f m K′ E′ P′ c m′) where
+      abbrev s′ : List Term
+      s′ = termsIn K′ E′ P′ (c .fill)
+
+      here-outcome : outcomeOf (c .refusal) (c .value) s′ ≡ eval room (getD xs i 0) (termsIn K E P f)
+      here-outcome = d .does .outcome ∙ ap (λ (x : Room). eval x (getD xs i 0) (termsIn K E P f)) same-room
+
+      pub stops : (c .refusal .number ≡ 0 → ⊥) → Evaluates args eval n e K₀ E₀ P₀ f₀ m₀ K′ E′ P′ c m′
+      stops z = record {
+        does = record {
+          outcome = refused-of (c .refusal) (c .value) s′ z
+              ∙ sym (rest-refused room e (getD xs i 0) (take i vals) (drop (suc i) xs) (termsIn K E P f) s′ (c .refusal) (sym here-outcome ∙ refused-of (c .refusal) (c .value) s′ z))
+              ∙ ap (λ (ys : List ℕ). rest room e (take i vals) ys (termsIn K E P f)) (sym (drop-cons xs i 0 h))
+              ∙ T .run;
+          grown = grown-then (T .grown) (d .does .grown);
+        };
+        memo = λ q. absurd (z q);
+        noted = λ q. absurd (z q);
+      }
+
+      pub turns : xs ≡ args e → length xs ≤ 16 → ((j : ℕ) → j < length xs → getD xs j 0 < n) → length m′ ≡ length m → c .refusal .number ≡ 0
+          → Turn e xs K₀ E₀ P₀ f₀ m₀ K′ E′ P′ (c .fill) m′ (set vals i (c .value)) (i + 1)
+      turns q few low l z = let b = T .upto in let w = T .full in record {
+        upto = omega arith;
+        full = length-set vals i (c .value) ∙ T .full;
+        grown = grown-then (T .grown) (d .does .grown);
+        run = (λ k. rest room e (values k) (drop (add-one i k) xs) s′)
+            ∙ sym (rest-value room e (getD xs i 0) (c .value) (take i vals) (drop (suc i) xs) (termsIn K E P f) s′ (sym here-outcome ∙ ok-of (c .refusal) (c .value) s′ z))
+            ∙ ap (λ (ys : List ℕ). rest room e (take i vals) ys (termsIn K E P f)) (sym (drop-cons xs i 0 h))
+            ∙ T .run;
+        memo = memo-room same-room (d .memo z);
+        lenM = l ∙ T .lenM;
+        keeps = λ k u p. d .noted z .keeps k u (T .keeps k u p);
+        only = λ k u p. below k (d .noted z .only k u p) (T .only k u);
+        each = λ j u. noted-at j u (eqb j i) refl;
+      }
+        where
+          values : take (i + 1) (set vals i (c .value)) ≡ take i vals ++ (c .value ∷ [])
+          values = ap (λ (k : ℕ). take k (set vals i (c .value))) (add-one i) ∙ take-suc-set vals i (c .value) (let w = T .full in omega arith)
+
+          below : (k : ℕ) → (isNoted m k ≡ true) ⊎ Reaches args k (getD xs i 0) → (isNoted m k ≡ true → (isNoted m₀ k ≡ true) ⊎ Reaches args k e) → (isNoted m₀ k ≡ true) ⊎ Reaches args k e
+          below k (inl p) r = r p
+          below k (inr p) r = inr (down (subst (List·Memᴰ (getD xs i 0)) q (member-at xs i h)) p)
+
+          noted-at : (j : ℕ) → j < i + 1 → (b : Bool) → eqb j i ≡ b → isNoted m′ (getD xs j 0) ≡ true
+          noted-at j u true p = subst (λ (k : ℕ). isNoted m′ (getD xs k 0) ≡ true) (sym (eqb-true j i p)) (d .noted z .root)
+          noted-at j u false p =
+              let ne = eqb-false j i p in
+              let lt : j < i = omega arith in
+              d .noted z .keeps (getD xs j 0) (low j (omega arith)) (T .each j lt)
+
+    -- all arguments, the head's value, and its note
+    module _ {K′ E′ P′ : List ℕ} {c : Checked} {m′ : List ℕ} (h : length xs ≤ i) (q : xs ≡ args e) (lt : e < n)
+        (d : Does K E P f K′ E′ P′ (c .fill) (c .refusal) (c .value) (headTerm fact (roomOf K P) prog rule σ (head e) (take (length xs) vals) (termsIn K E P f)))
+        (g : m′ ≡ noteAt m e (c .value)) where
+      abbrev s″ : List Term
+      s″ = termsIn K′ E′ P′ (c .fill)
+
+      all-done : take i vals ≡ take (length xs) vals
+      all-done = let b = T .upto in let n′ : i ≡ length xs = omega arith in ap (λ (k : ℕ). take k vals) n′
+
+      is-head : rest room e (take i vals) (drop i xs) (termsIn K E P f) ≡ headTerm fact (roomOf K P) prog rule σ (head e) (take (length xs) vals) (termsIn K E P f)
+      is-head = ap (λ (ys : List ℕ). rest room e (take i vals) ys (termsIn K E P f)) (drop-of-length-le xs {i = i} h)
+          ∙ rest-none room e (take i vals) (termsIn K E P f)
+          ∙ (λ k. headTerm fact (sym same-room k) prog rule σ (head e) (all-done k) (termsIn K E P f))
+
+      whole : outcomeOf (c .refusal) (c .value) s″ ≡ eval room e (termsIn K₀ E₀ P₀ f₀)
+      whole = d .outcome ∙ sym is-head ∙ T .run
+
+      module _ (z : c .refusal .number ≡ 0) where
+        grows : Extends (termsIn K E P f) s″
+        grows = post-result (head-settled fact (roomOf K P) prog rule σ (head e) (take (length xs) vals) (termsIn K E P f)) (sym (d .outcome) ∙ ok-of (c .refusal) (c .value) s″ z) .grows
+
+        has-value : eval room e s″ ≡ ok (c .value) s″
+        has-value = term-again fact room prog rule σ (expr e) (termsIn K₀ E₀ P₀ f₀) s″ s″ (c .value) (sym whole ∙ ok-of (c .refusal) (c .value) s″ z) extends-same
+
+        fits : e + e + 2 < length m
+        fits = let a = T .memo .long in omega arith
+
+        is-noted : (k : ℕ) → isNoted m k ≡ true → isNoted (noteAt m e (c .value)) k ≡ true
+        is-noted k p = go (eqb k e) refl
+          where
+            go : (b : Bool) → eqb k e ≡ b → isNoted (noteAt m e (c .value)) k ≡ true
+            go true u = subst (λ (j : ℕ). isNoted (noteAt m e (c .value)) j ≡ true) (sym (eqb-true k e u)) (note-here m e (c .value) fits)
+            go false u = note-other m e (c .value) k (eqb-false k e u) ∙ p
+
+        note-memo : Memo args (eval room) n s″ (noteAt m e (c .value))
+        note-memo = record {
+          long = rw (note-length m e (c .value)) (T .memo .long);
+          past = note-past m e (c .value) fits (T .memo .past);
+          value = λ k u p. value-at k u p (eqb k e) refl;
+          closed = λ k a u p w. closed-at k a u p w (eqb k e) refl;
+        }
+          where
+            value-at : (k : ℕ) → k < n → isNoted (noteAt m e (c .value)) k ≡ true → (b : Bool) → eqb k e ≡ b → eval room k s″ ≡ ok (valueAt (noteAt m e (c .value)) k) s″
+            value-at k u p true w =
+                subst (λ (j : ℕ). eval room j s″ ≡ ok (valueAt (noteAt m e (c .value)) j) s″) (sym (eqb-true k e w))
+                (has-value ∙ ap {B = Outcome ℕ} (λ (v : ℕ). ok v s″) (sym (note-value m e (c .value) fits)))
+            value-at k u p false w =
+                let ne = eqb-false k e w in
+                term-again fact room prog rule σ (expr k) (termsIn K E P f) (termsIn K E P f) s″ (valueAt m k) (T .memo .value k u (sym (note-other m e (c .value) k ne) ∙ p)) grows
+                ∙ ap {B = Outcome ℕ} (λ (v : ℕ). ok v s″) (sym (note-value-other m e (c .value) k ne))
+
+            closed-at : (k a : ℕ) → k < n → isNoted (noteAt m e (c .value)) k ≡ true → List·Memᴰ a (args k) → (b : Bool) → eqb k e ≡ b → isNoted (noteAt m e (c .value)) a ≡ true
+            closed-at k a u p w true v =
+                let o = place-of xs a (subst (List·Memᴰ a) (sym q) (subst (λ (j : ℕ). List·Memᴰ a (args j)) (eqb-true k e v) w)) in
+                is-noted a (subst (λ (j : ℕ). isNoted m j ≡ true) (o .2) (T .each (o .0) (let x = o .1 in omega arith)))
+            closed-at k a u p w false v = is-noted a (T .memo .closed k a u (sym (note-other m e (c .value) k (eqb-false k e v)) ∙ p) w)
+
+        note-noted : Noted args n e m₀ (noteAt m e (c .value))
+        note-noted = record {
+          root = note-here m e (c .value) fits;
+          keeps = λ k u p. is-noted k (T .keeps k u p);
+          only = λ k u p. only-at k u p (eqb k e) refl;
+        }
+          where
+            only-at : (k : ℕ) → k < n → isNoted (noteAt m e (c .value)) k ≡ true → (b : Bool) → eqb k e ≡ b → (isNoted m₀ k ≡ true) ⊎ Reaches args k e
+            only-at k u p true w = inr (here (eqb-true k e w))
+            only-at k u p false w = T .only k u (sym (note-other m e (c .value) k (eqb-false k e w)) ∙ p)
+
+      pub finishes : Evaluates args eval n e K₀ E₀ P₀ f₀ m₀ K′ E′ P′ c m′
+      finishes = subst⁻¹ (Evaluates args eval n e K₀ E₀ P₀ f₀ m₀ K′ E′ P′ c) g (record {
+        does = record { outcome = whole; grown = grown-then (T .grown) (d .grown) };
+        memo = note-memo;
+        noted = note-noted;
+      })
+
+-- an expression of an admitted job is its head over its arguments
+pub node-for : {K E P : List ℕ} {z : Sizes} → Ready K E P z → (e : ℕ) → exprFor K E P z e ≡ node e (headFor K E P z e) (argumentsBy (exprFor K E P z) (argumentsFor K E P z e))
+node-for {K} {E} {P} {z} R e = expr-node (tablesFor K E P z .expressions) (expressions-lower (sizesIn z) (tablesFor K E P z) (R .admitted)) e
+
+-- the head that was read
+pub at-head : (fact : Bool) (room : Room) (prog : Program) (rule : ℕ) (σ : List Binding) (ts : List ℕ) (s : List Term) {g h : Head}
+    {K E P : List ℕ} {f : Fill} {K′ E′ P′ : List ℕ} {f′ : Fill} {r : Refusal} {a : ℕ} → g ≡ h
+    → Does K E P f K′ E′ P′ f′ r a (headTerm fact room prog rule σ g ts s) → Does K E P f K′ E′ P′ f′ r a (headTerm fact room prog rule σ h ts s)
+at-head fact room prog rule σ ts s {K = K} {E = E} {P = P} {f = f} {K′ = K′} {E′ = E′} {P′ = P′} {f′ = f′} {r = r} {a = a} e d =
+    subst (λ (x : Head). Does K E P f K′ E′ P′ f′ r a (headTerm fact room prog rule σ x ts s)) e d
+
+-- an evaluation by itself: the memo says nothing yet
+pub root-memo : {args : ℕ → List ℕ} {eval : ℕ → Check ℕ} {n : ℕ} {s : List Term} {m : List ℕ} → n + n < length m → Started m → Memo args eval n s m
+root-memo {m = m} l S = record {
+  long = l;
+  past = S .past;
+  value = λ k h p. absurd (true≢false (sym p ∙ S .none k));
+  closed = λ k a h p w. absurd (true≢false (sym p ∙ S .none k));
+}
+
+module _ (fact : Bool) (K E P : List ℕ) (z : Sizes) (rule : ℕ) (σ : List Binding) where
+  value-is : (room : Room) (e : ℕ) (s : List Term) → evalFor fact K E P z rule σ room e s ≡ valueFor fact K E P z rule σ room e s
+  value-is room e s = sym (value-term fact room (programFor K E P z) rule σ (exprFor K E P z e) s)
+
+  pub root-done : {e : ℕ} {k e′ p : List ℕ} {f : Fill} {m k′ e″ p′ : List ℕ} {c : Checked} {m′ : List ℕ} → Ready K E P z → e < z .expressions → Started m
+      → Evaluates (argumentsFor K E P z) (evalFor fact K E P z rule σ) (z .expressions) e k e′ p f m k′ e″ p′ c m′
+      → EvaluatesRoot (argumentsFor K E P z) (valueFor fact K E P z rule σ) (z .expressions) e k e′ p f k′ e″ p′ c m′
+  root-done {e} {k} {e′} {p} {f} {m} {k′} {e″} {p′} {c} {m′} R h S d = record {
+    does = subst (Does k e′ p f k′ e″ p′ (c .fill) (c .refusal) (c .value)) (value-is (roomOf k p) e (termsIn k e′ p f)) (d .does);
+    past = λ q. d .memo q .past;
+    value = λ q j l u. sym (value-is (roomOf k p) j (termsIn k′ e″ p′ (c .fill))) ∙ d .memo q .value j l u;
+    below = λ q j r. reach q e h (d .noted q .root) j r;
+    only = λ q j l u. fresh j (d .noted q .only j l u);
+  }
+    where
+      fresh : (j : ℕ) → (isNoted m j ≡ true) ⊎ Reaches (argumentsFor K E P z) j e → Reaches (argumentsFor K E P z) j e
+      fresh j (inl u) = absurd (true≢false (sym u ∙ S .none j))
+      fresh j (inr r) = r
+
+      reach : c .refusal .number ≡ 0 → (a : ℕ) → a < z .expressions → isNoted m′ a ≡ true → (j : ℕ) → Reaches (argumentsFor K E P z) j a → isNoted m′ j ≡ true
+      reach q a l u j (here i) = subst (λ (x : ℕ). isNoted m′ x ≡ true) (sym i) u
+      reach q a l u j (down {a = b} w r) =
+          let v = expressions-lower (sizesIn z) (tablesFor K E P z) (R .admitted) a b w in
+          reach q b (omega arith) (d .memo q .closed a b l u w) j r

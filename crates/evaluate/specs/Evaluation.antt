@@ -1,0 +1,50 @@
+-- The contract of the evaluator: its outcome, and its memo.
+use Prim.Native.Nat.{ℕ, _+_, _<_}
+use mathlib.Core.Path.{_≡_}
+use mathlib.Core.Logic.{_⊎_}
+use mathlib.Core.List.{List, List·Memᴰ}
+use mathlib.Core.Bool.{true}
+use lib.ListN.{length}
+use Rattle.model.specs.Term.{Term}
+use Rattle.model.specs.Program.{Binding, Row, Program}
+use Rattle.model.specs.Check.{Outcome, ok, Check, Room}
+use Rattle.model.proofs.Store.{Ordered}
+use Rattle.termdag.specs.Store.{termsIn, roomOf}
+use Rattle.memo.specs.Memo.{valueAt, isNoted, Past}
+use Rattle.outcome.specs.Does.{Does}
+use Rattle.outcome.specs.declared.Checked.{Checked}
+use Rattle.cells.specs.declared.Fill.{Fill}
+use Rattle.evaluate.specs.Value.{Reaches}
+
+-- Children are lower than their own number, and the terms that the bindings and the rows name are in the store.
+pub record Sane (prog : Program) (σ : List Binding) (s : List Term) : Type 0 where
+  pub ordered : Ordered s
+  pub bound : (b : Binding) → List·Memᴰ b σ → b .term < length s
+  pub rows : (r : Row) → List·Memᴰ r (prog .rows) → r .result < length s
+
+-- What a memo says of the first n expressions: the value of each that is noted, in a store where it is evaluated already; its arguments are noted as well.
+pub record Memo (args : ℕ → List ℕ) (eval : ℕ → Check ℕ) (n : ℕ) (s : List Term) (m : List ℕ) : Type 0 where
+  pub long : n + n < length m
+  pub past : Past m
+  pub value : (k : ℕ) → k < n → isNoted m k ≡ true → eval k s ≡ ok (valueAt m k) s
+  pub closed : (k a : ℕ) → k < n → isNoted m k ≡ true → List·Memᴰ a (args k) → isNoted m a ≡ true
+
+-- What is noted after the evaluation of e: what was, and e with all below it.
+pub record Noted (args : ℕ → List ℕ) (n e : ℕ) (m m′ : List ℕ) : Type 0 where
+  pub root : isNoted m′ e ≡ true
+  pub keeps : (k : ℕ) → k < n → isNoted m k ≡ true → isNoted m′ k ≡ true
+  pub only : (k : ℕ) → k < n → isNoted m′ k ≡ true → (isNoted m k ≡ true) ⊎ Reaches args k e
+
+-- The evaluation of e, with a memo that holds in the store: the outcome is the definition's, and after a value the memo holds in the store that there is.
+pub record Evaluates (args : ℕ → List ℕ) (eval : Room → ℕ → Check ℕ) (n e : ℕ) (K E P : List ℕ) (f : Fill) (m K′ E′ P′ : List ℕ) (r : Checked) (m′ : List ℕ) : Type 0 where
+  pub does : Does K E P f K′ E′ P′ (r .fill) (r .refusal) (r .value) (eval (roomOf K P) e (termsIn K E P f))
+  pub memo : r .refusal .number ≡ 0 → Memo args (eval (roomOf K P)) n (termsIn K′ E′ P′ (r .fill)) m′
+  pub noted : r .refusal .number ≡ 0 → Noted args n e m m′
+
+-- The evaluation of e by itself: what is noted then is e with all below it.
+pub record EvaluatesRoot (args : ℕ → List ℕ) (eval : Room → ℕ → Check ℕ) (n e : ℕ) (K E P : List ℕ) (f : Fill) (K′ E′ P′ : List ℕ) (r : Checked) (m′ : List ℕ) : Type 0 where
+  pub does : Does K E P f K′ E′ P′ (r .fill) (r .refusal) (r .value) (eval (roomOf K P) e (termsIn K E P f))
+  pub past : r .refusal .number ≡ 0 → Past m′
+  pub value : r .refusal .number ≡ 0 → (k : ℕ) → k < n → isNoted m′ k ≡ true → eval (roomOf K P) k (termsIn K′ E′ P′ (r .fill)) ≡ ok (valueAt m′ k) (termsIn K′ E′ P′ (r .fill))
+  pub below : r .refusal .number ≡ 0 → (k : ℕ) → Reaches args k e → isNoted m′ k ≡ true
+  pub only : r .refusal .number ≡ 0 → (k : ℕ) → k < n → isNoted m′ k ≡ true → Reaches args k e

@@ -1,0 +1,259 @@
+// The value of an expression: `eval_expr_with_subst` of proof_checker.rs, and the method of `ProofStore` that has the same name. Each expression is evaluated at
+// most once in an evaluation.
+use cells::Fill;
+use cells::wide;
+use decode::Head;
+use load::sizes::Sizes;
+use outcome::Checked;
+use outcome::add_app;
+use outcome::add_lit;
+use outcome::pass;
+use outcome::refuse1;
+use outcome::refuse2;
+use program::Looked;
+use program::lookup_pairs;
+use program::primitive_at;
+use program::read::arguments_at;
+use program::read::head_at;
+use program::row_value;
+ghost use mathlib.Core.Path.{_≡_};
+ghost use mathlib.Core.List.{List, [], _∷_};
+ghost use mathlib.Core.Bool.{cond};
+ghost use Prim.Native.Nat.{ℕ, _+_, _≤_, _<_};
+ghost use lib.ListN.{length, getD};
+ghost use Rattle.model.specs.Term.{Term};
+ghost use Rattle.model.specs.Check.{orRefuse};
+ghost use Rattle.model.specs.Evaluate.{lookup, validate, validated};
+ghost use Rattle.termdag.specs.Store.{termsIn, Stored, roomOf};
+ghost use Rattle.program.specs.Ready.{Ready, programFor, optionOf};
+ghost use Rattle.decode.specs.View.{headOf};
+ghost use Rattle.decode.specs.declared.Head as heads;
+ghost use Rattle.memo.specs.Memo.{Past};
+ghost use Rattle.outcome.specs.Does.{passed, outcomeOf, Does};
+ghost use Rattle.evaluate.specs.Value.{valueOf, customTerm, headTerm, evalTerm, bindingsIn, argumentsFor, evalFor, valueFor};
+ghost use Rattle.evaluate.specs.Evaluation.{Memo, Evaluates, EvaluatesRoot};
+
+// What a validator gives, and the fill of the store.
+pub struct Validation {
+    pub value: Looked,
+    pub fill: Fill,
+}
+
+// The term bound to a name: by conditions and lets, by the substitution, by the globals.
+pub fn lookup(bound: &[u32], pairs: &[u32], globals: &[u32], name: u32) -> Looked
+    ensures { λ r. ⌜ optionOf r ≡ lookup (bindingsIn (now (bound .entry)) (now (pairs .entry)) (now (globals .entry))) name ⌝ }
+{
+    let first = lookup_pairs(bound, name);
+    if let Looked::Some(t) = first {
+        return Looked::Some(t);
+    }
+    let second = lookup_pairs(pairs, name);
+    if let Looked::Some(t) = second {
+        return Looked::Some(t);
+    }
+    lookup_pairs(globals, name)
+}
+
+// A primitive's validator. It is lent the store, though it looks rows up alone.
+pub fn validate(
+    kinds: &[u32],
+    ends: &[u32],
+    pool: &[u32],
+    z: Sizes,
+    skinds: &mut [u32],
+    sends: &mut [u32],
+    spool: &mut [u32],
+    fill: Fill,
+    p: u32,
+    args: &[u32],
+) -> Validation
+    requires { ⌜ Ready (now kinds) (now ends) (now pool) z ⌝ }
+    requires { ⌜ Stored (now skinds) (now sends) (now spool) fill ⌝ }
+    ensures { λ r. ⌜ Does (now (skinds .entry)) (now (sends .entry)) (now (spool .entry)) fill (now (skinds .exit)) (now (sends .exit)) (now (spool .exit)) (r .fill) passed (optionOf (r .value)) (validate (programFor (now (kinds .entry)) (now (ends .entry)) (now (pool .entry)) z) p (now (args .entry)) (termsIn (now (skinds .entry)) (now (sends .entry)) (now (spool .entry)) fill)) ⌝ }
+{
+    let value = row_value(kinds, ends, pool, z, p, args);
+    Validation { value, fill }
+}
+
+// A primitive's value: refusal n where it has no validator, 46 where the validator gives nothing.
+fn validated(
+    kinds: &[u32],
+    ends: &[u32],
+    pool: &[u32],
+    z: Sizes,
+    n: u32,
+    skinds: &mut [u32],
+    sends: &mut [u32],
+    spool: &mut [u32],
+    fill: Fill,
+    p: u32,
+    args: &[u32],
+) -> Checked
+    requires { ⌜ Ready (now kinds) (now ends) (now pool) z ⌝ }
+    requires { ⌜ Stored (now skinds) (now sends) (now spool) fill ⌝ }
+    requires { ⌜ p < z .primitives ⌝ }
+    requires { ⌜ 0 < n ⌝ }
+    ensures { λ r. ⌜ Does (now (skinds .entry)) (now (sends .entry)) (now (spool .entry)) fill (now (skinds .exit)) (now (sends .exit)) (now (spool .exit)) (r .fill) (r .refusal) (r .value) (validated (programFor (now (kinds .entry)) (now (ends .entry)) (now (pool .entry)) z) n p (now (args .entry)) (termsIn (now (skinds .entry)) (now (sends .entry)) (now (spool .entry)) fill)) ⌝ }
+{
+    let primitive = primitive_at(kinds, ends, pool, z, wide(p));
+    if !primitive.validator {
+        return refuse1(n, primitive.name, fill);
+    }
+    let v = validate(kinds, ends, pool, z, skinds, sends, spool, fill, p, args);
+    let value = v.value;
+    match value {
+        Looked::Some(t) => pass(t, v.fill),
+        Looked::None => refuse1(46, primitive.name, v.fill),
+    }
+}
+
+// A variable's value.
+fn variable(bound: &[u32], pairs: &[u32], globals: &[u32], rule: u32, name: u32, fill: Fill) -> Checked
+    ensures { λ r. ⌜ r .fill ≡ fill ⌝ }
+    ensures { λ r. ⌜ ((s : List Term) → outcomeOf (r .refusal) (r .value) s ≡ orRefuse (lookup (bindingsIn (now (bound .entry)) (now (pairs .entry)) (now (globals .entry))) name) 45 (rule ∷ name ∷ []) s) ⌝ }
+{
+    match lookup(bound, pairs, globals, name) {
+        Looked::Some(t) => pass(t, fill),
+        Looked::None => refuse2(45, rule, name, fill),
+    }
+}
+
+// The number that refuses a primitive without validator: 47 in an ordinary fact, 51 elsewhere.
+fn no_validator(fact: bool) -> u32
+    ensures { λ r. ⌜ r ≡ cond fact 47 51 ⌝ }
+{
+    if fact { 47 } else { 51 }
+}
+
+// A custom call's value: in an ordinary fact it has none.
+fn custom_value(
+    fact: bool,
+    skinds: &mut [u32],
+    sends: &mut [u32],
+    spool: &mut [u32],
+    fill: Fill,
+    f: u32,
+    args: &[u32],
+) -> Checked
+    requires { ⌜ Stored (now skinds) (now sends) (now spool) fill ⌝ }
+    requires { ⌜ length (now args) ≤ 16 ⌝ }
+    ensures { λ r. ⌜ Does (now (skinds .entry)) (now (sends .entry)) (now (spool .entry)) fill (now (skinds .exit)) (now (sends .exit)) (now (spool .exit)) (r .fill) (r .refusal) (r .value) (customTerm fact (roomOf (now (skinds .entry)) (now (spool .entry))) f (now (args .entry)) (termsIn (now (skinds .entry)) (now (sends .entry)) (now (spool .entry)) fill)) ⌝ }
+{
+    if fact {
+        return refuse1(52, f, fill);
+    }
+    add_app(skinds, sends, spool, fill, f, args)
+}
+
+// The value of an expression from its head and its arguments' values.
+pub fn head_value(
+    kinds: &[u32],
+    ends: &[u32],
+    pool: &[u32],
+    z: Sizes,
+    bound: &[u32],
+    pairs: &[u32],
+    globals: &[u32],
+    rule: u32,
+    fact: bool,
+    skinds: &mut [u32],
+    sends: &mut [u32],
+    spool: &mut [u32],
+    fill: Fill,
+    head: Head,
+    args: &[u32],
+) -> Checked
+    requires { ⌜ Ready (now kinds) (now ends) (now pool) z ⌝ }
+    requires { ⌜ Stored (now skinds) (now sends) (now spool) fill ⌝ }
+    requires { ⌜ length (now args) ≤ 16 ⌝ }
+    requires { ⌜ ((p : ℕ) → head ≡ heads.Head.Primitive p → p < z .primitives) ⌝ }
+    ensures { λ r. ⌜ Does (now (skinds .entry)) (now (sends .entry)) (now (spool .entry)) fill (now (skinds .exit)) (now (sends .exit)) (now (spool .exit)) (r .fill) (r .refusal) (r .value) (headTerm fact (roomOf (now (skinds .entry)) (now (spool .entry))) (programFor (now (kinds .entry)) (now (ends .entry)) (now (pool .entry)) z) rule (bindingsIn (now (bound .entry)) (now (pairs .entry)) (now (globals .entry))) (headOf head) (now (args .entry)) (termsIn (now (skinds .entry)) (now (sends .entry)) (now (spool .entry)) fill)) ⌝ }
+{
+    match head {
+        Head::Lit(l) => add_lit(skinds, sends, spool, fill, l),
+        Head::Var(x) => variable(bound, pairs, globals, rule, x, fill),
+        Head::Constructor(f) => add_app(skinds, sends, spool, fill, f, args),
+        Head::Custom(f) => custom_value(fact, skinds, sends, spool, fill, f, args),
+        Head::Primitive(p) => {
+            let n = no_validator(fact);
+            validated(kinds, ends, pool, z, n, skinds, sends, spool, fill, p, args)
+        }
+    }
+}
+
+// The value of expression e, noted. One that is noted is not evaluated again.
+fn eval(
+    kinds: &[u32],
+    ends: &[u32],
+    pool: &[u32],
+    z: Sizes,
+    bound: &[u32],
+    pairs: &[u32],
+    globals: &[u32],
+    rule: u32,
+    fact: bool,
+    skinds: &mut [u32],
+    sends: &mut [u32],
+    spool: &mut [u32],
+    fill: Fill,
+    memo: &mut [u32],
+    e: u32,
+) -> Checked
+    requires { ⌜ Ready (now kinds) (now ends) (now pool) z ⌝ }
+    requires { ⌜ Stored (now skinds) (now sends) (now spool) fill ⌝ }
+    requires { ⌜ e < z .expressions ⌝ }
+    requires { ⌜ Memo (argumentsFor (now kinds) (now ends) (now pool) z) (evalFor fact (now kinds) (now ends) (now pool) z rule (bindingsIn (now bound) (now pairs) (now globals)) (roomOf (now skinds) (now spool))) (z .expressions) (termsIn (now skinds) (now sends) (now spool) fill) (now memo) ⌝ }
+    ensures { λ r. ⌜ Evaluates (argumentsFor (now (kinds .entry)) (now (ends .entry)) (now (pool .entry)) z) (evalFor fact (now (kinds .entry)) (now (ends .entry)) (now (pool .entry)) z rule (bindingsIn (now (bound .entry)) (now (pairs .entry)) (now (globals .entry)))) (z .expressions) e (now (skinds .entry)) (now (sends .entry)) (now (spool .entry)) fill (now (memo .entry)) (now (skinds .exit)) (now (sends .exit)) (now (spool .exit)) r (now (memo .exit)) ⌝ }
+{
+    let at = wide(e);
+    if memo::is_noted(memo, at) {
+        return pass(memo::value_of(memo, at), fill);
+    }
+    let args = arguments_at(kinds, ends, pool, z, at);
+    let count = args.len();
+    let mut vals = [0u32; 16];
+    let mut have = fill;
+    let mut i = 0;
+    while i < count {
+        let r = eval(kinds, ends, pool, z, bound, pairs, globals, rule, fact, skinds, sends, spool, have, memo, args[i]);
+        if r.refusal.number != 0 {
+            return r;
+        }
+        vals[i] = r.value;
+        have = r.fill;
+        i += 1;
+    }
+    let head = head_at(kinds, ends, pool, z, at);
+    let r = head_value(kinds, ends, pool, z, bound, pairs, globals, rule, fact, skinds, sends, spool, have, head, &vals[..count]);
+    memo::note(memo, at, r.value);
+    r
+}
+
+// The value of expression e: in an ordinary fact, or elsewhere.
+pub fn evaluate(
+    kinds: &[u32],
+    ends: &[u32],
+    pool: &[u32],
+    z: Sizes,
+    bound: &[u32],
+    pairs: &[u32],
+    globals: &[u32],
+    rule: u32,
+    fact: bool,
+    skinds: &mut [u32],
+    sends: &mut [u32],
+    spool: &mut [u32],
+    fill: Fill,
+    memo: &mut [u32],
+    e: u32,
+) -> Checked
+    requires { ⌜ Ready (now kinds) (now ends) (now pool) z ⌝ }
+    requires { ⌜ Stored (now skinds) (now sends) (now spool) fill ⌝ }
+    requires { ⌜ e < z .expressions ⌝ }
+    requires { ⌜ z .expressions + z .expressions < length (now memo) ⌝ }
+    requires { ⌜ Past (now memo) ⌝ }
+    ensures { λ r. ⌜ EvaluatesRoot (argumentsFor (now (kinds .entry)) (now (ends .entry)) (now (pool .entry)) z) (valueFor fact (now (kinds .entry)) (now (ends .entry)) (now (pool .entry)) z rule (bindingsIn (now (bound .entry)) (now (pairs .entry)) (now (globals .entry)))) (z .expressions) e (now (skinds .entry)) (now (sends .entry)) (now (spool .entry)) fill (now (skinds .exit)) (now (sends .exit)) (now (spool .exit)) r (now (memo .exit)) ⌝ }
+{
+    memo::new_round(memo);
+    eval(kinds, ends, pool, z, bound, pairs, globals, rule, fact, skinds, sends, spool, fill, memo, e)
+}

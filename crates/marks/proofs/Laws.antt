@@ -1,0 +1,86 @@
+-- Laws of the loops and branches that set, read and close marks.
+use Prim.Native.Nat.{ℕ, zero, suc, _+_, _-_, _<_, _≤_}
+use native.Mathlib.Omega.{arith}
+use native.Mathlib.Nat.{not-suc-le-zero}
+use native.Mathlib.Numerals.{add-one}
+use mathlib.Core.Path.{_≡_, refl, sym, ap, _∙_}
+use mathlib.Core.List.{List, _∷_, _++_, append-nil}
+use mathlib.Core.Bool.{Bool, true, false, not}
+use lib.ListN.{length, getD, drop, set, length-map, length-replicate, drop-of-length-le, List·getD-eq-default}
+use lib.Seq.{drop-cons, set-at}
+use lib.Dec.{ltb}
+use borrow.Author.Tests.{not-true, not-false}
+use Rattle.model.specs.Cell.{cellsOf}
+use Rattle.model.specs.Term.{Term, readTerm, getTerm}
+use Rattle.model.specs.Evaluate.{children}
+use Rattle.cells.specs.declared.Fill.{Fill}
+use Rattle.cells.proofs.Laws.{cells-length}
+use Rattle.termdag.specs.Store.{termsIn}
+use Rattle.marks.specs.Marks.{zeros, markAll, closeAt, close}
+use Rattle.marks.proofs.Closing.{at-length}
+
+-- words set to 0 up to i
+zeros-more : (n : ℕ) (ws : List ℕ) → zeros n ++ (0 ∷ ws) ≡ zeros (suc n) ++ ws
+zeros-more zero ws = refl
+zeros-more (suc n) ws = ap {B = List ℕ} (λ (l : List ℕ). 0 ∷ l) (zeros-more n ws)
+
+pub clear-step : (m m₀ : List ℕ) (i : ℕ) → i < length m₀ → m ≡ zeros i ++ drop i m₀ → set m i 0 ≡ zeros (i + 1) ++ drop (i + 1) m₀
+clear-step m m₀ i h e =
+    ap (λ (l : List ℕ). set l i 0) (e ∙ ap (λ (l : List ℕ). zeros i ++ l) (drop-cons m₀ i 0 h))
+    ∙ set-at (zeros i) (getD m₀ i 0) (drop (suc i) m₀) 0 i (length-replicate i 0)
+    ∙ rw (add-one i) (zeros-more i (drop (suc i) m₀))
+
+pub clear-end : (m m₀ : List ℕ) (i : ℕ) → i ≡ length m₀ → m ≡ zeros i ++ drop i m₀ → m ≡ zeros (length m₀)
+clear-end m m₀ i q e = e ∙ rw (drop-of-length-le m₀ {i = i} (omega arith)) (append-nil (zeros i)) ∙ ap zeros q
+
+-- past the end
+pub none-past : (m : List ℕ) (t : ℕ) → length m ≤ t → false ≡ ltb 0 (getD m t 0)
+none-past m t h = rw (List·getD-eq-default m 0 h)
+
+-- terms marked one by one
+pub all-step : (xs m : List ℕ) (j : ℕ) → j < length xs → markAll (drop j xs) m ≡ markAll (drop (j + 1) xs) (set m (getD xs j 0) 1)
+unfolding markAll
+all-step xs m j h = rw (drop-cons xs j 0 h, markAll, add-one j)
+
+pub all-end : (xs m : List ℕ) (j : ℕ) → length xs ≤ j → markAll (drop j xs) m ≡ m
+unfolding markAll
+all-end xs m j h = rw (drop-of-length-le xs h, markAll)
+
+-- one number closed, where b is the test of its mark
+module _ (s : List Term) (i : ℕ) (m : List ℕ) (b : Bool) (e : b ≡ ltb 0 (getD m i 0)) where
+  pub at-no : not b ≡ true → m ≡ closeAt s i m (ltb 0 (getD m i 0))
+  at-no n = rw (← e, not-true b n)
+
+  pub at-yes : (xs : List ℕ) → not b ≡ false → xs ≡ children (getTerm s i) → markAll xs m ≡ closeAt s i m (ltb 0 (getD m i 0))
+  at-yes xs n q = rw (← e, not-false b n, q)
+
+-- numbers closed one by one, from the top down: from n to i the marks went from m₀ to m
+pub record ClosedTo (s : List Term) (n : ℕ) (m₀ : List ℕ) (i : ℕ) (m : List ℕ) : Type 0 where
+  pub rest : close s n m₀ ≡ close s i m
+  pub long : length m ≡ length m₀
+
+pub closed-none : (s : List Term) (n : ℕ) (m : List ℕ) → ClosedTo s n m n m
+closed-none s n m = record { rest = refl; long = refl }
+
+close-suc : (s : List Term) (i : ℕ) (m : List ℕ) → 0 < i → close s i m ≡ close s (i - 1) (closeAt s (i - 1) m (ltb 0 (getD m (i - 1) 0)))
+unfolding close
+close-suc s zero m h = absurd (not-suc-le-zero h)
+close-suc s (suc i) m h =
+    let e : i ≡ suc i - 1 = omega arith in
+    ap (λ (k : ℕ). close s k (closeAt s k m (ltb 0 (getD m k 0)))) e
+
+module _ {s : List Term} {n : ℕ} {m₀ : List ℕ} {i : ℕ} {m : List ℕ} (C : ClosedTo s n m₀ i m) where
+  pub closed-step : {m′ : List ℕ} → 0 < i → m′ ≡ closeAt s (i - 1) m (ltb 0 (getD m (i - 1) 0)) → ClosedTo s n m₀ (i - 1) m′
+  closed-step h e = record {
+    rest = C .rest ∙ close-suc s i m h ∙ ap (close s (i - 1)) (sym e);
+    long = ap length e ∙ at-length s (i - 1) m (ltb 0 (getD m (i - 1) 0)) ∙ C .long;
+  }
+
+  pub closed-all : i ≡ 0 → m ≡ close s n m₀
+  unfolding close
+  closed-all e = sym (C .rest ∙ rw (e, close))
+
+-- as many terms as cells
+pub terms-length : (K E P : List ℕ) (f : Fill) → length (termsIn K E P f) ≡ f .cells
+unfolding termsIn
+terms-length K E P f = length-map (cellsOf K E P (f .cells)) readTerm ∙ cells-length K E P (f .cells)

@@ -1,0 +1,4 @@
+pub mod Subterms
+pub mod Closing
+pub mod Marking
+pub mod Laws

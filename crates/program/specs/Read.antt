@@ -1,0 +1,49 @@
+-- What the readers of an admitted job's cells give, by number within the table: what the cell says, and numbers in range.
+use mathlib.Core.Path.{_≡_}
+use mathlib.Core.List.{List}
+use Prim.Native.Nat.{ℕ, _≤_, _<_}
+use lib.ListN.{length, getD}
+use Rattle.model.specs.Cell.{noCell}
+use Rattle.model.specs.Decode.{exprOf, readHead, readArguments, readFact, readAction, ruleFacts, ruleActions}
+use Rattle.decode.specs.View.{headOf, factOf, actionOf}
+use Rattle.decode.specs.declared.Head.{Head}
+use Rattle.decode.specs.declared.Fact.{Fact}
+use Rattle.decode.specs.declared.Action.{Action}
+use Rattle.load.specs.Held.{tablesFor}
+use Rattle.load.specs.declared.sizes.Sizes.{Sizes}
+
+-- h is the head of expression e.
+pub record HeadAt (K E P : List ℕ) (z : Sizes) (e : ℕ) (h : Head) : Type 0 where
+  pub is : headOf h ≡ readHead (getD (tablesFor K E P z .expressions) e noCell)
+  pub primitive : (p : ℕ) → h ≡ Head.Primitive p → p < z .primitives
+
+-- xs are the arguments of expression e, each of a lower number.
+pub record ArgumentsAt (K E P : List ℕ) (z : Sizes) (e : ℕ) (xs : List ℕ) : Type 0 where
+  pub is : xs ≡ readArguments (getD (tablesFor K E P z .expressions) e noCell)
+  pub few : length xs ≤ 16
+  pub lower : (i : ℕ) → i < length xs → getD xs i 0 < e
+
+-- f is fact i.
+pub record FactAt (K E P : List ℕ) (z : Sizes) (i : ℕ) (f : Fact) : Type 0 where
+  pub is : factOf (exprOf (tablesFor K E P z .expressions)) i f ≡ readFact (exprOf (tablesFor K E P z .expressions)) i (getD (tablesFor K E P z .facts) i noCell)
+  pub equal : (l r : ℕ) → f ≡ Fact.Equal l r → (l < z .expressions) × (r < z .expressions)
+  pub bare : (e : ℕ) → f ≡ Fact.Bare e → e < z .expressions
+
+-- a is action i.
+pub record ActionAt (K E P : List ℕ) (z : Sizes) (i : ℕ) (a : Action) : Type 0 where
+  pub is : actionOf (exprOf (tablesFor K E P z .expressions)) a ≡ readAction (exprOf (tablesFor K E P z .expressions)) (getD (tablesFor K E P z .actions) i noCell)
+  pub bind : (x e : ℕ) → a ≡ Action.Let x e → e < z .expressions
+  pub union : (l r : ℕ) → a ≡ Action.Union l r → (l < z .expressions) × (r < z .expressions)
+  pub run : (e : ℕ) → a ≡ Action.Run e → e < z .expressions
+
+-- xs are the facts of rule r.
+pub record RuleFactsAt (K E P : List ℕ) (z : Sizes) (r : ℕ) (xs : List ℕ) : Type 0 where
+  pub is : xs ≡ ruleFacts (getD (tablesFor K E P z .rules) r noCell)
+  pub few : length xs ≤ 16
+  pub within : (i : ℕ) → i < length xs → getD xs i 0 < z .facts
+
+-- xs are the actions of rule r.
+pub record RuleActionsAt (K E P : List ℕ) (z : Sizes) (r : ℕ) (xs : List ℕ) : Type 0 where
+  pub is : xs ≡ ruleActions (getD (tablesFor K E P z .rules) r noCell)
+  pub few : length xs ≤ 64
+  pub within : (i : ℕ) → i < length xs → getD xs i 0 < z .actions
