@@ -1,3 +1,4 @@
+pub mod Checking
 pub mod Heads
 pub mod Settling
 pub mod Turns

@@ -30,7 +30,8 @@ use Rattle.model.proofs.Valid.{expressions-lower}
 use Rattle.load.specs.Held.{sizesIn, tablesFor}
 use Rattle.load.specs.declared.sizes.Sizes.{Sizes}
 use Rattle.program.specs.Ready.{Ready, programFor}
-use Rattle.evaluate.specs.Value.{exprFor, argumentsFor, headFor, evalFor, valueFor, headTerm, evalTerm, evalTerms, Reaches, here, down}
+use Rattle.program.specs.Read.{exprFor, argumentsFor, headFor}
+use Rattle.evaluate.specs.Value.{evalFor, valueFor, headTerm, evalTerm, evalTerms, Reaches, here, down}
 use Rattle.evaluate.specs.Evaluation.{Memo, Noted, Evaluates, EvaluatesRoot}
 use Rattle.evaluate.proofs.Settling.{value-term, head-settled, term-again}
 

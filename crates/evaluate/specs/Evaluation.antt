@@ -13,6 +13,7 @@ use Rattle.termdag.specs.Store.{termsIn, roomOf}
 use Rattle.memo.specs.Memo.{valueAt, isNoted, Past}
 use Rattle.outcome.specs.Does.{Does}
 use Rattle.outcome.specs.declared.Checked.{Checked}
+use Rattle.outcome.specs.declared.Refusal.{Refusal}
 use Rattle.cells.specs.declared.Fill.{Fill}
 use Rattle.evaluate.specs.Value.{Reaches}
 
@@ -48,3 +49,8 @@ pub record EvaluatesRoot (args : ℕ → List ℕ) (eval : Room → ℕ → Chec
   pub value : r .refusal .number ≡ 0 → (k : ℕ) → k < n → isNoted m′ k ≡ true → eval (roomOf K P) k (termsIn K′ E′ P′ (r .fill)) ≡ ok (valueAt m′ k) (termsIn K′ E′ P′ (r .fill))
   pub below : r .refusal .number ≡ 0 → (k : ℕ) → Reaches args k e → isNoted m′ k ≡ true
   pub only : r .refusal .number ≡ 0 → (k : ℕ) → k < n → isNoted m′ k ≡ true → Reaches args k e
+
+-- The contract of a check that evaluates: value a or refusal r, and the terms after, are the outcome o of the definition; after a value the memo m′ can be used again.
+pub record Checks {A : Type 0} (K E P : List ℕ) (f : Fill) (K′ E′ P′ : List ℕ) (f′ : Fill) (r : Refusal) (a : A) (m′ : List ℕ) (o : Outcome A) : Type 0 where
+  pub does : Does K E P f K′ E′ P′ f′ r a o
+  pub past : r .number ≡ 0 → Past m′

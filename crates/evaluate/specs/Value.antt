@@ -3,15 +3,13 @@ use Prim.Native.Nat.{ℕ}
 use mathlib.Core.Path.{_≡_}
 use mathlib.Core.List.{List, [], _∷_, _++_, List·Memᴰ}
 use mathlib.Core.Bool.{Bool, true, false, cond}
-use lib.ListN.{length, getD}
-use Rattle.model.specs.Cell.{noCell}
 use Rattle.model.specs.Term.{Term, lit, app}
 use Rattle.model.specs.Program.{Head, literal, variable, constructor, custom, primitive, Expr, node, Exprs, nil, cons, Binding, Program}
-use Rattle.model.specs.Decode.{readHead, readArguments, readBindings, exprOf}
+use Rattle.model.specs.Decode.{readBindings}
 use Rattle.model.specs.Check.{Outcome, ok, refused, Check, _>>=_, pure, refuse, orRefuse, Room, addNode}
 use Rattle.model.specs.Evaluate.{lookup, validated, Value, evalExpr, evalFactExpr}
-use Rattle.load.specs.Held.{tablesFor}
 use Rattle.program.specs.Ready.{programFor}
+use Rattle.program.specs.Read.{exprFor}
 use Rattle.load.specs.declared.sizes.Sizes.{Sizes}
 
 -- A value's term alone.
@@ -50,22 +48,12 @@ module _ (fact : Bool) (room : Room) (prog : Program) (rule : ℕ) (σ : List Bi
 abbrev pub bindingsIn : List ℕ → List ℕ → List ℕ → List Binding
 bindingsIn B S G = readBindings B ++ (readBindings S ++ readBindings G)
 
--- Expression e of a job, and the numbers of its arguments.
-abbrev pub exprFor : List ℕ → List ℕ → List ℕ → Sizes → ℕ → Expr
-exprFor K E P z e = exprOf (tablesFor K E P z .expressions) e
-
-abbrev pub argumentsFor : List ℕ → List ℕ → List ℕ → Sizes → ℕ → List ℕ
-argumentsFor K E P z e = readArguments (getD (tablesFor K E P z .expressions) e noCell)
-
 -- The value of expression e, by the code's definition and by the definitions of the two evaluators.
 abbrev pub evalFor : Bool → List ℕ → List ℕ → List ℕ → Sizes → ℕ → List Binding → Room → ℕ → Check ℕ
 evalFor fact K E P z rule σ room e = evalTerm fact room (programFor K E P z) rule σ (exprFor K E P z e)
 
 abbrev pub valueFor : Bool → List ℕ → List ℕ → List ℕ → Sizes → ℕ → List Binding → Room → ℕ → Check ℕ
 valueFor fact K E P z rule σ room e = valueOf fact room (programFor K E P z) rule σ (exprFor K E P z e)
-
-abbrev pub headFor : List ℕ → List ℕ → List ℕ → Sizes → ℕ → Head
-headFor K E P z e = readHead (getD (tablesFor K E P z .expressions) e noCell)
 
 -- k is e or stands below it.
 pub data Reaches (args : ℕ → List ℕ) (k : ℕ) : ℕ → Type 0 where

@@ -30,7 +30,8 @@ ghost use Rattle.decode.specs.View.{headOf};
 ghost use Rattle.decode.specs.declared.Head as heads;
 ghost use Rattle.memo.specs.Memo.{Past};
 ghost use Rattle.outcome.specs.Does.{passed, outcomeOf, Does};
-ghost use Rattle.evaluate.specs.Value.{valueOf, customTerm, headTerm, evalTerm, bindingsIn, argumentsFor, evalFor, valueFor};
+ghost use Rattle.program.specs.Read.{argumentsFor};
+ghost use Rattle.evaluate.specs.Value.{valueOf, customTerm, headTerm, evalTerm, bindingsIn, evalFor, valueFor};
 ghost use Rattle.evaluate.specs.Evaluation.{Memo, Evaluates, EvaluatesRoot};
 
 // What a validator gives, and the fill of the store.

@@ -207,7 +207,7 @@ pub table-long : (K E P : List ℕ) (z : Sizes) (k : ℕ) → k < 10 → length 
 table-long K E P z k h = table-length (sizesIn z) (cellsOf K E P (cellCount (sizesIn z))) (cells-length K E P (cellCount (sizesIn z))) k h
 
 module _ {K E P : List ℕ} {z : Sizes} (R : Ready K E P z) where
-  fits : (k : ℕ) → k < 10 → (i : ℕ) → i < getD (countsOf (sizesIn z)) k 0 → getD (fitTests (tablesFor K E P z)) k passed i (getD (getD (tableList (tablesFor K E P z)) k []) i noCell) ≡ true
+  pub fits : (k : ℕ) → k < 10 → (i : ℕ) → i < getD (countsOf (sizesIn z)) k 0 → getD (fitTests (tablesFor K E P z)) k passed i (getD (getD (tableList (tablesFor K E P z)) k []) i noCell) ≡ true
   fits k h i l = R .admitted .fits k h i (rw (table-long K E P z k h) l)
 
   module _ {first : ℕ} {us : List ℕ} (i : ℕ) (w : us ≡ cellHeld K E P z (first + i) .words) where

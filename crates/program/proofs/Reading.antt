@@ -1,17 +1,17 @@
 -- Laws of the readers: what an admitted job's cells have, and the bounds of the numbers in them.
-use mathlib.Core.Path.{_≡_, refl, sym, ap, subst, _∙_}
-use mathlib.Core.Bool.{Bool, true, false, _&&_}
+use mathlib.Core.Path.{_≡_, sym, ap, subst, _∙_}
+use mathlib.Core.Bool.{true, _&&_}
 use mathlib.Core.List.{List, [], _∷_}
 use Prim.Native.Nat.{ℕ, zero, suc, _+_, _≤_, _<_}
 use native.Mathlib.Omega.{arith}
 use native.Mathlib.Nat.{not-suc-le-zero, le-of-suc-le-suc}
 use lib.Dec.{eqb, leb, ltb, lit<}
-use lib.ListN.{length, getD, take, drop, length-take, length-drop}
+use lib.ListN.{length, getD, drop, length-take, length-drop}
 use Rattle.model.specs.Cell.{Cell, noCell}
 use Rattle.model.specs.Layout.{tableList}
-use Rattle.model.specs.Program.{variable, Expr, node, nil, Fact, equal, bare, Action, bind, union, run, idle}
+use Rattle.model.specs.Program.{variable, Expr, node, nil, equal, bare, bind, union, run}
 use Rattle.model.specs.Decode.{word, exprOf, readHead, readArguments, readFact, readAction, ruleFacts, ruleActions}
-use Rattle.model.specs.Load.{counts, below, headRefers, literalCell, exprFits, exprRefers, setFits, actionFits, actionRefers, ruleFits, ruleRefers, passed, fitTests, referTests}
+use Rattle.model.specs.Load.{counts, below, headRefers, exprFits, exprRefers, setFits, actionFits, actionRefers, ruleFits, passed, referTests}
 use Rattle.model.proofs.Tests.{eq-of, lt-of, le-of, and-left, and-right, never}
 use Rattle.decode.specs.View.{cell, headOf, factOf, actionOf}
 use Rattle.decode.specs.declared.Head.{Head}
@@ -21,7 +21,7 @@ use Rattle.load.specs.Held.{sizesIn, tablesFor, countsOf}
 use Rattle.load.specs.declared.sizes.Sizes.{Sizes}
 use Rattle.program.specs.Ready.{Ready}
 use Rattle.program.specs.Read.{HeadAt, ArgumentsAt, FactAt, ActionAt, RuleFactsAt, RuleActionsAt}
-use Rattle.program.proofs.Laws.{table-long}
+use Rattle.program.proofs.Laws.{table-long, fits}
 
 -- a number of a list whose numbers lie below n
 pub below-at : (n : ℕ) (xs : List ℕ) → below n xs ≡ true → (i : ℕ) → i < length xs → getD xs i 0 < n
@@ -155,15 +155,12 @@ rule-long c q =
 
 -- the cells of an admitted job, as they are read
 module _ {K E P : List ℕ} {z : Sizes} (R : Ready K E P z) where
-  fits : (k : ℕ) → k < 10 → (i : ℕ) → i < getD (countsOf (sizesIn z)) k 0 → getD (fitTests (tablesFor K E P z)) k passed i (getD (getD (tableList (tablesFor K E P z)) k []) i noCell) ≡ true
-  fits k h i l = R .admitted .fits k h i (rw (table-long K E P z k h) l)
-
   refers : (k : ℕ) → k < 10 → (i : ℕ) → i < getD (countsOf (sizesIn z)) k 0 → getD (referTests (sizesIn z)) k passed i (getD (getD (tableList (tablesFor K E P z)) k []) i noCell) ≡ true
   refers k h i l = R .admitted .refers k h i (rw (table-long K E P z k h) l)
 
   module _ {c : Cell} (e : ℕ) (h : e < z .expressions) (q : c ≡ getD (tablesFor K E P z .expressions) e noCell) where
     expr-fits : exprFits c ≡ true
-    expr-fits = ap exprFits q ∙ fits 1 (lit< tt) e h
+    expr-fits = ap exprFits q ∙ fits R 1 (lit< tt) e h
 
     expr-refers : exprRefers (z .primitives) e c ≡ true
     expr-refers = ap (exprRefers (z .primitives) e) q ∙ refers 1 (lit< tt) e h
@@ -193,7 +190,7 @@ module _ {K E P : List ℕ} {z : Sizes} (R : Ready K E P z) where
 
   module _ {c : Cell} (i : ℕ) (h : i < z .facts) (q : c ≡ getD (tablesFor K E P z .facts) i noCell) where
     fact-counts : counts (2 ∷ 1 ∷ []) c ≡ true
-    fact-counts = ap (counts (2 ∷ 1 ∷ [])) q ∙ fits 2 (lit< tt) i h
+    fact-counts = ap (counts (2 ∷ 1 ∷ [])) q ∙ fits R 2 (lit< tt) i h
 
     fact-refers : below (z .expressions) (c .words) ≡ true
     fact-refers = ap (λ (x : Cell). below (z .expressions) (x .words)) q ∙ refers 2 (lit< tt) i h
@@ -210,7 +207,7 @@ module _ {K E P : List ℕ} {z : Sizes} (R : Ready K E P z) where
 
   module _ {c : Cell} (i : ℕ) (h : i < z .actions) (q : c ≡ getD (tablesFor K E P z .actions) i noCell) where
     action-counts : counts actionCounts c ≡ true
-    action-counts = and-left _ (setFits (tablesFor K E P z .expressions) c) (ap (actionFits (tablesFor K E P z .expressions)) q ∙ fits 3 (lit< tt) i h)
+    action-counts = and-left _ (setFits (tablesFor K E P z .expressions) c) (ap (actionFits (tablesFor K E P z .expressions)) q ∙ fits R 3 (lit< tt) i h)
 
     action-refers : actionRefers (z .expressions) c ≡ true
     action-refers = ap (actionRefers (z .expressions)) q ∙ refers 3 (lit< tt) i h
@@ -229,7 +226,7 @@ module _ {K E P : List ℕ} {z : Sizes} (R : Ready K E P z) where
   module _ {us : List ℕ} (i : ℕ) (h : i < z .rules) (q : us ≡ getD (tablesFor K E P z .rules) i noCell .words) where
     rule-fits : (2 + word (getD (tablesFor K E P z .rules) i noCell) 1 ≤ length (getD (tablesFor K E P z .rules) i noCell .words))
         × (length (ruleFacts (getD (tablesFor K E P z .rules) i noCell)) ≤ 16) × (length (ruleActions (getD (tablesFor K E P z .rules) i noCell)) ≤ 64)
-    rule-fits = rule-long (getD (tablesFor K E P z .rules) i noCell) (fits 8 (lit< tt) i h)
+    rule-fits = rule-long (getD (tablesFor K E P z .rules) i noCell) (fits R 8 (lit< tt) i h)
 
     rule-refers : (below (z .facts) (ruleFacts (getD (tablesFor K E P z .rules) i noCell)) && below (z .actions) (ruleActions (getD (tablesFor K E P z .rules) i noCell))) ≡ true
     rule-refers = refers 8 (lit< tt) i h

@@ -4,6 +4,7 @@ use mathlib.Core.List.{List}
 use Prim.Native.Nat.{ℕ, _≤_, _<_}
 use lib.ListN.{length, getD}
 use Rattle.model.specs.Cell.{noCell}
+use Rattle.model.specs.Program as program
 use Rattle.model.specs.Decode.{exprOf, readHead, readArguments, readFact, readAction, ruleFacts, ruleActions}
 use Rattle.decode.specs.View.{headOf, factOf, actionOf}
 use Rattle.decode.specs.declared.Head.{Head}
@@ -12,26 +13,43 @@ use Rattle.decode.specs.declared.Action.{Action}
 use Rattle.load.specs.Held.{tablesFor}
 use Rattle.load.specs.declared.sizes.Sizes.{Sizes}
 
+-- Expression e of a job, its head, and the numbers of its arguments.
+abbrev pub exprFor : List ℕ → List ℕ → List ℕ → Sizes → ℕ → program.Expr
+exprFor K E P z e = exprOf (tablesFor K E P z .expressions) e
+
+abbrev pub headFor : List ℕ → List ℕ → List ℕ → Sizes → ℕ → program.Head
+headFor K E P z e = readHead (getD (tablesFor K E P z .expressions) e noCell)
+
+abbrev pub argumentsFor : List ℕ → List ℕ → List ℕ → Sizes → ℕ → List ℕ
+argumentsFor K E P z e = readArguments (getD (tablesFor K E P z .expressions) e noCell)
+
+-- Fact i, and action i.
+abbrev pub factFor : List ℕ → List ℕ → List ℕ → Sizes → ℕ → program.Fact
+factFor K E P z i = readFact (exprOf (tablesFor K E P z .expressions)) i (getD (tablesFor K E P z .facts) i noCell)
+
+abbrev pub actionFor : List ℕ → List ℕ → List ℕ → Sizes → ℕ → program.Action
+actionFor K E P z i = readAction (exprOf (tablesFor K E P z .expressions)) (getD (tablesFor K E P z .actions) i noCell)
+
 -- h is the head of expression e.
 pub record HeadAt (K E P : List ℕ) (z : Sizes) (e : ℕ) (h : Head) : Type 0 where
-  pub is : headOf h ≡ readHead (getD (tablesFor K E P z .expressions) e noCell)
+  pub is : headOf h ≡ headFor K E P z e
   pub primitive : (p : ℕ) → h ≡ Head.Primitive p → p < z .primitives
 
 -- xs are the arguments of expression e, each of a lower number.
 pub record ArgumentsAt (K E P : List ℕ) (z : Sizes) (e : ℕ) (xs : List ℕ) : Type 0 where
-  pub is : xs ≡ readArguments (getD (tablesFor K E P z .expressions) e noCell)
+  pub is : xs ≡ argumentsFor K E P z e
   pub few : length xs ≤ 16
   pub lower : (i : ℕ) → i < length xs → getD xs i 0 < e
 
 -- f is fact i.
 pub record FactAt (K E P : List ℕ) (z : Sizes) (i : ℕ) (f : Fact) : Type 0 where
-  pub is : factOf (exprOf (tablesFor K E P z .expressions)) i f ≡ readFact (exprOf (tablesFor K E P z .expressions)) i (getD (tablesFor K E P z .facts) i noCell)
+  pub is : factOf (exprFor K E P z) i f ≡ factFor K E P z i
   pub equal : (l r : ℕ) → f ≡ Fact.Equal l r → (l < z .expressions) × (r < z .expressions)
   pub bare : (e : ℕ) → f ≡ Fact.Bare e → e < z .expressions
 
 -- a is action i.
 pub record ActionAt (K E P : List ℕ) (z : Sizes) (i : ℕ) (a : Action) : Type 0 where
-  pub is : actionOf (exprOf (tablesFor K E P z .expressions)) a ≡ readAction (exprOf (tablesFor K E P z .expressions)) (getD (tablesFor K E P z .actions) i noCell)
+  pub is : actionOf (exprFor K E P z) a ≡ actionFor K E P z i
   pub bind : (x e : ℕ) → a ≡ Action.Let x e → e < z .expressions
   pub union : (l r : ℕ) → a ≡ Action.Union l r → (l < z .expressions) × (r < z .expressions)
   pub run : (e : ℕ) → a ≡ Action.Run e → e < z .expressions

@@ -1,6 +1,7 @@
 use lib.ListN.{length, length-take}
 use Rattle.evaluate.proofs.Turns.{Turn, known, start, next-memo, stops, turns, finishes, node-for, at-head}
-use Rattle.evaluate.specs.Value.{bindingsIn, exprFor, argumentsFor, headFor}
+use Rattle.program.specs.Read.{exprFor, argumentsFor, headFor}
+use Rattle.evaluate.specs.Value.{bindingsIn}
 use Rattle.program.specs.Ready.{programFor}
 use Rattle.outcome.specs.Does.{passed}
 use Rattle.memo.specs.Memo.{valueAt, isNoted, noteAt}

@@ -1,0 +1,186 @@
+-- Laws of the search: what the words of the table say, and the offences of an expression by its arguments.
+use mathlib.Core.Path.{_≡_, refl, sym, ap, ap₂, subst, _∙_}
+use mathlib.Core.Bool.{Bool, true, false, _&&_, _||_}
+use mathlib.Core.List.{List}
+use mathlib.Core.Option.{Option, none, some}
+use Prim.Native.Nat.{ℕ, suc, _+_, _*_, _-_, _/_, _%_, _≤_, _<_}
+use native.Mathlib.Numerals.{add-one}
+use native.Mathlib.Omega.{arith}
+use native.Mathlib.Decide.{decLt}
+use lib.Dec.{eqb}
+use lib.ListN.{length, getD, set, drop, drop-of-length-le, length-set}
+use lib.Seq.{drop-cons, getD-set-same, getD-set-other}
+use borrow.Author.Tests.{eq-eqb, ne-eqb, eqb-true, eqb-false}
+use Rattle.model.specs.Cell.{Cell, noCell}
+use Rattle.model.specs.Program.{Head, Expr, Program}
+use Rattle.model.specs.Decode.{readHead, argumentsBy, exprIn, exprOf}
+use Rattle.model.specs.Check.{firstOf}
+use Rattle.model.specs.Fact as fact
+use Rattle.model.specs.Fact.{isFunc, isPrimitive, isContainerPrimitive, primitiveNonNormalArg, containerPrimitiveNotSideCondition, offenceIf, argumentOffence, offence, offences, factOffence, isContainerSideCondition}
+use Rattle.model.proofs.Fuel.{expr-node}
+use Rattle.model.proofs.Valid.{expressions-lower}
+use Rattle.decode.specs.View.{headOf, factOf}
+use Rattle.decode.specs.declared.Head.{Head as HeadView}
+use Rattle.decode.specs.declared.Fact.{Fact as FactView}
+use Rattle.load.specs.Held.{sizesIn, tablesFor}
+use Rattle.load.specs.declared.sizes.Sizes.{Sizes}
+use Rattle.program.specs.Ready.{Ready, programFor}
+use Rattle.program.specs.Read.{HeadAt, ArgumentsAt, FactAt}
+use Rattle.program.specs.Read.{exprFor, factFor}
+use Rattle.normal_form.specs.Search.{offenceBy, offenceIn, SearchedTo, Searched}
+
+-- what a word says
+pub word-none : none ≡ offenceIn 0
+unfolding offenceIn
+word-none = refl
+
+pub word-odd : (w : ℕ) → (w ≡ 0 → ⊥) → w % 2 ≡ 1 → some (primitiveNonNormalArg (w / 2)) ≡ offenceIn w
+unfolding offenceIn
+word-odd w h e = sym (ap₂ (λ (a b : Bool). offenceBy a b w) (ne-eqb w 0 h) (eq-eqb (w % 2) 1 e))
+
+pub word-even : (w : ℕ) → (w ≡ 0 → ⊥) → (w % 2 ≡ 1 → ⊥) → some (containerPrimitiveNotSideCondition (w / 2 - 1)) ≡ offenceIn w
+unfolding offenceIn
+word-even w h e = sym (ap₂ (λ (a b : Bool). offenceBy a b w) (ne-eqb w 0 h) (ne-eqb (w % 2) 1 e))
+
+pub first-kind : (e : ℕ) → offenceIn (2 * e + 1) ≡ some (primitiveNonNormalArg e)
+first-kind e =
+    let h : (2 * e + 1) / 2 ≡ e = omega arith in
+    sym (word-odd (2 * e + 1) (λ q. omega arith) (omega arith)) ∙ ap (λ (n : ℕ). some (primitiveNonNormalArg n)) h
+
+pub second-kind : (e : ℕ) → offenceIn (2 * e + 2) ≡ some (containerPrimitiveNotSideCondition e)
+second-kind e =
+    let h : (2 * e + 2) / 2 - 1 ≡ e = omega arith in
+    sym (word-even (2 * e + 2) (λ q. omega arith) (λ q. omega arith)) ∙ ap (λ (n : ℕ). some (containerPrimitiveNotSideCondition n)) h
+
+-- the first of two
+pub word-first : (a : ℕ) (o : Option fact.Offence) → (a ≡ 0 → ⊥) → offenceIn a ≡ firstOf (offenceIn a) o
+word-first a o h = go (eqb (a % 2) 1) refl
+  where
+    go : (b : Bool) → eqb (a % 2) 1 ≡ b → offenceIn a ≡ firstOf (offenceIn a) o
+    go true e = rw (sym (word-odd a h (eqb-true (a % 2) 1 e))) refl
+    go false e = rw (sym (word-even a h (eqb-false (a % 2) 1 e))) refl
+
+pub word-second : (a : ℕ) (o : Option fact.Offence) → a ≡ 0 → o ≡ firstOf (offenceIn a) o
+word-second a o e = ap (λ (x : Option fact.Offence). firstOf x o) (word-none ∙ ap offenceIn (sym e))
+
+first-both : (a b o : Option fact.Offence) → firstOf a (firstOf b o) ≡ firstOf (firstOf a b) o
+first-both none b o = refl
+first-both (some x) b o = refl
+
+-- an expression's head, and the offence of one under a head
+module _ (cells : List Cell) (j : ℕ) where
+  pub head-is : fact.headOf (exprOf cells j) ≡ readHead (getD cells j noCell)
+  unfolding exprIn
+  head-is = refl
+
+  argument-is : (prog : Program) (h : Head)
+      → argumentOffence prog h (exprOf cells j)
+      ≡ firstOf (offenceIf (isPrimitive h && isFunc (readHead (getD cells j noCell))) (primitiveNonNormalArg j)) (offenceIf (isFunc h && isContainerPrimitive prog (readHead (getD cells j noCell))) (containerPrimitiveNotSideCondition j))
+  unfolding exprIn
+  argument-is prog h = refl
+
+  -- the tests as they are made
+  pub argument-by : (prog : Program) (h g : Head) {n m : ℕ} {p f q k : Bool} → n ≡ j → m ≡ j → g ≡ readHead (getD cells n noCell)
+      → p ≡ isPrimitive h → f ≡ isFunc g → q ≡ isFunc h → k ≡ isContainerPrimitive prog (fact.headOf (exprOf cells m))
+      → firstOf (offenceIf (p && f) (primitiveNonNormalArg j)) (offenceIf (q && k) (containerPrimitiveNotSideCondition j)) ≡ argumentOffence prog h (exprOf cells j)
+  argument-by prog h g {n} {m} {p} {f} {q} {k} en em eg ep ef eq ek =
+      let x : f ≡ isFunc (readHead (getD cells j noCell)) = ef ∙ ap isFunc (eg ∙ ap (λ (i : ℕ). readHead (getD cells i noCell)) en) in
+      let y : k ≡ isContainerPrimitive prog (readHead (getD cells j noCell)) = ek ∙ ap (λ (i : ℕ). isContainerPrimitive prog (fact.headOf (exprOf cells i))) em ∙ ap (isContainerPrimitive prog) head-is in
+      ap₂ (λ (a b : Option fact.Offence). firstOf a b)
+      (ap₂ (λ (a b : Bool). offenceIf (a && b) (primitiveNonNormalArg j)) ep x)
+      (ap₂ (λ (a b : Bool). offenceIf (a && b) (containerPrimitiveNotSideCondition j)) eq y)
+      ∙ sym (argument-is prog h)
+
+-- the tests' outcomes
+pub says-first : (j : ℕ) (a b : Bool) → a ≡ true → offenceIn (2 * j + 1) ≡ firstOf (offenceIf a (primitiveNonNormalArg j)) (offenceIf b (containerPrimitiveNotSideCondition j))
+says-first j a b e = first-kind j ∙ ap (λ (x : Bool). firstOf (offenceIf x (primitiveNonNormalArg j)) (offenceIf b (containerPrimitiveNotSideCondition j))) (sym e)
+
+pub says-second : (j : ℕ) (a b : Bool) → a ≡ false → b ≡ true → offenceIn (2 * j + 2) ≡ firstOf (offenceIf a (primitiveNonNormalArg j)) (offenceIf b (containerPrimitiveNotSideCondition j))
+says-second j a b e f = second-kind j ∙ ap₂ (λ (x y : Bool). firstOf (offenceIf x (primitiveNonNormalArg j)) (offenceIf y (containerPrimitiveNotSideCondition j))) (sym e) (sym f)
+
+pub says-none : (j : ℕ) (a b : Bool) → a ≡ false → b ≡ false → offenceIn 0 ≡ firstOf (offenceIf a (primitiveNonNormalArg j)) (offenceIf b (containerPrimitiveNotSideCondition j))
+says-none j a b e f = sym word-none ∙ ap₂ (λ (x y : Bool). firstOf (offenceIf x (primitiveNonNormalArg j)) (offenceIf y (containerPrimitiveNotSideCondition j))) (sym e) (sym f)
+
+-- what is left of an expression's arguments
+module _ (K E P : List ℕ) (z : Sizes) where
+  abbrev pub rest : Head → List ℕ → ℕ → Option fact.Offence
+  rest h xs k = offences (argumentsBy (exprFor K E P z) (drop k xs)) (programFor K E P z) h
+
+  pub rest-all : Ready K E P z → (e : ℕ) (h : HeadView) (xs : List ℕ) → HeadAt K E P z e h → ArgumentsAt K E P z e xs → rest (headOf h) xs 0 ≡ offence (exprFor K E P z e) (programFor K E P z)
+  unfolding offence offences
+  rest-all R e h xs H A =
+      let T = tablesFor K E P z in
+      ap₂ (λ (g : Head) (ys : List ℕ). offences (argumentsBy (exprFor K E P z) ys) (programFor K E P z) g) (H .is) (A .is)
+      ∙ ap (λ (x : Expr). offence x (programFor K E P z)) (sym (expr-node (T .expressions) (expressions-lower (sizesIn z) T (R .admitted)) e))
+
+  pub rest-none : (h : Head) (xs : List ℕ) (k : ℕ) → length xs ≤ k → offenceIn 0 ≡ rest h xs k
+  unfolding offences
+  rest-none h xs k l = sym word-none ∙ ap (λ (ys : List ℕ). offences (argumentsBy (exprFor K E P z) ys) (programFor K E P z) h) (sym (drop-of-length-le xs l))
+
+  -- one argument after another
+  module _ (h : Head) (xs F : List ℕ) (e k a n w : ℕ) (S : SearchedTo K E P z e F) (l : k < length xs) (lower : getD xs k 0 < e) (at : n ≡ getD xs k 0)
+      (s : offenceIn a ≡ argumentOffence (programFor K E P z) h (exprFor K E P z (getD xs k 0))) (v : offenceIn w ≡ firstOf (offenceIn a) (offenceIn (getD F n 0))) where
+    rest-step : rest h xs k ≡ firstOf (offenceIn w) (rest h xs (k + 1))
+    unfolding offences
+    rest-step =
+        let x = getD xs k 0 in
+        let inside : offenceIn (getD F n 0) ≡ offence (exprFor K E P z x) (programFor K E P z) = ap (λ (i : ℕ). offenceIn (getD F i 0)) at ∙ S .says x lower in
+        ap (λ (ys : List ℕ). offences (argumentsBy (exprFor K E P z) ys) (programFor K E P z) h) (drop-cons xs k 0 l)
+        ∙ first-both (argumentOffence (programFor K E P z) h (exprFor K E P z x)) (offence (exprFor K E P z x) (programFor K E P z)) (rest h xs (suc k))
+        ∙ ap₂ (λ (o : Option fact.Offence) (i : ℕ). firstOf o (rest h xs i)) (sym (v ∙ ap₂ (λ (o u : Option fact.Offence). firstOf o u) s inside)) (sym (add-one k))
+
+    pub rest-yes : (w ≡ 0 → ⊥) → offenceIn w ≡ rest h xs k
+    rest-yes q = word-first w (rest h xs (k + 1)) q ∙ sym rest-step
+
+    pub rest-no : w ≡ 0 → rest h xs (k + 1) ≡ rest h xs k
+    rest-no q = word-second w (rest h xs (k + 1)) q ∙ sym rest-step
+
+  -- one expression after another
+  pub searched-none : (F : List ℕ) → SearchedTo K E P z 0 F
+  searched-none F = record { long = omega arith; says = λ e h. absurd (omega arith) }
+
+  pub searched-more : (F : List ℕ) (n w : ℕ) → SearchedTo K E P z n F → n < length F → offenceIn w ≡ offence (exprFor K E P z n) (programFor K E P z) → SearchedTo K E P z (n + 1) (set F n w)
+  searched-more F n w S l s = record {
+    long = simp length-set (omega arith);
+    says = λ e h. go e h (decLt e n);
+  }
+    where
+      go : (e : ℕ) → e < n + 1 → Dec (e < n) → offenceIn (getD (set F n w) e 0) ≡ offence (exprFor K E P z e) (programFor K E P z)
+      go e h (yes q) = ap offenceIn (getD-set-other F n e w 0 (λ i. omega arith)) ∙ S .says e q
+      go e h (no q) =
+          let i : n ≡ e = omega arith in
+          subst (λ (x : ℕ). offenceIn (getD (set F n w) x 0) ≡ offence (exprFor K E P z x) (programFor K E P z)) i (ap offenceIn (getD-set-same F n w 0 l) ∙ s)
+
+  -- the head of an expression
+  pub container-by : (e : ℕ) (h g : HeadView) (b : Bool) → HeadAt K E P z e h → h ≡ g → b ≡ isContainerPrimitive (programFor K E P z) (headOf g)
+      → b ≡ isContainerPrimitive (programFor K E P z) (fact.headOf (exprFor K E P z e))
+  container-by e h g b H q r = r ∙ ap (isContainerPrimitive (programFor K E P z)) (ap headOf (sym q) ∙ H .is ∙ sym (head-is (tablesFor K E P z .expressions) e))
+
+  -- the sides of a fact
+  module _ (i : ℕ) (f : FactView) (A : FactAt K E P z i f) where
+    fact-is : (g : FactView) → f ≡ g → factOf (exprFor K E P z) i g ≡ factFor K E P z i
+    fact-is g q = ap (factOf (exprFor K E P z) i) (sym q) ∙ A .is
+
+    pub equal-offence : (F : List ℕ) (l r n m w : ℕ) → f ≡ FactView.Equal l r → Searched K E P z F → n ≡ l → m ≡ r → offenceIn w ≡ firstOf (offenceIn (getD F n 0)) (offenceIn (getD F m 0))
+        → offenceIn w ≡ factOffence (programFor K E P z) (factFor K E P z i)
+    equal-offence F l r n m w q S en em s =
+        let b = A .equal l r q in
+        let x : offenceIn (getD F n 0) ≡ offence (exprFor K E P z l) (programFor K E P z) = ap (λ (k : ℕ). offenceIn (getD F k 0)) en ∙ S .says l (b .0) in
+        let y : offenceIn (getD F m 0) ≡ offence (exprFor K E P z r) (programFor K E P z) = ap (λ (k : ℕ). offenceIn (getD F k 0)) em ∙ S .says r (b .1) in
+        s ∙ ap₂ (λ (o u : Option fact.Offence). firstOf o u) x y ∙ ap (factOffence (programFor K E P z)) (fact-is (FactView.Equal l r) q)
+
+    pub bare-offence : (F : List ℕ) (e n : ℕ) → f ≡ FactView.Bare e → Searched K E P z F → n ≡ e → offenceIn (getD F n 0) ≡ factOffence (programFor K E P z) (factFor K E P z i)
+    bare-offence F e n q S en =
+        ap (λ (k : ℕ). offenceIn (getD F k 0)) en ∙ S .says e (A .bare e q) ∙ ap (factOffence (programFor K E P z)) (fact-is (FactView.Bare e) q)
+
+    pub equal-side : (l r n m : ℕ) {a b : Bool} → f ≡ FactView.Equal l r → n ≡ l → m ≡ r
+        → a ≡ isContainerPrimitive (programFor K E P z) (fact.headOf (exprFor K E P z n)) → b ≡ isContainerPrimitive (programFor K E P z) (fact.headOf (exprFor K E P z m))
+        → (a || b) ≡ isContainerSideCondition (programFor K E P z) (factFor K E P z i)
+    equal-side l r n m {a} {b} q en em ea eb =
+        let at : ℕ → Bool = λ k. isContainerPrimitive (programFor K E P z) (fact.headOf (exprFor K E P z k)) in
+        ap₂ (λ (x y : Bool). x || y) (ea ∙ ap at en) (eb ∙ ap at em) ∙ ap (isContainerSideCondition (programFor K E P z)) (fact-is (FactView.Equal l r) q)
+
+    pub bare-side : (e n : ℕ) {a : Bool} → f ≡ FactView.Bare e → n ≡ e → a ≡ isContainerPrimitive (programFor K E P z) (fact.headOf (exprFor K E P z n))
+        → a ≡ isContainerSideCondition (programFor K E P z) (factFor K E P z i)
+    bare-side e n q en ea =
+        ea ∙ ap (λ (k : ℕ). isContainerPrimitive (programFor K E P z) (fact.headOf (exprFor K E P z k))) en ∙ ap (isContainerSideCondition (programFor K E P z)) (fact-is (FactView.Bare e) q)

@@ -1,0 +1,39 @@
+-- The offences of an admitted job's expressions, each by one word of a table.
+use mathlib.Core.Path.{_≡_}
+use mathlib.Core.Bool.{Bool, true, false}
+use mathlib.Core.List.{List}
+use mathlib.Core.Option.{Option, none, some}
+use Prim.Native.Nat.{ℕ, _-_, _/_, _%_, _≤_, _<_}
+use lib.Dec.{eqb}
+use lib.ListN.{length, getD}
+use Rattle.model.specs.Fact as fact
+use Rattle.model.specs.Fact.{primitiveNonNormalArg, containerPrimitiveNotSideCondition, offence}
+use Rattle.load.specs.declared.sizes.Sizes.{Sizes}
+use Rattle.program.specs.Ready.{programFor}
+use Rattle.program.specs.Read.{exprFor}
+use Rattle.normal_form.specs.declared.Offence.{Offence}
+
+-- An offence, or none.
+abbrev pub offenceOf : Offence → Option fact.Offence
+offenceOf Offence.None = none
+offenceOf (Offence.PrimitiveNonNormalArg e) = some (primitiveNonNormalArg e)
+offenceOf (Offence.ContainerPrimitiveNotSideCondition e) = some (containerPrimitiveNotSideCondition e)
+
+-- What the word w says, where it is told whether it is 0, and odd.
+abbrev pub offenceBy : Bool → Bool → ℕ → Option fact.Offence
+offenceBy true odd w = none
+offenceBy false true w = some (primitiveNonNormalArg (w / 2))
+offenceBy false false w = some (containerPrimitiveNotSideCondition (w / 2 - 1))
+
+-- What a word of the table says: 0 is none; 2 * e + 1 and 2 * e + 2 are the two kinds, at expression e.
+unfoldable pub offenceIn : ℕ → Option fact.Offence
+offenceIn w = offenceBy (eqb w 0) (eqb (w % 2) 1) w
+
+-- The first n words of F say the first offence in each of the first n expressions.
+pub record SearchedTo (K E P : List ℕ) (z : Sizes) (n : ℕ) (F : List ℕ) : Type 0 where
+  pub long : n ≤ length F
+  pub says : (e : ℕ) → e < n → offenceIn (getD F e 0) ≡ offence (exprFor K E P z e) (programFor K E P z)
+
+-- A word for each expression.
+abbrev pub Searched : List ℕ → List ℕ → List ℕ → Sizes → List ℕ → Type 0
+Searched K E P z F = SearchedTo K E P z (z .expressions) F

@@ -1,0 +1,198 @@
+// Proof normal form of a rule's body: `assert_body_proof_normal_form` and `is_container_side_condition` of proof_checker.rs. Each expression is searched once.
+use cells::wide;
+use decode::Fact;
+use decode::Head;
+use load::sizes::Sizes;
+use program::primitive_at;
+use program::read::arguments_at;
+use program::read::fact_at;
+use program::read::head_at;
+ghost use mathlib.Core.Path.{_≡_};
+ghost use Prim.Native.Nat.{_≤_, _<_};
+ghost use lib.ListN.{length};
+ghost use Rattle.model.specs.Check.{firstOf};
+ghost use Rattle.model.specs.Fact as fact;
+ghost use Rattle.model.specs.Fact.{isFunc, isPrimitive, isContainerPrimitive, argumentOffence, offence, factOffence, isContainerSideCondition};
+ghost use Rattle.decode.specs.View.{headOf};
+ghost use Rattle.program.specs.Ready.{Ready, programFor};
+ghost use Rattle.program.specs.Read.{exprFor, factFor};
+ghost use Rattle.normal_form.specs.Search.{offenceOf, offenceIn, SearchedTo, Searched};
+
+// An argument, by its expression number, that is not in proof normal form, or none.
+pub enum Offence {
+    None,
+    PrimitiveNonNormalArg(u32),
+    ContainerPrimitiveNotSideCondition(u32),
+}
+
+// The offence that a word says.
+pub fn read_offence(w: u32) -> Offence
+    ensures { λ r. ⌜ offenceOf r ≡ offenceIn w ⌝ }
+{
+    if w == 0 {
+        return Offence::None;
+    }
+    if w % 2 == 1 {
+        return Offence::PrimitiveNonNormalArg(w / 2);
+    }
+    Offence::ContainerPrimitiveNotSideCondition(w / 2 - 1)
+}
+
+// The first offence of two words.
+fn first_of(a: u32, b: u32) -> u32
+    ensures { λ r. ⌜ offenceIn r ≡ firstOf (offenceIn a) (offenceIn b) ⌝ }
+{
+    if a == 0 {
+        return b;
+    }
+    a
+}
+
+// A call of a constructor or a function.
+fn is_func(h: Head) -> bool
+    ensures { λ r. ⌜ r ≡ isFunc (headOf h) ⌝ }
+{
+    match h {
+        Head::Lit(_) => false,
+        Head::Var(_) => false,
+        Head::Constructor(_) => true,
+        Head::Custom(_) => true,
+        Head::Primitive(_) => false,
+    }
+}
+
+// A call of a primitive.
+fn is_primitive(h: Head) -> bool
+    ensures { λ r. ⌜ r ≡ isPrimitive (headOf h) ⌝ }
+{
+    match h {
+        Head::Lit(_) => false,
+        Head::Var(_) => false,
+        Head::Constructor(_) => false,
+        Head::Custom(_) => false,
+        Head::Primitive(_) => true,
+    }
+}
+
+// A call of a primitive whose output is a container.
+pub fn is_container_primitive(kinds: &[u32], ends: &[u32], pool: &[u32], z: Sizes, e: usize) -> bool
+    requires { ⌜ Ready (now kinds) (now ends) (now pool) z ⌝ }
+    requires { ⌜ e < z .expressions ⌝ }
+    ensures { λ r. ⌜ r ≡ isContainerPrimitive (programFor (now (kinds .entry)) (now (ends .entry)) (now (pool .entry)) z) (fact.headOf (exprFor (now (kinds .entry)) (now (ends .entry)) (now (pool .entry)) z e)) ⌝ }
+{
+    let h = head_at(kinds, ends, pool, z, e);
+    match h {
+        Head::Lit(_) => false,
+        Head::Var(_) => false,
+        Head::Constructor(_) => false,
+        Head::Custom(_) => false,
+        Head::Primitive(p) => {
+            let primitive = primitive_at(kinds, ends, pool, z, wide(p));
+            primitive.container
+        }
+    }
+}
+
+// The offence of the argument j directly under a head.
+fn argument_offence(kinds: &[u32], ends: &[u32], pool: &[u32], z: Sizes, h: Head, j: u32) -> u32
+    requires { ⌜ Ready (now kinds) (now ends) (now pool) z ⌝ }
+    requires { ⌜ j < z .expressions ⌝ }
+    ensures { λ r. ⌜ offenceIn r ≡ argumentOffence (programFor (now (kinds .entry)) (now (ends .entry)) (now (pool .entry)) z) (headOf h) (exprFor (now (kinds .entry)) (now (ends .entry)) (now (pool .entry)) z j) ⌝ }
+{
+    let g = head_at(kinds, ends, pool, z, wide(j));
+    let func = is_func(g);
+    let container = is_container_primitive(kinds, ends, pool, z, wide(j));
+    if is_primitive(h) & func {
+        return 2 * j + 1;
+    }
+    if is_func(h) & container {
+        return 2 * j + 2;
+    }
+    0
+}
+
+// The first offence in expression e, by the words of the expressions before it.
+fn first_offence(
+    kinds: &[u32],
+    ends: &[u32],
+    pool: &[u32],
+    z: Sizes,
+    found: &[u32],
+    e: usize,
+) -> u32
+    requires { ⌜ Ready (now kinds) (now ends) (now pool) z ⌝ }
+    requires { ⌜ SearchedTo (now kinds) (now ends) (now pool) z e (now found) ⌝ }
+    requires { ⌜ e < z .expressions ⌝ }
+    ensures { λ r. ⌜ offenceIn r ≡ offence (exprFor (now (kinds .entry)) (now (ends .entry)) (now (pool .entry)) z e) (programFor (now (kinds .entry)) (now (ends .entry)) (now (pool .entry)) z) ⌝ }
+{
+    let h = head_at(kinds, ends, pool, z, e);
+    let args = arguments_at(kinds, ends, pool, z, e);
+    let mut k = 0;
+    while k < args.len() {
+        let j = args[k];
+        let w = first_of(argument_offence(kinds, ends, pool, z, h, j), found[wide(j)]);
+        if w != 0 {
+            return w;
+        }
+        k += 1;
+    }
+    0
+}
+
+// Fills the table: for each expression the word of the first offence in it.
+pub fn find_offences(kinds: &[u32], ends: &[u32], pool: &[u32], z: Sizes, found: &mut [u32])
+    requires { ⌜ Ready (now kinds) (now ends) (now pool) z ⌝ }
+    requires { ⌜ z .expressions ≤ length (now found) ⌝ }
+    ensures { λ _. ⌜ Searched (now (kinds .entry)) (now (ends .entry)) (now (pool .entry)) z (now (found .exit)) ⌝ }
+{
+    let count = z.expressions;
+    let mut e = 0;
+    while e < count {
+        found[e] = first_offence(kinds, ends, pool, z, found, e);
+        e += 1;
+    }
+}
+
+// `assert_body_proof_normal_form`: the first offence in a fact.
+pub fn fact_offence(
+    kinds: &[u32],
+    ends: &[u32],
+    pool: &[u32],
+    z: Sizes,
+    found: &[u32],
+    i: usize,
+) -> Offence
+    requires { ⌜ Ready (now kinds) (now ends) (now pool) z ⌝ }
+    requires { ⌜ Searched (now kinds) (now ends) (now pool) z (now found) ⌝ }
+    requires { ⌜ i < z .facts ⌝ }
+    ensures { λ r. ⌜ offenceOf r ≡ factOffence (programFor (now (kinds .entry)) (now (ends .entry)) (now (pool .entry)) z) (factFor (now (kinds .entry)) (now (ends .entry)) (now (pool .entry)) z i) ⌝ }
+{
+    let f = fact_at(kinds, ends, pool, z, i);
+    match f {
+        Fact::Equal(l, r) => read_offence(first_of(found[wide(l)], found[wide(r)])),
+        Fact::Bare(e) => read_offence(found[wide(e)]),
+    }
+}
+
+// A fact with a container primitive at the top is a side condition.
+pub fn is_container_side_condition(
+    kinds: &[u32],
+    ends: &[u32],
+    pool: &[u32],
+    z: Sizes,
+    i: usize,
+) -> bool
+    requires { ⌜ Ready (now kinds) (now ends) (now pool) z ⌝ }
+    requires { ⌜ i < z .facts ⌝ }
+    ensures { λ r. ⌜ r ≡ isContainerSideCondition (programFor (now (kinds .entry)) (now (ends .entry)) (now (pool .entry)) z) (factFor (now (kinds .entry)) (now (ends .entry)) (now (pool .entry)) z i) ⌝ }
+{
+    let f = fact_at(kinds, ends, pool, z, i);
+    match f {
+        Fact::Equal(l, r) => {
+            let left = is_container_primitive(kinds, ends, pool, z, wide(l));
+            let right = is_container_primitive(kinds, ends, pool, z, wide(r));
+            left | right
+        }
+        Fact::Bare(e) => is_container_primitive(kinds, ends, pool, z, wide(e)),
+    }
+}
