@@ -109,7 +109,7 @@ fn validated(
 }
 
 // A variable's value.
-fn variable(bound: &[u32], pairs: &[u32], globals: &[u32], rule: u32, name: u32, fill: Fill) -> Checked
+pub fn variable(bound: &[u32], pairs: &[u32], globals: &[u32], rule: u32, name: u32, fill: Fill) -> Checked
     ensures { λ r. ⌜ r .fill ≡ fill ⌝ }
     ensures { λ r. ⌜ ((s : List Term) → outcomeOf (r .refusal) (r .value) s ≡ orRefuse (lookup (bindingsIn (now (bound .entry)) (now (pairs .entry)) (now (globals .entry))) name) 45 (rule ∷ name ∷ []) s) ⌝ }
 {

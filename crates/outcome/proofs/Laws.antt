@@ -6,7 +6,7 @@ use Prim.Native.Nat.{ℕ, zero, suc, _≤_}
 use native.Mathlib.Omega.{arith}
 use lib.ListN.{length, take, drop}
 use Rattle.model.specs.Term.{Term}
-use Rattle.model.specs.Check.{Outcome, ok, refused, Check, andThen, Room}
+use Rattle.model.specs.Check.{Outcome, ok, refused, Check, andThen, pure, Room}
 use Rattle.cells.specs.declared.Fill.{Fill}
 use Rattle.cells.specs.declared.Added.{Added}
 use Rattle.termdag.specs.Store as store
@@ -99,3 +99,17 @@ module _ {K E P : List ℕ} {f : Fill} {K₁ E₁ P₁ : List ℕ} {o : Outcome 
 -- a check that leaves the store as it is
 pub does-here : {A : Type 0} {K E P : List ℕ} {f : Fill} {r : Refusal} {a : A} {o : Outcome A} → Stored K E P f → outcomeOf r a (termsIn K E P f) ≡ o → Does K E P f K E P f r a o
 does-here S e = record { outcome = e; grown = grown-same S }
+
+-- what is made of a value
+module _ {A B : Type 0} {K E P : List ℕ} {f : Fill} {K₁ E₁ P₁ : List ℕ} {f₁ : Fill} {r : Refusal} {a : A} {o : Outcome A} where
+  pub does-map : (g : A → B) (b : B) → Does K E P f K₁ E₁ P₁ f₁ r a o → (r .number ≡ 0 → g a ≡ b) → Does K E P f K₁ E₁ P₁ f₁ r b (andThen o (λ x. pure (g x)))
+  does-map g b d h = go (r .number) refl
+    where
+      go : (n : ℕ) → r .number ≡ n → Does K E P f K₁ E₁ P₁ f₁ r b (andThen o (λ x. pure (g x)))
+      go zero e = record {
+        outcome = ok-of r b (termsIn K₁ E₁ P₁ f₁) e
+            ∙ ap {B = Outcome B} (λ (x : B). ok x (termsIn K₁ E₁ P₁ f₁)) (sym (h e))
+            ∙ ap (λ (x : Outcome A). andThen x (λ y. pure (g y))) (sym (ok-of r a (termsIn K₁ E₁ P₁ f₁) e) ∙ d .outcome);
+        grown = d .grown;
+      }
+      go (suc n) e = does-stop b (λ x. pure (g x)) d (λ z. let q : _≡_ {A = ℕ} 0 (suc n) = sym z ∙ e in omega arith)

@@ -1,0 +1,180 @@
+-- Actions, from the evaluations that they make.
+use mathlib.Core.Path.{_≡_, refl, sym, ap, subst, subst⁻¹, _∙_}
+use mathlib.Core.Logic.{_⊎_, inl, inr}
+use mathlib.Core.Bool.{Bool, true, false, _||_}
+use mathlib.Core.List.{List, [], _∷_, _++_, append-assoc, append-nil, List·Memᴰ, List·Memᴰ·not-nil, List·Memᴰ·cases-cons, List·Memᴰ·append-cases, Memᴰ·append-left, Memᴰ·append-right}
+use Prim.Native.Nat.{ℕ, _+_, _<_, _≤_}
+use native.Mathlib.Omega.{arith}
+use lib.ListN.{length}
+use Rattle.model.specs.Term.{Term}
+use Rattle.model.specs.Program.{Expr, Proposition, Binding, Program, Action, bind, union, run, idle}
+use Rattle.model.specs.Check.{Outcome, ok, refused, Check, andThen, pure, _>>=_, Room}
+use Rattle.model.specs.Evaluate.{same, Value, evalExpr}
+use Rattle.model.specs.Action.{ActionContext, processAction, sameProposition, among}
+use Rattle.model.proofs.Store.{Extends, extends-same, extends-then}
+use Rattle.cells.specs.declared.Fill.{Fill}
+use Rattle.decode.specs.View.{actionOf}
+use Rattle.decode.specs.declared.Action as view
+use Rattle.termdag.specs.Store.{termsIn, Stored, roomOf}
+use Rattle.memo.specs.Memo.{Past}
+use Rattle.outcome.specs.Does.{passed, Grown, Does}
+use Rattle.outcome.specs.declared.Refusal.{Refusal}
+use Rattle.outcome.specs.declared.Checked.{Checked}
+use Rattle.outcome.proofs.Laws.{does-here, does-then, does-stop, does-map}
+use Rattle.marks.proofs.Marking.{Marks, marks-same}
+use Rattle.load.specs.declared.sizes.Sizes.{Sizes}
+use Rattle.program.specs.Ready.{Ready, programFor}
+use Rattle.evaluate.specs.Evaluation.{Sane}
+use Rattle.actions.specs.declared.Effect.{Effect}
+use Rattle.actions.specs.declared.Acted.{Acted}
+use Rattle.actions.specs.Acting.{Standing, effectBindings, effectHas, Yields, Acts}
+
+abbrev acted : Refusal → Effect → Fill → Acted
+acted r e f = record { refusal = r; effect = e; fill = f }
+
+-- a pair among two lists
+or-no : (a : Bool) → (a || false) ≡ a
+or-no true = refl
+or-no false = refl
+
+or-assoc : (a b c : Bool) → (a || (b || c)) ≡ ((a || b) || c)
+or-assoc true b c = refl
+or-assoc false b c = refl
+
+pub among-append : (q : Proposition) (xs ys : List Proposition) → among q (xs ++ ys) ≡ (among q xs || among q ys)
+among-append q [] ys = refl
+among-append q (x ∷ xs) ys = ap (λ (b : Bool). sameProposition q x || b) (among-append q xs ys) ∙ or-assoc (sameProposition q x) (among q xs) (among q ys)
+
+-- the context after a union
+abbrev united : List Binding → List Proposition → Value → Value → ActionContext
+united σ ps a b = record {
+  bindings = σ;
+  pairs = ps ++ a .pairs ++ b .pairs ++ (record { lhs = a .term; rhs = b .term } ∷ record { lhs = b .term; rhs = a .term } ∷ []);
+}
+
+-- a binding of a term in the store
+sane-bind : {prog : Program} {σ : List Binding} {s : List Term} (x t : ℕ) → Sane prog σ s → t < length s → Sane prog (record { name = x; term = t } ∷ σ) s
+sane-bind {σ = σ} {s = s} x t w h = record { ordered = w .ordered; bound = λ b m. go b (List·Memᴰ·cases-cons m); rows = w .rows }
+  where
+    go : (b : Binding) → (b ≡ record { name = x; term = t }) ⊎ List·Memᴰ b σ → b .term < length s
+    go b (inl e) = subst⁻¹ (λ (c : Binding). c .term < length s) e h
+    go b (inr m) = w .bound b m
+
+-- what is handed on after a value
+pub standing-after : {K E P : List ℕ} {z : Sizes} {σ τ : List Binding} {k e p : List ℕ} {f : Fill} {memo m k₁ e₁ p₁ : List ℕ} {f₁ : Fill} {memo₁ m₁ : List ℕ}
+    → Standing K E P z σ k e p f memo m → Grown k e p f k₁ e₁ p₁ f₁ → Sane (programFor K E P z) τ (termsIn k₁ e₁ p₁ f₁) → Past memo₁ → length memo₁ ≡ length memo → length m₁ ≡ length m
+    → Standing K E P z τ k₁ e₁ p₁ f₁ memo₁ m₁
+standing-after S g w q a b = record {
+  ready = S .ready;
+  stored = g .stored;
+  sane = w;
+  fits = let x = S .fits in omega arith;
+  past = q;
+  cells = let x = S .cells in let y = g .lenK in omega arith;
+}
+
+module _ {prog : Program} {rule : ℕ} {σ : List Binding} {marking : Bool} {K E P : List ℕ} {f : Fill} {m K₁ E₁ P₁ : List ℕ} {r : Checked} {memo₁ m₁ : List ℕ} where
+  -- let
+  pub acts-let : (x : ℕ) {e : Expr} → Yields prog rule σ e marking K E P f m K₁ E₁ P₁ r memo₁ m₁
+      → Acts prog rule (bind x e) σ marking K E P f m K₁ E₁ P₁ (acted (r .refusal) (Effect.Bind x (r .value)) (r .fill)) memo₁ m₁
+  acts-let x {e} y = record {
+    pairs = y .value .pairs;
+    does = λ ps. does-map (λ v. record { bindings = record { name = x; term = v .term } ∷ σ; pairs = ps ++ v .pairs }) _ (y .does)
+        (λ n. ap {B = ActionContext} (λ (t : ℕ). record { bindings = record { name = x; term = t } ∷ σ; pairs = ps ++ y .value .pairs }) (y .term n));
+    past = y .past;
+    grows = y .grows;
+    sane = λ n. sane-bind x (r .value) (y .sane n) (y .inside n);
+    others = y .others;
+    marks = y .marks;
+  }
+
+  -- set or expression
+  pub acts-run : {e : Expr} → Yields prog rule σ e marking K E P f m K₁ E₁ P₁ r memo₁ m₁ → Acts prog rule (run e) σ marking K E P f m K₁ E₁ P₁ (acted (r .refusal) Effect.Nothing (r .fill)) memo₁ m₁
+  acts-run {e} y = record {
+    pairs = y .value .pairs;
+    does = λ ps. does-map (λ v. record { bindings = σ; pairs = ps ++ v .pairs }) _ (y .does) (λ n. refl);
+    past = y .past;
+    grows = y .grows;
+    sane = y .sane;
+    others = y .others;
+    marks = y .marks;
+  }
+
+  -- union
+  pub union-stops : {l t : Expr} → Yields prog rule σ l marking K E P f m K₁ E₁ P₁ r memo₁ m₁ → (r .refusal .number ≡ 0 → ⊥)
+      → Acts prog rule (union l t) σ marking K E P f m K₁ E₁ P₁ (acted (r .refusal) Effect.Nothing (r .fill)) memo₁ m₁
+  union-stops {l} {t} y n = record {
+    pairs = [];
+    does = λ ps. does-stop _ (λ a. evalExpr (roomOf K P) prog rule σ t >>= λ b. pure (united σ ps a b)) (y .does) n;
+    past = λ q. absurd (n q);
+    grows = λ q. absurd (n q);
+    sane = λ q. absurd (n q);
+    others = λ q. absurd (n q);
+    marks = λ q. absurd (n q);
+  }
+
+  module _ {K₂ E₂ P₂ : List ℕ} {r₂ : Checked} {memo₂ m₂ : List ℕ} {l t : Expr} (y : Yields prog rule σ l marking K E P f m K₁ E₁ P₁ r memo₁ m₁) (n : r .refusal .number ≡ 0)
+      (y₂ : Yields prog rule σ t marking K₁ E₁ P₁ (r .fill) m₁ K₂ E₂ P₂ r₂ memo₂ m₂) where
+    abbrev two : List Proposition
+    two = record { lhs = r .value; rhs = r₂ .value } ∷ record { lhs = r₂ .value; rhs = r .value } ∷ []
+
+    pub acts-union : Acts prog rule (union l t) σ marking K E P f m K₂ E₂ P₂ (acted (r₂ .refusal) (Effect.Union (r .value) (r₂ .value)) (r₂ .fill)) memo₂ m₂
+    acts-union = record {
+      pairs = y .value .pairs ++ y₂ .value .pairs ++ two;
+      does = λ ps. does-then (λ room a. evalExpr room prog rule σ t >>= λ b. pure (united σ ps a b)) (y .does) n
+          (does-map (united σ ps (y .value)) _ (y₂ .does) (λ n₂. (λ i. record {
+            bindings = σ;
+            pairs = ps ++ y .value .pairs ++ y₂ .value .pairs ++ (record { lhs = y .term n i; rhs = y₂ .term n₂ i } ∷ record { lhs = y₂ .term n₂ i; rhs = y .term n i } ∷ []);
+          }) ∙ ap {B = ActionContext} (λ (qs : List Proposition). record { bindings = σ; pairs = qs }) (all-one ps)));
+      past = y₂ .past;
+      grows = λ n₂. extends-then (y .grows n) (y₂ .grows n₂);
+      sane = y₂ .sane;
+      others = λ n₂ q h. among-append q (y .value .pairs ++ y₂ .value .pairs) two
+          ∙ ap (λ (b : Bool). b || among q two) (among-append q (y .value .pairs) (y₂ .value .pairs) ∙ (λ i. y .others n q h i || y₂ .others n₂ q h i))
+          ∙ ap (λ (b : Bool). sameProposition q (record { lhs = r .value; rhs = r₂ .value }) || b) (or-no (sameProposition q (record { lhs = r₂ .value; rhs = r .value })));
+      marks = λ n₂ k ps w. subst (Marks (termsIn K₂ E₂ P₂ (r₂ .fill)) m₂) (all-one ps)
+          (marks-same (λ x u. Memᴰ·append-left two u) (λ x u. back n₂ x ps (List·Memᴰ·append-cases (ps ++ y .value .pairs ++ y₂ .value .pairs) u))
+          (y₂ .marks n₂ k (ps ++ y .value .pairs) (y .marks n k ps w)));
+    }
+      where
+        all-one : (ps : List Proposition) → ps ++ y .value .pairs ++ y₂ .value .pairs ++ two ≡ ps ++ (y .value .pairs ++ y₂ .value .pairs ++ two)
+        all-one ps = ap (λ (l : List Proposition). l ++ two) (append-assoc ps (y .value .pairs) (y₂ .value .pairs)) ∙ append-assoc ps (y .value .pairs ++ y₂ .value .pairs) two
+
+        -- a union's pair that is reflexive is the value's own
+        own : (x : ℕ) → List·Memᴰ (same x) two → x ≡ r₂ .value
+        own x u = go (List·Memᴰ·cases-cons u)
+          where
+            last : (same x ≡ record { lhs = r₂ .value; rhs = r .value }) ⊎ List·Memᴰ (same x) [] → x ≡ r₂ .value
+            last (inl e) = ap (λ (p : Proposition). p .lhs) e
+            last (inr v) = absurd (List·Memᴰ·not-nil v)
+
+            go : (same x ≡ record { lhs = r .value; rhs = r₂ .value }) ⊎ List·Memᴰ (same x) (record { lhs = r₂ .value; rhs = r .value } ∷ []) → x ≡ r₂ .value
+            go (inl e) = ap (λ (p : Proposition). p .rhs) e
+            go (inr v) = last (List·Memᴰ·cases-cons v)
+
+        back : r₂ .refusal .number ≡ 0 → (x : ℕ) (ps : List Proposition) → List·Memᴰ (same x) (ps ++ y .value .pairs ++ y₂ .value .pairs) ⊎ List·Memᴰ (same x) two
+            → List·Memᴰ (same x) (ps ++ y .value .pairs ++ y₂ .value .pairs)
+        back n₂ x ps (inl v) = v
+        back n₂ x ps (inr v) = Memᴰ·append-right (ps ++ y .value .pairs) (subst⁻¹ (λ (i : ℕ). List·Memᴰ (same i) (y₂ .value .pairs)) (own x v) (y₂ .own n₂))
+
+-- panic and change
+pub acts-idle : {K E P : List ℕ} {z : Sizes} {rule : ℕ} {σ : List Binding} {marking : Bool} {k e p : List ℕ} {f : Fill} {memo m : List ℕ} → Standing K E P z σ k e p f memo m
+    → Acts (programFor K E P z) rule idle σ marking k e p f m k e p (acted passed Effect.Nothing f) memo m
+acts-idle {σ = σ} {k = k} {e = e} {p = p} {f = f} S = record {
+  pairs = [];
+  does = λ ps. does-here (S .stored) (ap {B = Outcome ActionContext} (λ (qs : List Proposition). ok (record { bindings = σ; pairs = qs }) (termsIn k e p f)) (append-nil ps));
+  past = λ _. S .past;
+  grows = λ _. extends-same;
+  sane = λ _. S .sane;
+  others = λ _ q h. refl;
+  marks = λ _ t ps w. subst⁻¹ (Marks (termsIn k e p f) _) (append-nil ps) w;
+}
+
+-- the action that was read
+pub acts-as : {prog : Program} {rule : ℕ} {a b : Action} {σ : List Binding} {marking : Bool} {K E P : List ℕ} {f : Fill} {m K₁ E₁ P₁ : List ℕ} {r : Acted} {memo₁ m₁ : List ℕ}
+    → a ≡ b → Acts prog rule a σ marking K E P f m K₁ E₁ P₁ r memo₁ m₁ → Acts prog rule b σ marking K E P f m K₁ E₁ P₁ r memo₁ m₁
+acts-as {prog} {rule} {σ = σ} {marking = marking} {K = K} {E = E} {P = P} {f = f} {m = m} {K₁ = K₁} {E₁ = E₁} {P₁ = P₁} {r = r} {memo₁ = memo₁} {m₁ = m₁} e d =
+    subst (λ (a : Action). Acts prog rule a σ marking K E P f m K₁ E₁ P₁ r memo₁ m₁) e d
+
+pub acted-as : (expr : ℕ → Expr) {v w : view.Action} {a : Action} → v ≡ w → actionOf expr v ≡ a → actionOf expr w ≡ a
+acted-as expr {a = a} e q = subst (λ (x : view.Action). actionOf expr x ≡ a) e q

@@ -1,0 +1,119 @@
+-- One evaluation of an action, refused or with a value.
+use mathlib.Core.Path.{_≡_, refl, sym, ap, subst, _∙_}
+use mathlib.Core.Bool.{Bool, true, false, _||_}
+use mathlib.Core.List.{List, [], _∷_, _++_, List·Memᴰ, List·Memᴰ·head, List·Memᴰ·tail}
+use Prim.Native.Nat.{ℕ, _+_, _<_, _≤_}
+use native.Mathlib.Omega.{arith}
+use lib.Dec.{eqb}
+use borrow.Author.Tests.{eqb-true}
+use lib.ListN.{length}
+use Rattle.model.specs.Term.{Term}
+use Rattle.model.specs.Program.{Expr, Proposition, Binding, Program}
+use Rattle.model.specs.Check.{Outcome, ok, refused, Check, andThen, Room}
+use Rattle.model.specs.Evaluate.{same, Value, evalExpr}
+use Rattle.model.specs.Action.{sameProposition, among}
+use Rattle.model.proofs.Tests.{and-left, and-right}
+use Rattle.model.proofs.Store.{extends-same}
+use Rattle.cells.specs.declared.Fill.{Fill}
+use Rattle.termdag.specs.Store.{termsIn, Stored, roomOf}
+use Rattle.memo.specs.Memo.{Past}
+use Rattle.outcome.specs.Does.{refusalOf, outcomeOf, Grown, Does}
+use Rattle.outcome.specs.declared.Refusal.{Refusal}
+use Rattle.outcome.specs.declared.Checked.{Checked}
+use Rattle.outcome.proofs.Laws.{ok-of, refused-of}
+use Rattle.marks.proofs.Marking.{Marks, marks-extends, marks-adds}
+use Rattle.marks.proofs.Laws.{terms-length}
+use Rattle.load.specs.declared.sizes.Sizes.{Sizes}
+use Rattle.program.specs.Ready.{Ready, programFor}
+use Rattle.program.specs.Read.{exprFor, argumentsFor}
+use Rattle.evaluate.specs.Value.{termOutcome, valueOf, evalFor, valueFor, here}
+use Rattle.evaluate.proofs.Settling.{value-term, term-again}
+use Rattle.evaluate.specs.Evaluation.{Sane, EvaluatesRoot}
+use Rattle.pairs.specs.Marking.{markValues}
+use Rattle.pairs.proofs.Values.{pairs-values}
+use Rattle.marks.proofs.Subterms as Subterms
+use Rattle.pairs.proofs.Roots.{root-evaluated, root-adds}
+use Rattle.actions.specs.Acting.{Standing, markedIf, Yields}
+
+-- a list without a pair that is not reflexive
+pub among-none : (ps : List Proposition) → ((q : Proposition) → List·Memᴰ q ps → q .lhs ≡ q .rhs) → (q : Proposition) → (q .lhs ≡ q .rhs → ⊥) → among q ps ≡ false
+among-none [] h q n = refl
+among-none (p ∷ ps) h q n = go (sameProposition q p) refl (among-none ps (λ r m. h r (List·Memᴰ·tail m)) q n)
+  where
+    go : (b : Bool) → sameProposition q p ≡ b → among q ps ≡ false → (b || among q ps) ≡ false
+    go false e k = k
+    go true e k =
+        let l : q .lhs ≡ p .lhs = eqb-true (q .lhs) (p .lhs) (and-left _ _ e) in
+        let r : q .rhs ≡ p .rhs = eqb-true (q .rhs) (p .rhs) (and-right (eqb (q .lhs) (p .lhs)) _ e) in
+        absurd (n (l ∙ h p (List·Memᴰ·head refl) ∙ sym r))
+
+-- the outcome of an evaluation whose term is refused
+refused-value : (o : Outcome Value) (r : Refusal) (s : List Term) → termOutcome o ≡ refused (refusalOf r) s → o ≡ refused (refusalOf r) s
+refused-value (ok v u) r s q = let x : _≡_ {A = ℕ} 0 1 = cc in absurd (omega arith)
+refused-value (refused x u) r s q = let a : x ≡ refusalOf r = cc in let b : u ≡ s = cc in λ i. refused (a i) (b i)
+
+module _ (rule : ℕ) {K E P : List ℕ} {z : Sizes} {σ : List Binding} {e : ℕ} {k e′ p : List ℕ} {f : Fill} {memo m k₁ e₁ p₁ : List ℕ} {r : Checked} {memo₁ : List ℕ}
+    (S : Standing K E P z σ k e′ p f memo m) (h : e < z .expressions)
+    (d : EvaluatesRoot (argumentsFor K E P z) (valueFor false K E P z rule σ) (z .expressions) e k e′ p f k₁ e₁ p₁ r memo₁) where
+  abbrev prog : Program
+  prog = programFor K E P z
+
+  abbrev s₀ : List Term
+  s₀ = termsIn k e′ p f
+
+  abbrev s₁ : List Term
+  s₁ = termsIn k₁ e₁ p₁ (r .fill)
+
+  is-refused : (r .refusal .number ≡ 0 → ⊥) → evalExpr (roomOf k p) prog rule σ (exprFor K E P z e) s₀ ≡ refused (refusalOf (r .refusal)) s₁
+  unfolding valueOf
+  is-refused n = refused-value _ (r .refusal) s₁ (sym (d .does .outcome) ∙ refused-of (r .refusal) (r .value) s₁ n)
+
+  pub yields-refused : {marking : Bool} → (r .refusal .number ≡ 0 → ⊥) → Yields prog rule σ (exprFor K E P z e) marking k e′ p f m k₁ e₁ p₁ r memo₁ m
+  yields-refused n = record {
+    value = record { term = 0; pairs = [] };
+    does = record { outcome = refused-of (r .refusal) _ s₁ n ∙ sym (is-refused n); grown = d .does .grown };
+    term = λ q. absurd (n q);
+    past = λ q. absurd (n q);
+    grows = λ q. absurd (n q);
+    sane = λ q. absurd (n q);
+    inside = λ q. absurd (n q);
+    own = λ q. absurd (n q);
+    others = λ q. absurd (n q);
+    marks = λ q. absurd (n q);
+  }
+
+  pub yields-value : {marking : Bool} {m₁ : List ℕ} → r .refusal .number ≡ 0 → m₁ ≡ markedIf marking memo₁ (z .expressions) m
+      → Yields prog rule σ (exprFor K E P z e) marking k e′ p f m k₁ e₁ p₁ r memo₁ m₁
+  yields-value {marking} {m₁} n q = record {
+    value = root-evaluated (S .ready) rule σ d n (S .sane) .value;
+    does = record { outcome = ok-of (r .refusal) (root-evaluated (S .ready) rule σ d n (S .sane) .value) s₁ n ∙ sym (root-evaluated (S .ready) rule σ d n (S .sane) .is); grown = d .does .grown };
+    term = λ _. root-evaluated (S .ready) rule σ d n (S .sane) .term;
+    past = d .past;
+    grows = λ _. root-evaluated (S .ready) rule σ d n (S .sane) .grows;
+    sane = λ _. root-evaluated (S .ready) rule σ d n (S .sane) .sane;
+    inside = λ _. root-evaluated (S .ready) rule σ d n (S .sane) .inside;
+    own = λ _. own-pair;
+    others = λ _. among-none (root-evaluated (S .ready) rule σ d n (S .sane) .value .pairs) (root-evaluated (S .ready) rule σ d n (S .sane) .sides);
+    marks = λ _ t ps w.
+        let x = marks-extends (S .sane .ordered) (root-evaluated (S .ready) rule σ d n (S .sane) .grows) w in
+        marks-adds x (root-adds (S .ready) rule σ d n (S .sane) h (x .inside) room (q ∙ ap (λ (b : Bool). markedIf b memo₁ (z .expressions) m) t));
+  }
+    where
+      is-term : evalFor false K E P z rule σ (roomOf k p) e s₀ ≡ ok (r .value) s₁
+      is-term = sym (value-term false (roomOf k p) prog rule σ (exprFor K E P z e) s₀) ∙ sym (d .does .outcome) ∙ ok-of (r .refusal) (r .value) s₁ n
+
+      own-pair : List·Memᴰ (same (r .value)) (root-evaluated (S .ready) rule σ d n (S .sane) .value .pairs)
+      own-pair = pairs-values (S .ready) (roomOf k p) rule σ e (S .sane) (root-evaluated (S .ready) rule σ d n (S .sane) .is) (r .value) .1 (record {
+        at = e;
+        reaches = here refl;
+        term = r .value;
+        value = term-again false (roomOf k p) prog rule σ (exprFor K E P z e) s₀ s₁ s₁ (r .value) is-term extends-same;
+        under = Subterms.here refl;
+      })
+
+      room : length s₁ ≤ length m
+      room =
+          let a = terms-length k₁ e₁ p₁ (r .fill) in
+          let b = d .does .grown .stored .formed .kinds in
+          let c = d .does .grown .lenK in
+          let l = S .cells in omega arith

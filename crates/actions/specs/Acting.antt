@@ -1,0 +1,74 @@
+-- The contract of actions: the context after, as the definition has it, and what the code keeps of it.
+use Prim.Native.Nat.{ℕ, _+_, _<_, _≤_}
+use lib.ListN.{length}
+use mathlib.Core.Path.{_≡_}
+use mathlib.Core.List.{List, _∷_, _++_, List·Memᴰ}
+use mathlib.Core.Bool.{Bool, true, false, _||_}
+use Rattle.model.specs.Term.{Term}
+use Rattle.model.specs.Program.{Expr, Proposition, Binding, Program, Action}
+use Rattle.model.specs.Check.{Room}
+use Rattle.model.specs.Evaluate.{same, Value, evalExpr}
+use Rattle.model.specs.Action.{ActionContext, processAction, sameProposition, among}
+use Rattle.model.proofs.Store.{Extends}
+use Rattle.termdag.specs.Store.{termsIn, Stored, roomOf}
+use Rattle.cells.specs.declared.Fill.{Fill}
+use Rattle.memo.specs.Memo.{Past}
+use Rattle.outcome.specs.Does.{Does}
+use Rattle.outcome.specs.declared.Checked.{Checked}
+use Rattle.marks.proofs.Marking.{Marks}
+use Rattle.load.specs.declared.sizes.Sizes.{Sizes}
+use Rattle.program.specs.Ready.{Ready, programFor}
+use Rattle.evaluate.specs.Evaluation.{Sane}
+use Rattle.pairs.specs.Marking.{markValues}
+use Rattle.actions.specs.declared.Effect.{Effect}
+use Rattle.actions.specs.declared.Acted.{Acted}
+
+-- What an action may be handed: an admitted job, a store that is sane under the bindings σ, a memo, and a mark for each cell of the store.
+pub record Standing (K E P : List ℕ) (z : Sizes) (σ : List Binding) (k e p : List ℕ) (f : Fill) (memo m : List ℕ) : Type 0 where
+  pub ready : Ready K E P z
+  pub stored : Stored k e p f
+  pub sane : Sane (programFor K E P z) σ (termsIn k e p f)
+  pub fits : z .expressions + z .expressions < length memo
+  pub past : Past memo
+  pub cells : length k ≤ length m
+
+-- The marks after an evaluation.
+abbrev pub markedIf : Bool → List ℕ → ℕ → List ℕ → List ℕ
+markedIf true memo n m = markValues memo n m
+markedIf false memo n m = m
+
+-- The bindings after an action.
+abbrev pub effectBindings : Effect → List Binding → List Binding
+effectBindings (Effect.Bind x t) σ = record { name = x; term = t } ∷ σ
+effectBindings (Effect.Union a b) σ = σ
+effectBindings Effect.Nothing σ = σ
+
+-- The pair is one of a union's two.
+abbrev pub effectHas : Effect → Proposition → Bool
+effectHas (Effect.Bind x t) q = false
+effectHas (Effect.Union a b) q = sameProposition q (record { lhs = a; rhs = b }) || sameProposition q (record { lhs = b; rhs = a })
+effectHas Effect.Nothing q = false
+
+-- The evaluation of e with marks m that stand for pairs before: where it is a value, its store is sane, and the marks stand for its pairs as well, if there is marking.
+pub record Yields (prog : Program) (rule : ℕ) (σ : List Binding) (e : Expr) (marking : Bool) (K E P : List ℕ) (f : Fill) (m K′ E′ P′ : List ℕ) (r : Checked) (memo′ m′ : List ℕ) : Type 0 where
+  pub value : Value
+  pub does : Does K E P f K′ E′ P′ (r .fill) (r .refusal) value (evalExpr (roomOf K P) prog rule σ e (termsIn K E P f))
+  pub term : r .refusal .number ≡ 0 → value .term ≡ r .value
+  pub past : r .refusal .number ≡ 0 → Past memo′
+  pub grows : r .refusal .number ≡ 0 → Extends (termsIn K E P f) (termsIn K′ E′ P′ (r .fill))
+  pub sane : r .refusal .number ≡ 0 → Sane prog σ (termsIn K′ E′ P′ (r .fill))
+  pub inside : r .refusal .number ≡ 0 → r .value < length (termsIn K′ E′ P′ (r .fill))
+  pub own : r .refusal .number ≡ 0 → List·Memᴰ (same (r .value)) (value .pairs)
+  pub others : r .refusal .number ≡ 0 → (q : Proposition) → (q .lhs ≡ q .rhs → ⊥) → among q (value .pairs) ≡ false
+  pub marks : r .refusal .number ≡ 0 → marking ≡ true → (ps : List Proposition) → Marks (termsIn K E P f) m ps → Marks (termsIn K′ E′ P′ (r .fill)) m′ (ps ++ value .pairs)
+
+-- The action a in a context of the bindings σ: the context after. Of its pairs, those that are not reflexive are a union's; the marks stand for the others, if there is marking.
+pub record Acts (prog : Program) (rule : ℕ) (a : Action) (σ : List Binding) (marking : Bool) (K E P : List ℕ) (f : Fill) (m K′ E′ P′ : List ℕ) (r : Acted) (memo′ m′ : List ℕ) : Type 0 where
+  pub pairs : List Proposition
+  pub does : (ps : List Proposition) → Does K E P f K′ E′ P′ (r .fill) (r .refusal) (record { bindings = effectBindings (r .effect) σ; pairs = ps ++ pairs })
+      (processAction (roomOf K P) prog rule (record { bindings = σ; pairs = ps }) a (termsIn K E P f))
+  pub past : r .refusal .number ≡ 0 → Past memo′
+  pub grows : r .refusal .number ≡ 0 → Extends (termsIn K E P f) (termsIn K′ E′ P′ (r .fill))
+  pub sane : r .refusal .number ≡ 0 → Sane prog (effectBindings (r .effect) σ) (termsIn K′ E′ P′ (r .fill))
+  pub others : r .refusal .number ≡ 0 → (q : Proposition) → (q .lhs ≡ q .rhs → ⊥) → among q pairs ≡ effectHas (r .effect) q
+  pub marks : r .refusal .number ≡ 0 → marking ≡ true → (ps : List Proposition) → Marks (termsIn K E P f) m ps → Marks (termsIn K′ E′ P′ (r .fill)) m′ (ps ++ pairs)

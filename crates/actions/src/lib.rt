@@ -1,0 +1,219 @@
+// Actions, rule heads and merges, from proof_checker.rs. Pairs are not collected: marks stand for the reflexive ones, and a union's two are tested or kept.
+use cells::Fill;
+use cells::wide;
+use decode::Action;
+use decode::Merge;
+use decode::Name;
+use decode::Proposition;
+use evaluate::evaluate;
+use load::sizes::Sizes;
+use outcome::Checked;
+use outcome::Refusal;
+use pairs::mark_values;
+use program::merge_of;
+use program::read::action_at;
+use program::read::rule_actions_at;
+ghost use mathlib.Core.Path.{_≡_};
+ghost use mathlib.Core.List.{List, []};
+ghost use Prim.Native.Nat.{ℕ, _+_, _≤_, _<_};
+ghost use lib.ListN.{length};
+ghost use Rattle.model.specs.Term.{Term};
+ghost use Rattle.model.specs.Program.{nameMergeFunction, Action as ModelAction, bind, union, run, idle};
+ghost use Rattle.model.specs.Action as model;
+ghost use Rattle.decode.specs.View.{propositionOf};
+ghost use Rattle.termdag.specs.Store.{termsIn, Stored, roomOf};
+ghost use Rattle.memo.specs.Memo.{Past};
+ghost use Rattle.program.specs.Ready.{Ready, programFor};
+ghost use Rattle.program.specs.Read.{exprFor, actionFor};
+ghost use Rattle.evaluate.specs.Value.{bindingsIn};
+ghost use Rattle.evaluate.specs.Evaluation.{Sane, Checks};
+ghost use Rattle.pairs.specs.Marking.{markValues};
+ghost use Rattle.actions.specs.Acting.{Standing, markedIf, Yields, Acts};
+
+// What an action did: bound a name to a term, joined two terms, or neither.
+pub enum Effect {
+    Bind(u32, u32),
+    Union(u32, u32),
+    Nothing,
+}
+
+// What an action gives.
+pub struct Acted {
+    pub refusal: Refusal,
+    pub effect: Effect,
+    pub fill: Fill,
+}
+
+// Marks the values of an evaluation, if they are to be marked.
+fn mark_if(marking: bool, memo: &[u32], n: usize, marks: &mut [u32])
+    requires { ⌜ n + n < length (now memo) ⌝ }
+    ensures { λ _. ⌜ now (marks .exit) ≡ markedIf marking (now (memo .entry)) n (now (marks .entry)) ⌝ }
+{
+    if !marking {
+        return;
+    }
+    mark_values(memo, n, marks);
+}
+
+// The value of expression e, with marks for its pairs.
+fn yield_value(
+    kinds: &[u32],
+    ends: &[u32],
+    pool: &[u32],
+    z: Sizes,
+    bound: &[u32],
+    pairs: &[u32],
+    globals: &[u32],
+    rule: u32,
+    skinds: &mut [u32],
+    sends: &mut [u32],
+    spool: &mut [u32],
+    fill: Fill,
+    memo: &mut [u32],
+    marking: bool,
+    marks: &mut [u32],
+    e: u32,
+) -> Checked
+    requires { ⌜ Standing (now kinds) (now ends) (now pool) z (bindingsIn (now bound) (now pairs) (now globals)) (now skinds) (now sends) (now spool) fill (now memo) (now marks) ⌝ }
+    requires { ⌜ e < z .expressions ⌝ }
+    ensures { λ r. ⌜ Yields (programFor (now (kinds .entry)) (now (ends .entry)) (now (pool .entry)) z) rule (bindingsIn (now (bound .entry)) (now (pairs .entry)) (now (globals .entry))) (exprFor (now (kinds .entry)) (now (ends .entry)) (now (pool .entry)) z e) marking (now (skinds .entry)) (now (sends .entry)) (now (spool .entry)) fill (now (marks .entry)) (now (skinds .exit)) (now (sends .exit)) (now (spool .exit)) r (now (memo .exit)) (now (marks .exit)) ⌝ }
+{
+    let r = evaluate(kinds, ends, pool, z, bound, pairs, globals, rule, false, skinds, sends, spool, fill, memo, e);
+    if r.refusal.number != 0 {
+        return r;
+    }
+    mark_if(marking, memo, z.expressions, marks);
+    r
+}
+
+// A let.
+fn act_let(
+    kinds: &[u32],
+    ends: &[u32],
+    pool: &[u32],
+    z: Sizes,
+    bound: &[u32],
+    pairs: &[u32],
+    globals: &[u32],
+    rule: u32,
+    skinds: &mut [u32],
+    sends: &mut [u32],
+    spool: &mut [u32],
+    fill: Fill,
+    memo: &mut [u32],
+    marking: bool,
+    marks: &mut [u32],
+    name: u32,
+    e: u32,
+) -> Acted
+    requires { ⌜ Standing (now kinds) (now ends) (now pool) z (bindingsIn (now bound) (now pairs) (now globals)) (now skinds) (now sends) (now spool) fill (now memo) (now marks) ⌝ }
+    requires { ⌜ e < z .expressions ⌝ }
+    ensures { λ r. ⌜ Acts (programFor (now (kinds .entry)) (now (ends .entry)) (now (pool .entry)) z) rule (bind name (exprFor (now (kinds .entry)) (now (ends .entry)) (now (pool .entry)) z e)) (bindingsIn (now (bound .entry)) (now (pairs .entry)) (now (globals .entry))) marking (now (skinds .entry)) (now (sends .entry)) (now (spool .entry)) fill (now (marks .entry)) (now (skinds .exit)) (now (sends .exit)) (now (spool .exit)) r (now (memo .exit)) (now (marks .exit)) ⌝ }
+{
+    let r = yield_value(kinds, ends, pool, z, bound, pairs, globals, rule, skinds, sends, spool, fill, memo, marking, marks, e);
+    let refusal = r.refusal;
+    let fill = r.fill;
+    Acted { refusal, effect: Effect::Bind(name, r.value), fill }
+}
+
+// A set or an expression.
+fn act_run(
+    kinds: &[u32],
+    ends: &[u32],
+    pool: &[u32],
+    z: Sizes,
+    bound: &[u32],
+    pairs: &[u32],
+    globals: &[u32],
+    rule: u32,
+    skinds: &mut [u32],
+    sends: &mut [u32],
+    spool: &mut [u32],
+    fill: Fill,
+    memo: &mut [u32],
+    marking: bool,
+    marks: &mut [u32],
+    e: u32,
+) -> Acted
+    requires { ⌜ Standing (now kinds) (now ends) (now pool) z (bindingsIn (now bound) (now pairs) (now globals)) (now skinds) (now sends) (now spool) fill (now memo) (now marks) ⌝ }
+    requires { ⌜ e < z .expressions ⌝ }
+    ensures { λ r. ⌜ Acts (programFor (now (kinds .entry)) (now (ends .entry)) (now (pool .entry)) z) rule (run (exprFor (now (kinds .entry)) (now (ends .entry)) (now (pool .entry)) z e)) (bindingsIn (now (bound .entry)) (now (pairs .entry)) (now (globals .entry))) marking (now (skinds .entry)) (now (sends .entry)) (now (spool .entry)) fill (now (marks .entry)) (now (skinds .exit)) (now (sends .exit)) (now (spool .exit)) r (now (memo .exit)) (now (marks .exit)) ⌝ }
+{
+    let r = yield_value(kinds, ends, pool, z, bound, pairs, globals, rule, skinds, sends, spool, fill, memo, marking, marks, e);
+    let refusal = r.refusal;
+    let fill = r.fill;
+    Acted { refusal, effect: Effect::Nothing, fill }
+}
+
+// A union.
+fn act_union(
+    kinds: &[u32],
+    ends: &[u32],
+    pool: &[u32],
+    z: Sizes,
+    bound: &[u32],
+    pairs: &[u32],
+    globals: &[u32],
+    rule: u32,
+    skinds: &mut [u32],
+    sends: &mut [u32],
+    spool: &mut [u32],
+    fill: Fill,
+    memo: &mut [u32],
+    marking: bool,
+    marks: &mut [u32],
+    left: u32,
+    right: u32,
+) -> Acted
+    requires { ⌜ Standing (now kinds) (now ends) (now pool) z (bindingsIn (now bound) (now pairs) (now globals)) (now skinds) (now sends) (now spool) fill (now memo) (now marks) ⌝ }
+    requires { ⌜ left < z .expressions ⌝ }
+    requires { ⌜ right < z .expressions ⌝ }
+    ensures { λ r. ⌜ Acts (programFor (now (kinds .entry)) (now (ends .entry)) (now (pool .entry)) z) rule (union (exprFor (now (kinds .entry)) (now (ends .entry)) (now (pool .entry)) z left) (exprFor (now (kinds .entry)) (now (ends .entry)) (now (pool .entry)) z right)) (bindingsIn (now (bound .entry)) (now (pairs .entry)) (now (globals .entry))) marking (now (skinds .entry)) (now (sends .entry)) (now (spool .entry)) fill (now (marks .entry)) (now (skinds .exit)) (now (sends .exit)) (now (spool .exit)) r (now (memo .exit)) (now (marks .exit)) ⌝ }
+{
+    let a = yield_value(kinds, ends, pool, z, bound, pairs, globals, rule, skinds, sends, spool, fill, memo, marking, marks, left);
+    let have = a.fill;
+    if a.refusal.number != 0 {
+        let refusal = a.refusal;
+        return Acted { refusal, effect: Effect::Nothing, fill: have };
+    }
+    let b = yield_value(kinds, ends, pool, z, bound, pairs, globals, rule, skinds, sends, spool, have, memo, marking, marks, right);
+    let refusal = b.refusal;
+    let fill = b.fill;
+    Acted { refusal, effect: Effect::Union(a.value, b.value), fill }
+}
+
+// One action.
+pub fn process_action(
+    kinds: &[u32],
+    ends: &[u32],
+    pool: &[u32],
+    z: Sizes,
+    bound: &[u32],
+    pairs: &[u32],
+    globals: &[u32],
+    rule: u32,
+    skinds: &mut [u32],
+    sends: &mut [u32],
+    spool: &mut [u32],
+    fill: Fill,
+    memo: &mut [u32],
+    marking: bool,
+    marks: &mut [u32],
+    i: u32,
+) -> Acted
+    requires { ⌜ Standing (now kinds) (now ends) (now pool) z (bindingsIn (now bound) (now pairs) (now globals)) (now skinds) (now sends) (now spool) fill (now memo) (now marks) ⌝ }
+    requires { ⌜ i < z .actions ⌝ }
+    ensures { λ r. ⌜ Acts (programFor (now (kinds .entry)) (now (ends .entry)) (now (pool .entry)) z) rule (actionFor (now (kinds .entry)) (now (ends .entry)) (now (pool .entry)) z i) (bindingsIn (now (bound .entry)) (now (pairs .entry)) (now (globals .entry))) marking (now (skinds .entry)) (now (sends .entry)) (now (spool .entry)) fill (now (marks .entry)) (now (skinds .exit)) (now (sends .exit)) (now (spool .exit)) r (now (memo .exit)) (now (marks .exit)) ⌝ }
+{
+    let action = action_at(kinds, ends, pool, z, wide(i));
+    match action {
+        Action::Let(x, e) => act_let(kinds, ends, pool, z, bound, pairs, globals, rule, skinds, sends, spool, fill, memo, marking, marks, x, e),
+        Action::Union(l, r) => act_union(kinds, ends, pool, z, bound, pairs, globals, rule, skinds, sends, spool, fill, memo, marking, marks, l, r),
+        Action::Run(e) => act_run(kinds, ends, pool, z, bound, pairs, globals, rule, skinds, sends, spool, fill, memo, marking, marks, e),
+        Action::Idle => Acted {
+            refusal: Refusal { number: 0, count: 0, fields: [0; 6] },
+            effect: Effect::Nothing,
+            fill,
+        },
+    }
+}
