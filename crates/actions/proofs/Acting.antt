@@ -3,9 +3,11 @@ use mathlib.Core.Path.{_≡_, refl, sym, ap, subst, subst⁻¹, _∙_}
 use mathlib.Core.Logic.{_⊎_, inl, inr}
 use mathlib.Core.Bool.{Bool, true, false, _||_}
 use mathlib.Core.List.{List, [], _∷_, _++_, append-assoc, append-nil, List·Memᴰ, List·Memᴰ·not-nil, List·Memᴰ·cases-cons, List·Memᴰ·append-cases, Memᴰ·append-left, Memᴰ·append-right}
-use Prim.Native.Nat.{ℕ, _+_, _<_, _≤_}
+use Prim.Native.Nat.{ℕ, zero, suc, _+_, _-_, _<_, _≤_}
 use native.Mathlib.Omega.{arith}
-use lib.ListN.{length}
+use lib.ListN.{length, getD, set, drop, length-set}
+use lib.Seq.{drop-cons, getD-set-same, getD-set-other, drop-set-lt}
+use Rattle.model.specs.Decode.{readBindings}
 use Rattle.model.specs.Term.{Term}
 use Rattle.model.specs.Program.{Expr, Proposition, Binding, Program, Action, bind, union, run, idle}
 use Rattle.model.specs.Check.{Outcome, ok, refused, Check, andThen, pure, _>>=_, Room}
@@ -27,7 +29,7 @@ use Rattle.program.specs.Ready.{Ready, programFor}
 use Rattle.evaluate.specs.Evaluation.{Sane}
 use Rattle.actions.specs.declared.Effect.{Effect}
 use Rattle.actions.specs.declared.Acted.{Acted}
-use Rattle.actions.specs.Acting.{Standing, effectBindings, effectHas, Yields, Acts}
+use Rattle.actions.specs.Acting.{Standing, effectBindings, effectHas, Yields, Acts, Pushed}
 
 abbrev acted : Refusal → Effect → Fill → Acted
 acted r e f = record { refusal = r; effect = e; fill = f }
@@ -73,11 +75,11 @@ standing-after S g w q a b = record {
   cells = let x = S .cells in let y = g .lenK in omega arith;
 }
 
-module _ {prog : Program} {rule : ℕ} {σ : List Binding} {marking : Bool} {K E P : List ℕ} {f : Fill} {m K₁ E₁ P₁ : List ℕ} {r : Checked} {memo₁ m₁ : List ℕ} where
+module _ (rule : ℕ) {prog : Program} {σ : List Binding} {marking : Bool} {K E P : List ℕ} {f : Fill} {m K₁ E₁ P₁ : List ℕ} {r : Checked} {memo₁ m₁ : List ℕ} where
   -- let
-  pub acts-let : (x : ℕ) {e : Expr} → Yields prog rule σ e marking K E P f m K₁ E₁ P₁ r memo₁ m₁
+  pub acts-let : (x : ℕ) (e : Expr) → Yields prog σ (evalExpr (roomOf K P) prog rule σ e (termsIn K E P f)) marking K E P f m K₁ E₁ P₁ r memo₁ m₁
       → Acts prog rule (bind x e) σ marking K E P f m K₁ E₁ P₁ (acted (r .refusal) (Effect.Bind x (r .value)) (r .fill)) memo₁ m₁
-  acts-let x {e} y = record {
+  acts-let x e y = record {
     pairs = y .value .pairs;
     does = λ ps. does-map (λ v. record { bindings = record { name = x; term = v .term } ∷ σ; pairs = ps ++ v .pairs }) _ (y .does)
         (λ n. ap {B = ActionContext} (λ (t : ℕ). record { bindings = record { name = x; term = t } ∷ σ; pairs = ps ++ y .value .pairs }) (y .term n));
@@ -89,8 +91,8 @@ module _ {prog : Program} {rule : ℕ} {σ : List Binding} {marking : Bool} {K E
   }
 
   -- set or expression
-  pub acts-run : {e : Expr} → Yields prog rule σ e marking K E P f m K₁ E₁ P₁ r memo₁ m₁ → Acts prog rule (run e) σ marking K E P f m K₁ E₁ P₁ (acted (r .refusal) Effect.Nothing (r .fill)) memo₁ m₁
-  acts-run {e} y = record {
+  pub acts-run : (e : Expr) → Yields prog σ (evalExpr (roomOf K P) prog rule σ e (termsIn K E P f)) marking K E P f m K₁ E₁ P₁ r memo₁ m₁ → Acts prog rule (run e) σ marking K E P f m K₁ E₁ P₁ (acted (r .refusal) Effect.Nothing (r .fill)) memo₁ m₁
+  acts-run e y = record {
     pairs = y .value .pairs;
     does = λ ps. does-map (λ v. record { bindings = σ; pairs = ps ++ v .pairs }) _ (y .does) (λ n. refl);
     past = y .past;
@@ -101,9 +103,9 @@ module _ {prog : Program} {rule : ℕ} {σ : List Binding} {marking : Bool} {K E
   }
 
   -- union
-  pub union-stops : {l t : Expr} → Yields prog rule σ l marking K E P f m K₁ E₁ P₁ r memo₁ m₁ → (r .refusal .number ≡ 0 → ⊥)
+  pub union-stops : (l t : Expr) → Yields prog σ (evalExpr (roomOf K P) prog rule σ l (termsIn K E P f)) marking K E P f m K₁ E₁ P₁ r memo₁ m₁ → (r .refusal .number ≡ 0 → ⊥)
       → Acts prog rule (union l t) σ marking K E P f m K₁ E₁ P₁ (acted (r .refusal) Effect.Nothing (r .fill)) memo₁ m₁
-  union-stops {l} {t} y n = record {
+  union-stops l t y n = record {
     pairs = [];
     does = λ ps. does-stop _ (λ a. evalExpr (roomOf K P) prog rule σ t >>= λ b. pure (united σ ps a b)) (y .does) n;
     past = λ q. absurd (n q);
@@ -113,8 +115,8 @@ module _ {prog : Program} {rule : ℕ} {σ : List Binding} {marking : Bool} {K E
     marks = λ q. absurd (n q);
   }
 
-  module _ {K₂ E₂ P₂ : List ℕ} {r₂ : Checked} {memo₂ m₂ : List ℕ} {l t : Expr} (y : Yields prog rule σ l marking K E P f m K₁ E₁ P₁ r memo₁ m₁) (n : r .refusal .number ≡ 0)
-      (y₂ : Yields prog rule σ t marking K₁ E₁ P₁ (r .fill) m₁ K₂ E₂ P₂ r₂ memo₂ m₂) where
+  module _ {K₂ E₂ P₂ : List ℕ} {r₂ : Checked} {memo₂ m₂ : List ℕ} (l t : Expr) (y : Yields prog σ (evalExpr (roomOf K P) prog rule σ l (termsIn K E P f)) marking K E P f m K₁ E₁ P₁ r memo₁ m₁) (n : r .refusal .number ≡ 0)
+      (y₂ : Yields prog σ (evalExpr (roomOf K₁ P₁) prog rule σ t (termsIn K₁ E₁ P₁ (r .fill))) marking K₁ E₁ P₁ (r .fill) m₁ K₂ E₂ P₂ r₂ memo₂ m₂) where
     abbrev two : List Proposition
     two = record { lhs = r .value; rhs = r₂ .value } ∷ record { lhs = r₂ .value; rhs = r .value } ∷ []
 
@@ -178,3 +180,33 @@ acts-as {prog} {rule} {σ = σ} {marking = marking} {K = K} {E = E} {P = P} {f =
 
 pub acted-as : (expr : ℕ → Expr) {v w : view.Action} {a : Action} → v ≡ w → actionOf expr v ≡ a → actionOf expr w ≡ a
 acted-as expr {a = a} e q = subst (λ (x : view.Action). actionOf expr x ≡ a) e q
+
+-- a binding written before the others
+pub pushed-pair : (T : List ℕ) (at x t : ℕ) → 2 ≤ at → at ≤ length T → {r : ℕ} → r ≡ at - 2
+    → Pushed T at (Effect.Bind x t) (set (set T (at - 2) x) (at - 1) t) r
+pushed-pair T at x t h l {r} e = record {
+  least = omega arith;
+  most = omega arith;
+  bindings = ap (λ (k : ℕ). readBindings (drop k (set (set T (at - 2) x) (at - 1) t))) e ∙ ap readBindings (words T (at - 2) at (omega arith) l);
+}
+  where
+    words : (T : List ℕ) (k at : ℕ) → at ≡ suc (suc k) → at ≤ length T → drop k (set (set T k x) (at - 1) t) ≡ x ∷ t ∷ drop at T
+    words T k at q l =
+        let a : at - 1 ≡ suc k = omega arith in
+        let T₁ : List ℕ = set T k x in
+        let T₂ : List ℕ = set T₁ (at - 1) t in
+        let n₁ : length T₁ ≡ length T = length-set T k x in
+        let n₂ : length T₂ ≡ length T₁ = length-set T₁ (at - 1) t in
+        drop-cons T₂ k 0 (omega arith)
+        ∙ (λ i. two (getD-set-other T₁ (at - 1) k t 0 (λ z. omega arith) ∙ getD-set-same T k x 0 (omega arith)) (drop-cons T₂ (suc k) 0 (omega arith)) i)
+        ∙ ap (λ (y : List ℕ). x ∷ y) ((λ i. (ap (λ (j : ℕ). getD T₂ j 0) (sym a) ∙ getD-set-same T₁ (at - 1) t 0 (omega arith)) i ∷ drop (suc (suc k)) T₂)
+        ∙ ap (λ (y : List ℕ). t ∷ y) (ap (λ (j : ℕ). drop j T₂) (sym q) ∙ drop-set-lt at T₁ (at - 1) t (omega arith) ∙ drop-set-lt at T k x (omega arith)))
+      where
+        two : {a b : ℕ} {xs ys : List ℕ} → a ≡ b → xs ≡ ys → a ∷ xs ≡ b ∷ ys
+        two p q = λ i. p i ∷ q i
+
+pub pushed-none : (T : List ℕ) (at : ℕ) (e : Effect) → ((σ : List Binding) → effectBindings e σ ≡ σ) → Pushed T at e T at
+pushed-none T at e h = record { least = omega arith; most = omega arith; bindings = sym (h (readBindings (drop at T))) }
+
+pub pushed-as : {T : List ℕ} {at : ℕ} {e e′ : Effect} {T′ : List ℕ} {r : ℕ} → e ≡ e′ → Pushed T at e′ T′ r → Pushed T at e T′ r
+pushed-as {T} {at} {T′ = T′} {r = r} q d = subst⁻¹ (λ (x : Effect). Pushed T at x T′ r) q d

@@ -68,7 +68,7 @@ module _ (rule : ℕ) {K E P : List ℕ} {z : Sizes} {σ : List Binding} {e : �
   unfolding valueOf
   is-refused n = refused-value _ (r .refusal) s₁ (sym (d .does .outcome) ∙ refused-of (r .refusal) (r .value) s₁ n)
 
-  pub yields-refused : {marking : Bool} → (r .refusal .number ≡ 0 → ⊥) → Yields prog rule σ (exprFor K E P z e) marking k e′ p f m k₁ e₁ p₁ r memo₁ m
+  pub yields-refused : {marking : Bool} → (r .refusal .number ≡ 0 → ⊥) → Yields prog σ (evalExpr (roomOf k p) prog rule σ (exprFor K E P z e) s₀) marking k e′ p f m k₁ e₁ p₁ r memo₁ m
   yields-refused n = record {
     value = record { term = 0; pairs = [] };
     does = record { outcome = refused-of (r .refusal) _ s₁ n ∙ sym (is-refused n); grown = d .does .grown };
@@ -83,7 +83,7 @@ module _ (rule : ℕ) {K E P : List ℕ} {z : Sizes} {σ : List Binding} {e : �
   }
 
   pub yields-value : {marking : Bool} {m₁ : List ℕ} → r .refusal .number ≡ 0 → m₁ ≡ markedIf marking memo₁ (z .expressions) m
-      → Yields prog rule σ (exprFor K E P z e) marking k e′ p f m k₁ e₁ p₁ r memo₁ m₁
+      → Yields prog σ (evalExpr (roomOf k p) prog rule σ (exprFor K E P z e) s₀) marking k e′ p f m k₁ e₁ p₁ r memo₁ m₁
   yields-value {marking} {m₁} n q = record {
     value = root-evaluated (S .ready) rule σ d n (S .sane) .value;
     does = record { outcome = ok-of (r .refusal) (root-evaluated (S .ready) rule σ d n (S .sane) .value) s₁ n ∙ sym (root-evaluated (S .ready) rule σ d n (S .sane) .is); grown = d .does .grown };

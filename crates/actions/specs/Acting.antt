@@ -1,13 +1,14 @@
 -- The contract of actions: the context after, as the definition has it, and what the code keeps of it.
 use Prim.Native.Nat.{ℕ, _+_, _<_, _≤_}
-use lib.ListN.{length}
+use lib.ListN.{length, drop}
 use mathlib.Core.Path.{_≡_}
 use mathlib.Core.List.{List, _∷_, _++_, List·Memᴰ}
 use mathlib.Core.Bool.{Bool, true, false, _||_}
 use Rattle.model.specs.Term.{Term}
-use Rattle.model.specs.Program.{Expr, Proposition, Binding, Program, Action}
-use Rattle.model.specs.Check.{Room}
-use Rattle.model.specs.Evaluate.{same, Value, evalExpr}
+use Rattle.model.specs.Program.{Proposition, Binding, Program, Action}
+use Rattle.model.specs.Decode.{readBindings}
+use Rattle.model.specs.Check.{Outcome, Room}
+use Rattle.model.specs.Evaluate.{same, Value}
 use Rattle.model.specs.Action.{ActionContext, processAction, sameProposition, among}
 use Rattle.model.proofs.Store.{Extends}
 use Rattle.termdag.specs.Store.{termsIn, Stored, roomOf}
@@ -49,10 +50,10 @@ effectHas (Effect.Bind x t) q = false
 effectHas (Effect.Union a b) q = sameProposition q (record { lhs = a; rhs = b }) || sameProposition q (record { lhs = b; rhs = a })
 effectHas Effect.Nothing q = false
 
--- The evaluation of e with marks m that stand for pairs before: where it is a value, its store is sane, and the marks stand for its pairs as well, if there is marking.
-pub record Yields (prog : Program) (rule : ℕ) (σ : List Binding) (e : Expr) (marking : Bool) (K E P : List ℕ) (f : Fill) (m K′ E′ P′ : List ℕ) (r : Checked) (memo′ m′ : List ℕ) : Type 0 where
+-- An evaluation whose outcome is o, with marks m that stand for pairs before: where it is a value, its store is sane, and the marks stand for its pairs as well, if there is marking.
+pub record Yields (prog : Program) (σ : List Binding) (o : Outcome Value) (marking : Bool) (K E P : List ℕ) (f : Fill) (m K′ E′ P′ : List ℕ) (r : Checked) (memo′ m′ : List ℕ) : Type 0 where
   pub value : Value
-  pub does : Does K E P f K′ E′ P′ (r .fill) (r .refusal) value (evalExpr (roomOf K P) prog rule σ e (termsIn K E P f))
+  pub does : Does K E P f K′ E′ P′ (r .fill) (r .refusal) value o
   pub term : r .refusal .number ≡ 0 → value .term ≡ r .value
   pub past : r .refusal .number ≡ 0 → Past memo′
   pub grows : r .refusal .number ≡ 0 → Extends (termsIn K E P f) (termsIn K′ E′ P′ (r .fill))
@@ -72,3 +73,9 @@ pub record Acts (prog : Program) (rule : ℕ) (a : Action) (σ : List Binding) (
   pub sane : r .refusal .number ≡ 0 → Sane prog (effectBindings (r .effect) σ) (termsIn K′ E′ P′ (r .fill))
   pub others : r .refusal .number ≡ 0 → (q : Proposition) → (q .lhs ≡ q .rhs → ⊥) → among q pairs ≡ effectHas (r .effect) q
   pub marks : r .refusal .number ≡ 0 → marking ≡ true → (ps : List Proposition) → Marks (termsIn K E P f) m ps → Marks (termsIn K′ E′ P′ (r .fill)) m′ (ps ++ pairs)
+
+-- From r on the table T′ has the bindings after an action, where T had those before it from `at` on.
+pub record Pushed (T : List ℕ) (at : ℕ) (e : Effect) (T′ : List ℕ) (r : ℕ) : Type 0 where
+  pub least : at ≤ r + 2
+  pub most : r ≤ at
+  pub bindings : readBindings (drop r T′) ≡ effectBindings e (readBindings (drop at T))

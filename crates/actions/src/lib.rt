@@ -19,7 +19,7 @@ ghost use Prim.Native.Nat.{ℕ, _+_, _≤_, _<_};
 ghost use lib.ListN.{length};
 ghost use Rattle.model.specs.Term.{Term};
 ghost use Rattle.model.specs.Program.{nameMergeFunction, Action as ModelAction, bind, union, run, idle};
-ghost use Rattle.model.specs.Action as model;
+ghost use Rattle.model.specs.Evaluate.{evalExpr};
 ghost use Rattle.decode.specs.View.{propositionOf};
 ghost use Rattle.termdag.specs.Store.{termsIn, Stored, roomOf};
 ghost use Rattle.memo.specs.Memo.{Past};
@@ -28,7 +28,7 @@ ghost use Rattle.program.specs.Read.{exprFor, actionFor};
 ghost use Rattle.evaluate.specs.Value.{bindingsIn};
 ghost use Rattle.evaluate.specs.Evaluation.{Sane, Checks};
 ghost use Rattle.pairs.specs.Marking.{markValues};
-ghost use Rattle.actions.specs.Acting.{Standing, markedIf, Yields, Acts};
+ghost use Rattle.actions.specs.Acting.{Standing, markedIf, Yields, Acts, Pushed};
 
 // What an action did: bound a name to a term, joined two terms, or neither.
 pub enum Effect {
@@ -56,7 +56,7 @@ fn mark_if(marking: bool, memo: &[u32], n: usize, marks: &mut [u32])
 }
 
 // The value of expression e, with marks for its pairs.
-fn yield_value(
+pub fn yield_value(
     kinds: &[u32],
     ends: &[u32],
     pool: &[u32],
@@ -76,7 +76,7 @@ fn yield_value(
 ) -> Checked
     requires { ⌜ Standing (now kinds) (now ends) (now pool) z (bindingsIn (now bound) (now pairs) (now globals)) (now skinds) (now sends) (now spool) fill (now memo) (now marks) ⌝ }
     requires { ⌜ e < z .expressions ⌝ }
-    ensures { λ r. ⌜ Yields (programFor (now (kinds .entry)) (now (ends .entry)) (now (pool .entry)) z) rule (bindingsIn (now (bound .entry)) (now (pairs .entry)) (now (globals .entry))) (exprFor (now (kinds .entry)) (now (ends .entry)) (now (pool .entry)) z e) marking (now (skinds .entry)) (now (sends .entry)) (now (spool .entry)) fill (now (marks .entry)) (now (skinds .exit)) (now (sends .exit)) (now (spool .exit)) r (now (memo .exit)) (now (marks .exit)) ⌝ }
+    ensures { λ r. ⌜ Yields (programFor (now (kinds .entry)) (now (ends .entry)) (now (pool .entry)) z) (bindingsIn (now (bound .entry)) (now (pairs .entry)) (now (globals .entry))) (evalExpr (roomOf (now (skinds .entry)) (now (spool .entry))) (programFor (now (kinds .entry)) (now (ends .entry)) (now (pool .entry)) z) rule (bindingsIn (now (bound .entry)) (now (pairs .entry)) (now (globals .entry))) (exprFor (now (kinds .entry)) (now (ends .entry)) (now (pool .entry)) z e) (termsIn (now (skinds .entry)) (now (sends .entry)) (now (spool .entry)) fill)) marking (now (skinds .entry)) (now (sends .entry)) (now (spool .entry)) fill (now (marks .entry)) (now (skinds .exit)) (now (sends .exit)) (now (spool .exit)) r (now (memo .exit)) (now (marks .exit)) ⌝ }
 {
     let r = evaluate(kinds, ends, pool, z, bound, pairs, globals, rule, false, skinds, sends, spool, fill, memo, e);
     if r.refusal.number != 0 {
@@ -215,5 +215,22 @@ pub fn process_action(
             effect: Effect::Nothing,
             fill,
         },
+    }
+}
+
+// Writes what an action bound before the bindings that stand in the table from `at` on; the place where they then start.
+pub fn push_binding(table: &mut [u32], at: usize, effect: Effect) -> usize
+    requires { ⌜ 2 ≤ at ⌝ }
+    requires { ⌜ at ≤ length (now table) ⌝ }
+    ensures { λ r. ⌜ Pushed (now (table .entry)) at effect (now (table .exit)) r ⌝ }
+{
+    match effect {
+        Effect::Bind(x, t) => {
+            table[at - 2] = x;
+            table[at - 1] = t;
+            at - 2
+        }
+        Effect::Union(_, _) => at,
+        Effect::Nothing => at,
     }
 }

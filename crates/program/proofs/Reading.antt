@@ -6,11 +6,12 @@ use Prim.Native.Nat.{ℕ, zero, suc, _+_, _≤_, _<_}
 use native.Mathlib.Omega.{arith}
 use native.Mathlib.Nat.{not-suc-le-zero, le-of-suc-le-suc}
 use lib.Dec.{eqb, leb, ltb, lit<}
-use lib.ListN.{length, getD, drop, length-take, length-drop}
+use lib.ListN.{length, getD, drop, length-take, length-drop, List·getD-map}
 use Rattle.model.specs.Cell.{Cell, noCell}
 use Rattle.model.specs.Layout.{tableList}
+use Rattle.model.specs.Program as program
 use Rattle.model.specs.Program.{variable, Expr, node, nil, equal, bare, bind, union, run}
-use Rattle.model.specs.Decode.{word, exprOf, readHead, readArguments, readFact, readAction, ruleFacts, ruleActions}
+use Rattle.model.specs.Decode.{word, exprOf, readHead, readArguments, readFact, readAction, ruleFacts, ruleActions, readRule, readProgram}
 use Rattle.model.specs.Load.{counts, below, headRefers, exprFits, exprRefers, setFits, actionFits, actionRefers, ruleFits, passed, referTests}
 use Rattle.model.proofs.Tests.{eq-of, lt-of, le-of, and-left, and-right, never}
 use Rattle.decode.specs.View.{cell, headOf, factOf, actionOf}
@@ -19,8 +20,8 @@ use Rattle.decode.specs.declared.Fact.{Fact as FactView}
 use Rattle.decode.specs.declared.Action.{Action as ActionView}
 use Rattle.load.specs.Held.{sizesIn, tablesFor, countsOf}
 use Rattle.load.specs.declared.sizes.Sizes.{Sizes}
-use Rattle.program.specs.Ready.{Ready}
-use Rattle.program.specs.Read.{HeadAt, ArgumentsAt, FactAt, ActionAt, RuleFactsAt, RuleActionsAt}
+use Rattle.program.specs.Ready.{Ready, ruleFor}
+use Rattle.program.specs.Read.{factFor, actionFor, HeadAt, ArgumentsAt, FactAt, ActionAt, RuleFactsAt, RuleActionsAt}
 use Rattle.program.proofs.Laws.{table-long, fits}
 
 -- a number of a list whose numbers lie below n
@@ -249,3 +250,13 @@ module _ {K E P : List ℕ} {z : Sizes} (R : Ready K E P z) where
           few = subst (λ (ys : List ℕ). length ys ≤ 64) (sym s) (rule-fits .2);
           within = below-at (z .actions) xs (ap (below (z .actions)) s ∙ and-right (below (z .facts) (ruleFacts (getD (tablesFor K E P z .rules) i noCell))) _ rule-refers);
         }
+
+-- rule r, from its cell
+pub rule-for : (K E P : List ℕ) (z : Sizes) (r : ℕ) → ruleFor K E P z r ≡ readRule (factFor K E P z) (actionFor K E P z) (getD (tablesFor K E P z .rules) r noCell)
+unfolding readProgram
+rule-for K E P z r = List·getD-map (readRule (factFor K E P z) (actionFor K E P z)) (tablesFor K E P z .rules) r noCell
+
+pub rule-name-read : (K E P : List ℕ) (z : Sizes) (r : ℕ) {us : List ℕ} {x : ℕ} → us ≡ getD (tablesFor K E P z .rules) r noCell .words
+    → ((fact : ℕ → program.Fact) (action : ℕ → program.Action) → x ≡ readRule fact action (cell 0 us) .name) → x ≡ ruleFor K E P z r .name
+rule-name-read K E P z r q h =
+    h (factFor K E P z) (actionFor K E P z) ∙ ap (λ (ws : List ℕ). getD ws 0 0) q ∙ ap (λ (t : program.Rule). t .name) (sym (rule-for K E P z r))

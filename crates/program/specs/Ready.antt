@@ -26,6 +26,14 @@ pub record Ready (K E P : List ℕ) (z : Sizes) : Type 0 where
 abbrev pub programFor : List ℕ → List ℕ → List ℕ → Sizes → Program
 programFor K E P z = readProgram (z .globals) (tablesFor K E P z)
 
+-- What a look-up past the last rule gives, where no place found leads.
+abbrev pub noRule : Rule
+noRule = record { name = 0; facts = []; actions = [] }
+
+-- Rule r of the job.
+abbrev pub ruleFor : List ℕ → List ℕ → List ℕ → Sizes → ℕ → Rule
+ruleFor K E P z r = getD (programFor K E P z .rules) r noRule
+
 -- What a look-up gives.
 abbrev pub optionOf : Looked → Option ℕ
 optionOf (Looked.Some x) = some x
@@ -40,9 +48,9 @@ pub record FindsCell (cs : List Cell) (n x : ℕ) (r : Found) : Type 0 where
   pub is : r ≡ firstNamed cs x
   pub within : (i : ℕ) → r ≡ Found.At i → i < n
 
--- The rule at a place; past the end, where no place found leads, one without facts.
+-- The rule at a place.
 abbrev pub ruleAt : List Rule → Found → Option Rule
-ruleAt rs (Found.At i) = some (getD rs i (record { name = 0; facts = []; actions = [] }))
+ruleAt rs (Found.At i) = some (getD rs i noRule)
 ruleAt rs Found.Nothing = none
 
 -- r is the place, below n, of the first rule of that name.

@@ -10,12 +10,13 @@ use decode::read_fact;
 use decode::read_head;
 use decode::rule_actions;
 use decode::rule_facts;
+use decode::rule_name;
 use load::sizes::Sizes;
 ghost use mathlib.Core.Path.{_≡_};
 ghost use Prim.Native.Nat.{_+_, _<_};
 ghost use Rattle.model.specs.Layout.{firstFact, firstAction};
 ghost use Rattle.load.specs.Held.{sizesIn, Limits};
-ghost use Rattle.program.specs.Ready.{Ready};
+ghost use Rattle.program.specs.Ready.{Ready, ruleFor};
 ghost use Rattle.program.specs.Read.{HeadAt, ArgumentsAt, FactAt, ActionAt, RuleFactsAt, RuleActionsAt};
 
 // The number of the first fact's cell.
@@ -78,6 +79,15 @@ pub fn action_at(kinds: &[u32], ends: &[u32], pool: &[u32], z: Sizes, i: usize) 
 {
     let k = first_action(z) + i;
     read_action(kinds[k], cell_words(kinds, ends, pool, z, k))
+}
+
+// The name of rule r.
+pub fn rule_name_at(kinds: &[u32], ends: &[u32], pool: &[u32], z: Sizes, r: usize) -> u32
+    requires { ⌜ Ready (now kinds) (now ends) (now pool) z ⌝ }
+    requires { ⌜ r < z .rules ⌝ }
+    ensures { λ x. ⌜ x ≡ ruleFor (now (kinds .entry)) (now (ends .entry)) (now (pool .entry)) z r .name ⌝ }
+{
+    rule_name(cell_words(kinds, ends, pool, z, first_rule(z) + r))
 }
 
 // The facts of rule r.

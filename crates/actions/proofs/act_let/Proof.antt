@@ -1,4 +1,5 @@
 use Rattle.actions.proofs.Acting.{acts-let}
+use Rattle.program.specs.Read.{exprFor}
 use borrow.Author.Needs.{needs}
 use Rattle.actions.proofs.act_let.Statement.{statement}
 use Rattle.actions.proofs.act_let.Tie as tie
@@ -32,7 +33,7 @@ same-length-5 c = search needs
 
 -- src/lib.rt:90:1
 returns : tie.Need-returns
-returns c = acts-let _ (c .before .before .before .before .before .before .before .before .before .before .before .before .yield-value .ensures)
+returns c = let a = c .before .before .before .before .before .before .before .before .before .before .before .before .before .before .before .before .before .before .before .before .before .before .before .before .before .before .before .before .before .args in acts-let (a .rule) (a .name) (exprFor (a .kinds .now) (a .ends .now) (a .pool .now) (a .z) (a .e)) (c .before .before .before .before .before .before .before .before .before .before .before .before .yield-value .ensures)
 
 pub act-let-spec : {M : Type 1} → statement M
 act-let-spec =

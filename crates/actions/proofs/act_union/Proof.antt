@@ -1,3 +1,4 @@
+use Rattle.program.specs.Read.{exprFor}
 use mathlib.Core.Path.{_≡_, _∙_}
 use Rattle.actions.proofs.Acting.{standing-after, union-stops, acts-union}
 use borrow.Author.Needs.{needs}
@@ -33,7 +34,7 @@ same-length-5 c = search needs
 
 -- src/lib.rt:177:9
 returns : tie.Need-returns
-returns c = union-stops (c .before .before .before .before .before .before .before .before .before .before .before .before .before .before .yield-value .ensures) (search needs)
+returns c = let a = c .before .before .before .before .before .before .before .before .before .before .before .before .before .before .before .before .before .before .before .before .before .before .before .before .before .before .before .before .before .before .before .args in union-stops (a .rule) (exprFor (a .kinds .now) (a .ends .now) (a .pool .now) (a .z) (a .left)) (exprFor (a .kinds .now) (a .ends .now) (a .pool .now) (a .z) (a .right)) (c .before .before .before .before .before .before .before .before .before .before .before .before .before .before .yield-value .ensures) (search needs)
 
 -- src/lib.rt:179:9
 yield-value-requires-2 : tie.Need-yield-value-requires-2
@@ -61,7 +62,7 @@ same-length-10 c = search needs
 
 -- src/lib.rt:149:1
 returns-2 : tie.Need-returns-2
-returns-2 c = acts-union (c .before .before .before .before .before .before .before .before .before .before .before .before .before .before .before .before .before .before .before .before .before .before .before .before .before .before .before .before .before .before .before .yield-value .ensures) (search needs) (c .before .before .before .before .before .before .before .before .before .before .before .before .yield-value2 .ensures)
+returns-2 c = let a = c .before .before .before .before .before .before .before .before .before .before .before .before .before .before .before .before .before .before .before .before .before .before .before .before .before .before .before .before .before .before .before .before .before .before .before .before .before .before .before .before .before .before .before .before .before .before .before .before .args in acts-union (a .rule) (exprFor (a .kinds .now) (a .ends .now) (a .pool .now) (a .z) (a .left)) (exprFor (a .kinds .now) (a .ends .now) (a .pool .now) (a .z) (a .right)) (c .before .before .before .before .before .before .before .before .before .before .before .before .before .before .before .before .before .before .before .before .before .before .before .before .before .before .before .before .before .before .before .yield-value .ensures) (search needs) (c .before .before .before .before .before .before .before .before .before .before .before .before .yield-value2 .ensures)
 
 pub act-union-spec : {M : Type 1} → statement M
 act-union-spec =

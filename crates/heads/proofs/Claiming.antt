@@ -1,0 +1,93 @@
+-- The pair that a head claims: what the marks and the unions say is whether it is among the pairs.
+use mathlib.Core.Path.{_≡_, refl, sym, ap, subst, subst⁻¹, _∙_}
+use mathlib.Core.Bool.{Bool, true, false}
+use mathlib.Core.List.{List, [], _∷_, map}
+use Prim.Native.Nat.{ℕ, _≤_}
+use native.Mathlib.Omega.{arith}
+use lib.Dec.{eqb, ltb}
+use borrow.Author.Tests.{eqb-true, eqb-false}
+use lib.ListN.{length, getD}
+use Rattle.model.specs.Cell.{noCell}
+use Rattle.model.specs.Term.{Term}
+use Rattle.model.specs.Program.{Proposition, Binding, Program, Action, Rule}
+use Rattle.model.specs.Decode.{ruleActions}
+use Rattle.model.specs.Check.{Outcome, Check, andThen, checkThat, Room}
+use Rattle.model.specs.Evaluate.{same}
+use Rattle.model.specs.Action.{ActionContext, startContext, processActions, among, checkRuleProducesEquality}
+use Rattle.model.proofs.Store.{Extends}
+use Rattle.cells.specs.declared.Fill.{Fill}
+use Rattle.termdag.specs.Store.{termsIn, Stored, roomOf}
+use Rattle.outcome.specs.Does.{outcomeOf, Does}
+use Rattle.outcome.specs.declared.Refusal.{Refusal}
+use Rattle.outcome.specs.declared.Checked.{Checked}
+use Rattle.outcome.proofs.Laws.{does-here, does-then, does-stop}
+use Rattle.marks.specs.Marks.{zeros, close}
+use Rattle.marks.proofs.Marking.{Marks, marks-cleared, marks-closed}
+use Rattle.marks.proofs.Laws.{terms-length}
+use Rattle.load.specs.Held.{tablesFor}
+use Rattle.load.specs.declared.sizes.Sizes.{Sizes}
+use Rattle.program.specs.Ready.{programFor, ruleFor}
+use Rattle.program.specs.Read.{actionFor}
+use Rattle.program.proofs.Reading.{rule-for}
+use Rattle.evaluate.specs.Evaluation.{Sane, Checks}
+use Rattle.heads.specs.declared.Headed.{Headed}
+use Rattle.heads.specs.Heading.{clearedIf, claimedBy, Heads, Produces}
+
+module _ (K E P : List ℕ) (z : Sizes) (r : ℕ) (σ : List Binding) (q : Proposition) where
+  abbrev prog : Program
+  prog = programFor K E P z
+
+  abbrev marking : Bool
+  marking = eqb (q .lhs) (q .rhs)
+
+  -- the check of the rule, by its name and its actions
+  abbrev checkOf : Room → ℕ → List Action → Check (Unit {0})
+  checkOf room name as′ s = andThen (processActions room prog name as′ (startContext σ) s) (λ c. checkThat (among q (c .pairs)) 31 (name ∷ q .lhs ∷ q .rhs ∷ []))
+
+  is-check : (room : Room) (s : List Term) {name : ℕ} {xs : List ℕ} → name ≡ ruleFor K E P z r .name → xs ≡ ruleActions (getD (tablesFor K E P z .rules) r noCell)
+      → checkOf room name (map (actionFor K E P z) xs) s ≡ checkRuleProducesEquality room prog (ruleFor K E P z r) σ q s
+  unfolding checkRuleProducesEquality
+  is-check room s {name} {xs} e f = λ i. checkOf room (e i) ((ap (map (actionFor K E P z)) f ∙ ap (λ (t : Rule). t .actions) (sym (rule-for K E P z r))) i) s
+
+  module _ {name : ℕ} {xs k e p : List ℕ} {f : Fill} {m k₁ e₁ p₁ : List ℕ} {h : Headed} {memo₁ m₁ : List ℕ} (nq : name ≡ ruleFor K E P z r .name) (xq : xs ≡ ruleActions (getD (tablesFor K E P z .rules) r noCell))
+      (H : Heads prog name (map (actionFor K E P z) xs) σ q marking k e p f m k₁ e₁ p₁ h memo₁ m₁) where
+    abbrev s₁ : List Term
+    s₁ = termsIn k₁ e₁ p₁ (h .fill)
+
+    pub produce-stops : {c : Checked} → (h .refusal .number ≡ 0 → ⊥) → c ≡ record { refusal = h .refusal; value = 0; fill = h .fill }
+        → Produces prog (ruleFor K E P z r) σ q k e p f k₁ e₁ p₁ c memo₁
+    produce-stops n d = subst⁻¹ (λ (x : Checked). Produces prog (ruleFor K E P z r) σ q k e p f k₁ e₁ p₁ x memo₁) d (record {
+      checks = record {
+        does = subst (Does k e p f k₁ e₁ p₁ (h .fill) (h .refusal) tt) (is-check (roomOf k p) (termsIn k e p f) nq xq) (does-stop tt (λ c. checkThat (among q (c .pairs)) 31 (name ∷ q .lhs ∷ q .rhs ∷ [])) (H .does) n);
+        past = λ u. absurd (n u);
+      };
+      grows = λ u. absurd (n u);
+      sane = λ u. absurd (n u);
+    })
+
+    module _ (n : h .refusal .number ≡ 0) (m₀ : List ℕ) (mq : m ≡ clearedIf marking m₀) (lm : length k₁ ≤ length m₁) where
+      claimed-is : (b : Bool) → eqb (q .lhs) (q .rhs) ≡ b → claimedBy b (h .found) (ltb 0 (getD (close s₁ (h .fill .cells) m₁) (q .lhs) 0)) ≡ among q (H .context .pairs)
+      claimed-is false u = sym (H .others n (eqb-false (q .lhs) (q .rhs) u))
+      claimed-is true u =
+          let i : q .lhs ≡ q .rhs = eqb-true (q .lhs) (q .rhs) u in
+          let c : m ≡ zeros (length m₀) = mq ∙ ap (λ (b : Bool). clearedIf b m₀) u in
+          let w = H .marks n u (marks-cleared (termsIn k e p f) m (length m₀) c) in
+          let l = terms-length k₁ e₁ p₁ (h .fill) in
+          let t = H .does .grown .stored .formed .kinds in
+          marks-closed (h .fill .cells) l (H .sane n .ordered) (omega arith) w refl (q .lhs)
+          ∙ ap (λ (y : ℕ). among (record { lhs = q .lhs; rhs = y }) (H .context .pairs)) i
+
+      pub produce-ends : {claimed : Bool} {c : Checked} → claimed ≡ claimedBy marking (h .found) (ltb 0 (getD (close s₁ (h .fill .cells) m₁) (q .lhs) 0))
+          → (c .fill ≡ h .fill) × ((s : List Term) → outcomeOf (c .refusal) tt s ≡ checkThat claimed 31 (name ∷ q .lhs ∷ q .rhs ∷ []) s)
+          → Produces prog (ruleFor K E P z r) σ q k e p f k₁ e₁ p₁ c memo₁
+      produce-ends {claimed} {c} cq d = record {
+        checks = record {
+          does = subst (Does k e p f k₁ e₁ p₁ (c .fill) (c .refusal) tt) (is-check (roomOf k p) (termsIn k e p f) nq xq)
+              (does-then (λ room x. checkThat (among q (x .pairs)) 31 (name ∷ q .lhs ∷ q .rhs ∷ [])) (H .does) n
+              (subst⁻¹ (λ (g : Fill). Does k₁ e₁ p₁ (h .fill) k₁ e₁ p₁ g (c .refusal) tt (checkThat (among q (H .context .pairs)) 31 (name ∷ q .lhs ∷ q .rhs ∷ []) s₁)) (d .0)
+              (does-here (H .does .grown .stored) (d .1 s₁ ∙ ap (λ (b : Bool). checkThat b 31 (name ∷ q .lhs ∷ q .rhs ∷ []) s₁) (cq ∙ claimed-is marking refl)))));
+          past = λ _. H .past n;
+        };
+        grows = λ _. subst⁻¹ (λ (g : Fill). Extends (termsIn k e p f) (termsIn k₁ e₁ p₁ g)) (d .0) (H .grows n);
+        sane = λ _. subst⁻¹ (λ (g : Fill). Sane prog σ (termsIn k₁ e₁ p₁ g)) (d .0) (H .sane n);
+      }

@@ -1,0 +1,3 @@
+pub mod Claiming
+pub mod Merging
+pub mod Heading

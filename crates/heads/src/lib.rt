@@ -1,0 +1,218 @@
+// Rule heads and merges, from proof_checker.rs: `check_rule_produces_equality` and `run_merge`. A claimed pair is looked for while the actions are evaluated.
+use actions::Effect;
+use actions::process_action;
+use actions::push_binding;
+use actions::yield_value;
+use cells::Fill;
+use decode::Merge;
+use decode::Name;
+use decode::Proposition;
+use load::sizes::Sizes;
+use outcome::Checked;
+use outcome::Refusal;
+use outcome::pass;
+use outcome::refuse1;
+use program::merge_of;
+use program::read::rule_actions_at;
+use program::read::rule_name_at;
+ghost use mathlib.Core.Path.{_≡_};
+ghost use mathlib.Core.List.{List, [], _∷_, map};
+ghost use Prim.Native.Nat.{ℕ, _≤_, _<_};
+ghost use lib.Dec.{ltb};
+ghost use lib.ListN.{length, getD};
+ghost use Rattle.model.specs.Term.{Term};
+ghost use Rattle.model.specs.Check.{checkThat};
+ghost use Rattle.model.specs.Action as model;
+ghost use Rattle.decode.specs.View.{propositionOf};
+ghost use Rattle.termdag.specs.Store.{termsIn, Stored, roomOf};
+ghost use Rattle.outcome.specs.Does.{outcomeOf};
+ghost use Rattle.marks.specs.Marks as closing;
+ghost use Rattle.program.specs.Ready.{Ready, programFor, ruleFor};
+ghost use Rattle.program.specs.Read.{actionFor};
+ghost use Rattle.evaluate.specs.Value.{bindingsIn};
+ghost use Rattle.actions.specs.Acting.{Standing, Yields, effectHas};
+ghost use Rattle.heads.specs.Heading.{clearedIf, claimedBy, Heads, Produces};
+
+// What a head's actions give: whether the claimed pair, if it is not reflexive, is among their pairs.
+pub struct Headed {
+    pub refusal: Refusal,
+    pub found: bool,
+    pub fill: Fill,
+}
+
+// The pair is one of a union's two.
+fn has_pair(effect: Effect, q: Proposition) -> bool
+    ensures { λ r. ⌜ r ≡ effectHas effect (propositionOf q) ⌝ }
+{
+    match effect {
+        Effect::Bind(_, _) => false,
+        Effect::Union(a, b) => ((q.lhs == a) & (q.rhs == b)) | ((q.lhs == b) & (q.rhs == a)),
+        Effect::Nothing => false,
+    }
+}
+
+// `process_actions` for a head.
+fn head_actions(
+    kinds: &[u32],
+    ends: &[u32],
+    pool: &[u32],
+    z: Sizes,
+    bound: &[u32],
+    pairs: &[u32],
+    globals: &[u32],
+    rule: u32,
+    skinds: &mut [u32],
+    sends: &mut [u32],
+    spool: &mut [u32],
+    fill: Fill,
+    memo: &mut [u32],
+    marking: bool,
+    marks: &mut [u32],
+    actions: &[u32],
+    q: Proposition,
+) -> Headed
+    requires { ⌜ Standing (now kinds) (now ends) (now pool) z (bindingsIn (now bound) (now pairs) (now globals)) (now skinds) (now sends) (now spool) fill (now memo) (now marks) ⌝ }
+    requires { ⌜ length (now bound) ≤ 32 ⌝ }
+    requires { ⌜ length (now actions) ≤ 64 ⌝ }
+    requires { ⌜ ((i : ℕ) → i < length (now actions) → getD (now actions) i 0 < z .actions) ⌝ }
+    ensures { λ r. ⌜ Heads (programFor (now (kinds .entry)) (now (ends .entry)) (now (pool .entry)) z) rule (map (actionFor (now (kinds .entry)) (now (ends .entry)) (now (pool .entry)) z) (now (actions .entry))) (bindingsIn (now (bound .entry)) (now (pairs .entry)) (now (globals .entry))) (propositionOf q) marking (now (skinds .entry)) (now (sends .entry)) (now (spool .entry)) fill (now (marks .entry)) (now (skinds .exit)) (now (sends .exit)) (now (spool .exit)) r (now (memo .exit)) (now (marks .exit)) ⌝ }
+{
+    let mut table = [0u32; 160];
+    let mut at = 160 - bound.len();
+    cells::copy(&mut table, at, bound);
+    let mut have = fill;
+    let mut found = false;
+    let mut i = 0;
+    while i < actions.len() {
+        let r = process_action(kinds, ends, pool, z, &table[at..], pairs, globals, rule, skinds, sends, spool, have, memo, marking, marks, actions[i]);
+        have = r.fill;
+        if r.refusal.number != 0 {
+            let refusal = r.refusal;
+            return Headed { refusal, found: false, fill: have };
+        }
+        let effect = r.effect;
+        found = found | has_pair(effect, q);
+        at = push_binding(&mut table, at, effect);
+        i += 1;
+    }
+    Headed {
+        refusal: Refusal { number: 0, count: 0, fields: [0; 6] },
+        found,
+        fill: have,
+    }
+}
+
+// Clears the marks, if they are used.
+fn clear_if(marking: bool, marks: &mut [u32])
+    ensures { λ _. ⌜ now (marks .exit) ≡ clearedIf marking (now (marks .entry)) ⌝ }
+{
+    if !marking {
+        return;
+    }
+    marks::clear(marks);
+}
+
+// A reflexive pair is among the pairs that the marks stand for: they are closed first.
+fn is_covered(kinds: &[u32], ends: &[u32], pool: &[u32], fill: Fill, marks: &mut [u32], t: u32) -> bool
+    requires { ⌜ Stored (now kinds) (now ends) (now pool) fill ⌝ }
+    ensures { λ r. ⌜ r ≡ ltb 0 (getD (closing.close (termsIn (now (kinds .entry)) (now (ends .entry)) (now (pool .entry)) fill) (fill .cells) (now (marks .entry))) t 0) ⌝ }
+{
+    marks::close(kinds, ends, pool, fill, marks);
+    marks::is_marked(marks, t)
+}
+
+// The claimed pair is among the pairs: by the marks where it is reflexive, else by the unions.
+fn is_claimed(kinds: &[u32], ends: &[u32], pool: &[u32], fill: Fill, marking: bool, marks: &mut [u32], found: bool, t: u32) -> bool
+    requires { ⌜ Stored (now kinds) (now ends) (now pool) fill ⌝ }
+    ensures { λ r. ⌜ r ≡ claimedBy marking found (ltb 0 (getD (closing.close (termsIn (now (kinds .entry)) (now (ends .entry)) (now (pool .entry)) fill) (fill .cells) (now (marks .entry))) t 0)) ⌝ }
+{
+    if !marking {
+        return found;
+    }
+    is_covered(kinds, ends, pool, fill, marks, t)
+}
+
+// 31, where the claimed pair is not among the pairs.
+fn produced(claimed: bool, rule: u32, q: Proposition, fill: Fill) -> Checked
+    ensures { λ r. ⌜ r .fill ≡ fill ⌝ }
+    ensures { λ r. ⌜ ((s : List Term) → outcomeOf (r .refusal) tt s ≡ checkThat claimed 31 (rule ∷ q .lhs ∷ q .rhs ∷ []) s) ⌝ }
+{
+    if claimed {
+        return pass(0, fill);
+    }
+    Checked {
+        refusal: Refusal {
+            number: 31,
+            count: 3,
+            fields: [rule, q.lhs, q.rhs, 0, 0, 0],
+        },
+        value: 0,
+        fill,
+    }
+}
+
+// `check_rule_produces_equality` for rule r.
+pub fn check_rule_produces_equality(
+    kinds: &[u32],
+    ends: &[u32],
+    pool: &[u32],
+    z: Sizes,
+    bound: &[u32],
+    pairs: &[u32],
+    globals: &[u32],
+    skinds: &mut [u32],
+    sends: &mut [u32],
+    spool: &mut [u32],
+    fill: Fill,
+    memo: &mut [u32],
+    marks: &mut [u32],
+    r: usize,
+    q: Proposition,
+) -> Checked
+    requires { ⌜ Standing (now kinds) (now ends) (now pool) z (bindingsIn (now bound) (now pairs) (now globals)) (now skinds) (now sends) (now spool) fill (now memo) (now marks) ⌝ }
+    requires { ⌜ length (now bound) ≤ 32 ⌝ }
+    requires { ⌜ r < z .rules ⌝ }
+    ensures { λ c. ⌜ Produces (programFor (now (kinds .entry)) (now (ends .entry)) (now (pool .entry)) z) (ruleFor (now (kinds .entry)) (now (ends .entry)) (now (pool .entry)) z r) (bindingsIn (now (bound .entry)) (now (pairs .entry)) (now (globals .entry))) (propositionOf q) (now (skinds .entry)) (now (sends .entry)) (now (spool .entry)) fill (now (skinds .exit)) (now (sends .exit)) (now (spool .exit)) c (now (memo .exit)) ⌝ }
+{
+    let marking = q.lhs == q.rhs;
+    clear_if(marking, marks);
+    let rule = rule_name_at(kinds, ends, pool, z, r);
+    let actions = rule_actions_at(kinds, ends, pool, z, r);
+    let h = head_actions(kinds, ends, pool, z, bound, pairs, globals, rule, skinds, sends, spool, fill, memo, marking, marks, actions, q);
+    let have = h.fill;
+    if h.refusal.number != 0 {
+        let refusal = h.refusal;
+        return Checked { refusal, value: 0, fill: have };
+    }
+    let claimed = is_claimed(skinds, sends, spool, have, marking, marks, h.found, q.lhs);
+    produced(claimed, rule, q, have)
+}
+
+// `run_merge`: with `old` and `new` alone.
+pub fn run_merge(
+    kinds: &[u32],
+    ends: &[u32],
+    pool: &[u32],
+    z: Sizes,
+    skinds: &mut [u32],
+    sends: &mut [u32],
+    spool: &mut [u32],
+    fill: Fill,
+    memo: &mut [u32],
+    marking: bool,
+    marks: &mut [u32],
+    function: u32,
+    old: u32,
+    new: u32,
+) -> Checked
+    requires { ⌜ Standing (now kinds) (now ends) (now pool) z (model.mergeBindings old new) (now skinds) (now sends) (now spool) fill (now memo) (now marks) ⌝ }
+    ensures { λ r. ⌜ Yields (programFor (now (kinds .entry)) (now (ends .entry)) (now (pool .entry)) z) (model.mergeBindings old new) (model.runMerge (roomOf (now (skinds .entry)) (now (spool .entry))) (programFor (now (kinds .entry)) (now (ends .entry)) (now (pool .entry)) z) function old new (termsIn (now (skinds .entry)) (now (sends .entry)) (now (spool .entry)) fill)) marking (now (skinds .entry)) (now (sends .entry)) (now (spool .entry)) fill (now (marks .entry)) (now (skinds .exit)) (now (sends .exit)) (now (spool .exit)) r (now (memo .exit)) (now (marks .exit)) ⌝ }
+{
+    let merge = merge_of(kinds, ends, pool, z, function);
+    let bound = [Name::OLD.number, old, Name::NEW.number, new];
+    let none = [0u32; 0];
+    match merge {
+        Merge::Nothing => refuse1(43, function, fill),
+        Merge::Expr(e) => yield_value(kinds, ends, pool, z, &bound, &none, &none, Name::MERGE_FUNCTION.number, skinds, sends, spool, fill, memo, marking, marks, e),
+    }
+}
