@@ -78,7 +78,23 @@ pub fn yield_value(
     requires { ⌜ e < z .expressions ⌝ }
     ensures { λ r. ⌜ Yields (programFor (now (kinds .entry)) (now (ends .entry)) (now (pool .entry)) z) (bindingsIn (now (bound .entry)) (now (pairs .entry)) (now (globals .entry))) (evalExpr (roomOf (now (skinds .entry)) (now (spool .entry))) (programFor (now (kinds .entry)) (now (ends .entry)) (now (pool .entry)) z) rule (bindingsIn (now (bound .entry)) (now (pairs .entry)) (now (globals .entry))) (exprFor (now (kinds .entry)) (now (ends .entry)) (now (pool .entry)) z e) (termsIn (now (skinds .entry)) (now (sends .entry)) (now (spool .entry)) fill)) marking (now (skinds .entry)) (now (sends .entry)) (now (spool .entry)) fill (now (marks .entry)) (now (skinds .exit)) (now (sends .exit)) (now (spool .exit)) r (now (memo .exit)) (now (marks .exit)) ⌝ }
 {
-    let r = evaluate(kinds, ends, pool, z, bound, pairs, globals, rule, false, skinds, sends, spool, fill, memo, e);
+    let r = evaluate(
+        kinds,
+        ends,
+        pool,
+        z,
+        bound,
+        pairs,
+        globals,
+        rule,
+        false,
+        skinds,
+        sends,
+        spool,
+        fill,
+        memo,
+        e,
+    );
     if r.refusal.number != 0 {
         return r;
     }
@@ -110,10 +126,31 @@ fn act_let(
     requires { ⌜ e < z .expressions ⌝ }
     ensures { λ r. ⌜ Acts (programFor (now (kinds .entry)) (now (ends .entry)) (now (pool .entry)) z) rule (bind name (exprFor (now (kinds .entry)) (now (ends .entry)) (now (pool .entry)) z e)) (bindingsIn (now (bound .entry)) (now (pairs .entry)) (now (globals .entry))) marking (now (skinds .entry)) (now (sends .entry)) (now (spool .entry)) fill (now (marks .entry)) (now (skinds .exit)) (now (sends .exit)) (now (spool .exit)) r (now (memo .exit)) (now (marks .exit)) ⌝ }
 {
-    let r = yield_value(kinds, ends, pool, z, bound, pairs, globals, rule, skinds, sends, spool, fill, memo, marking, marks, e);
+    let r = yield_value(
+        kinds,
+        ends,
+        pool,
+        z,
+        bound,
+        pairs,
+        globals,
+        rule,
+        skinds,
+        sends,
+        spool,
+        fill,
+        memo,
+        marking,
+        marks,
+        e,
+    );
     let refusal = r.refusal;
     let fill = r.fill;
-    Acted { refusal, effect: Effect::Bind(name, r.value), fill }
+    Acted {
+        refusal,
+        effect: Effect::Bind(name, r.value),
+        fill,
+    }
 }
 
 // A set or an expression.
@@ -139,10 +176,31 @@ fn act_run(
     requires { ⌜ e < z .expressions ⌝ }
     ensures { λ r. ⌜ Acts (programFor (now (kinds .entry)) (now (ends .entry)) (now (pool .entry)) z) rule (run (exprFor (now (kinds .entry)) (now (ends .entry)) (now (pool .entry)) z e)) (bindingsIn (now (bound .entry)) (now (pairs .entry)) (now (globals .entry))) marking (now (skinds .entry)) (now (sends .entry)) (now (spool .entry)) fill (now (marks .entry)) (now (skinds .exit)) (now (sends .exit)) (now (spool .exit)) r (now (memo .exit)) (now (marks .exit)) ⌝ }
 {
-    let r = yield_value(kinds, ends, pool, z, bound, pairs, globals, rule, skinds, sends, spool, fill, memo, marking, marks, e);
+    let r = yield_value(
+        kinds,
+        ends,
+        pool,
+        z,
+        bound,
+        pairs,
+        globals,
+        rule,
+        skinds,
+        sends,
+        spool,
+        fill,
+        memo,
+        marking,
+        marks,
+        e,
+    );
     let refusal = r.refusal;
     let fill = r.fill;
-    Acted { refusal, effect: Effect::Nothing, fill }
+    Acted {
+        refusal,
+        effect: Effect::Nothing,
+        fill,
+    }
 }
 
 // A union.
@@ -170,16 +228,58 @@ fn act_union(
     requires { ⌜ right < z .expressions ⌝ }
     ensures { λ r. ⌜ Acts (programFor (now (kinds .entry)) (now (ends .entry)) (now (pool .entry)) z) rule (union (exprFor (now (kinds .entry)) (now (ends .entry)) (now (pool .entry)) z left) (exprFor (now (kinds .entry)) (now (ends .entry)) (now (pool .entry)) z right)) (bindingsIn (now (bound .entry)) (now (pairs .entry)) (now (globals .entry))) marking (now (skinds .entry)) (now (sends .entry)) (now (spool .entry)) fill (now (marks .entry)) (now (skinds .exit)) (now (sends .exit)) (now (spool .exit)) r (now (memo .exit)) (now (marks .exit)) ⌝ }
 {
-    let a = yield_value(kinds, ends, pool, z, bound, pairs, globals, rule, skinds, sends, spool, fill, memo, marking, marks, left);
+    let a = yield_value(
+        kinds,
+        ends,
+        pool,
+        z,
+        bound,
+        pairs,
+        globals,
+        rule,
+        skinds,
+        sends,
+        spool,
+        fill,
+        memo,
+        marking,
+        marks,
+        left,
+    );
     let have = a.fill;
     if a.refusal.number != 0 {
         let refusal = a.refusal;
-        return Acted { refusal, effect: Effect::Nothing, fill: have };
+        return Acted {
+            refusal,
+            effect: Effect::Nothing,
+            fill: have,
+        };
     }
-    let b = yield_value(kinds, ends, pool, z, bound, pairs, globals, rule, skinds, sends, spool, have, memo, marking, marks, right);
+    let b = yield_value(
+        kinds,
+        ends,
+        pool,
+        z,
+        bound,
+        pairs,
+        globals,
+        rule,
+        skinds,
+        sends,
+        spool,
+        have,
+        memo,
+        marking,
+        marks,
+        right,
+    );
     let refusal = b.refusal;
     let fill = b.fill;
-    Acted { refusal, effect: Effect::Union(a.value, b.value), fill }
+    Acted {
+        refusal,
+        effect: Effect::Union(a.value, b.value),
+        fill,
+    }
 }
 
 // One action.
@@ -207,11 +307,68 @@ pub fn process_action(
 {
     let action = action_at(kinds, ends, pool, z, wide(i));
     match action {
-        Action::Let(x, e) => act_let(kinds, ends, pool, z, bound, pairs, globals, rule, skinds, sends, spool, fill, memo, marking, marks, x, e),
-        Action::Union(l, r) => act_union(kinds, ends, pool, z, bound, pairs, globals, rule, skinds, sends, spool, fill, memo, marking, marks, l, r),
-        Action::Run(e) => act_run(kinds, ends, pool, z, bound, pairs, globals, rule, skinds, sends, spool, fill, memo, marking, marks, e),
+        Action::Let(x, e) => act_let(
+            kinds,
+            ends,
+            pool,
+            z,
+            bound,
+            pairs,
+            globals,
+            rule,
+            skinds,
+            sends,
+            spool,
+            fill,
+            memo,
+            marking,
+            marks,
+            x,
+            e,
+        ),
+        Action::Union(l, r) => act_union(
+            kinds,
+            ends,
+            pool,
+            z,
+            bound,
+            pairs,
+            globals,
+            rule,
+            skinds,
+            sends,
+            spool,
+            fill,
+            memo,
+            marking,
+            marks,
+            l,
+            r,
+        ),
+        Action::Run(e) => act_run(
+            kinds,
+            ends,
+            pool,
+            z,
+            bound,
+            pairs,
+            globals,
+            rule,
+            skinds,
+            sends,
+            spool,
+            fill,
+            memo,
+            marking,
+            marks,
+            e,
+        ),
         Action::Idle => Acted {
-            refusal: Refusal { number: 0, count: 0, fields: [0; 6] },
+            refusal: Refusal {
+                number: 0,
+                count: 0,
+                fields: [0; 6],
+            },
             effect: Effect::Nothing,
             fill,
         },

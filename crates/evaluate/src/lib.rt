@@ -109,7 +109,14 @@ fn validated(
 }
 
 // A variable's value.
-pub fn variable(bound: &[u32], pairs: &[u32], globals: &[u32], rule: u32, name: u32, fill: Fill) -> Checked
+pub fn variable(
+    bound: &[u32],
+    pairs: &[u32],
+    globals: &[u32],
+    rule: u32,
+    name: u32,
+    fill: Fill,
+) -> Checked
     ensures { λ r. ⌜ r .fill ≡ fill ⌝ }
     ensures { λ r. ⌜ ((s : List Term) → outcomeOf (r .refusal) (r .value) s ≡ orRefuse (lookup (bindingsIn (now (bound .entry)) (now (pairs .entry)) (now (globals .entry))) name) 45 (rule ∷ name ∷ []) s) ⌝ }
 {
@@ -216,7 +223,23 @@ fn eval(
     let mut have = fill;
     let mut i = 0;
     while i < count {
-        let r = eval(kinds, ends, pool, z, bound, pairs, globals, rule, fact, skinds, sends, spool, have, memo, args[i]);
+        let r = eval(
+            kinds,
+            ends,
+            pool,
+            z,
+            bound,
+            pairs,
+            globals,
+            rule,
+            fact,
+            skinds,
+            sends,
+            spool,
+            have,
+            memo,
+            args[i],
+        );
         if r.refusal.number != 0 {
             return r;
         }
@@ -225,7 +248,23 @@ fn eval(
         i += 1;
     }
     let head = head_at(kinds, ends, pool, z, at);
-    let r = head_value(kinds, ends, pool, z, bound, pairs, globals, rule, fact, skinds, sends, spool, have, head, &vals[..count]);
+    let r = head_value(
+        kinds,
+        ends,
+        pool,
+        z,
+        bound,
+        pairs,
+        globals,
+        rule,
+        fact,
+        skinds,
+        sends,
+        spool,
+        have,
+        head,
+        &vals[..count],
+    );
     memo::note(memo, at, r.value);
     r
 }
@@ -256,5 +295,21 @@ pub fn evaluate(
     ensures { λ r. ⌜ EvaluatesRoot (argumentsFor (now (kinds .entry)) (now (ends .entry)) (now (pool .entry)) z) (valueFor fact (now (kinds .entry)) (now (ends .entry)) (now (pool .entry)) z rule (bindingsIn (now (bound .entry)) (now (pairs .entry)) (now (globals .entry)))) (z .expressions) e (now (skinds .entry)) (now (sends .entry)) (now (spool .entry)) fill (now (skinds .exit)) (now (sends .exit)) (now (spool .exit)) r (now (memo .exit)) ⌝ }
 {
     memo::new_round(memo);
-    eval(kinds, ends, pool, z, bound, pairs, globals, rule, fact, skinds, sends, spool, fill, memo, e)
+    eval(
+        kinds,
+        ends,
+        pool,
+        z,
+        bound,
+        pairs,
+        globals,
+        rule,
+        fact,
+        skinds,
+        sends,
+        spool,
+        fill,
+        memo,
+        e,
+    )
 }

@@ -84,11 +84,32 @@ fn head_actions(
     let mut found = false;
     let mut i = 0;
     while i < actions.len() {
-        let r = process_action(kinds, ends, pool, z, &table[at..], pairs, globals, rule, skinds, sends, spool, have, memo, marking, marks, actions[i]);
+        let r = process_action(
+            kinds,
+            ends,
+            pool,
+            z,
+            &table[at..],
+            pairs,
+            globals,
+            rule,
+            skinds,
+            sends,
+            spool,
+            have,
+            memo,
+            marking,
+            marks,
+            actions[i],
+        );
         have = r.fill;
         if r.refusal.number != 0 {
             let refusal = r.refusal;
-            return Headed { refusal, found: false, fill: have };
+            return Headed {
+                refusal,
+                found: false,
+                fill: have,
+            };
         }
         let effect = r.effect;
         found = found | has_pair(effect, q);
@@ -96,7 +117,11 @@ fn head_actions(
         i += 1;
     }
     Headed {
-        refusal: Refusal { number: 0, count: 0, fields: [0; 6] },
+        refusal: Refusal {
+            number: 0,
+            count: 0,
+            fields: [0; 6],
+        },
         found,
         fill: have,
     }
@@ -113,7 +138,14 @@ fn clear_if(marking: bool, marks: &mut [u32])
 }
 
 // A reflexive pair is among the pairs that the marks stand for: they are closed first.
-fn is_covered(kinds: &[u32], ends: &[u32], pool: &[u32], fill: Fill, marks: &mut [u32], t: u32) -> bool
+fn is_covered(
+    kinds: &[u32],
+    ends: &[u32],
+    pool: &[u32],
+    fill: Fill,
+    marks: &mut [u32],
+    t: u32,
+) -> bool
     requires { ⌜ Stored (now kinds) (now ends) (now pool) fill ⌝ }
     ensures { λ r. ⌜ r ≡ ltb 0 (getD (closing.close (termsIn (now (kinds .entry)) (now (ends .entry)) (now (pool .entry)) fill) (fill .cells) (now (marks .entry))) t 0) ⌝ }
 {
@@ -122,7 +154,16 @@ fn is_covered(kinds: &[u32], ends: &[u32], pool: &[u32], fill: Fill, marks: &mut
 }
 
 // The claimed pair is among the pairs: by the marks where it is reflexive, else by the unions.
-fn is_claimed(kinds: &[u32], ends: &[u32], pool: &[u32], fill: Fill, marking: bool, marks: &mut [u32], found: bool, t: u32) -> bool
+fn is_claimed(
+    kinds: &[u32],
+    ends: &[u32],
+    pool: &[u32],
+    fill: Fill,
+    marking: bool,
+    marks: &mut [u32],
+    found: bool,
+    t: u32,
+) -> bool
     requires { ⌜ Stored (now kinds) (now ends) (now pool) fill ⌝ }
     ensures { λ r. ⌜ r ≡ claimedBy marking found (ltb 0 (getD (closing.close (termsIn (now (kinds .entry)) (now (ends .entry)) (now (pool .entry)) fill) (fill .cells) (now (marks .entry))) t 0)) ⌝ }
 {
@@ -178,11 +219,33 @@ pub fn check_rule_produces_equality(
     clear_if(marking, marks);
     let rule = rule_name_at(kinds, ends, pool, z, r);
     let actions = rule_actions_at(kinds, ends, pool, z, r);
-    let h = head_actions(kinds, ends, pool, z, bound, pairs, globals, rule, skinds, sends, spool, fill, memo, marking, marks, actions, q);
+    let h = head_actions(
+        kinds,
+        ends,
+        pool,
+        z,
+        bound,
+        pairs,
+        globals,
+        rule,
+        skinds,
+        sends,
+        spool,
+        fill,
+        memo,
+        marking,
+        marks,
+        actions,
+        q,
+    );
     let have = h.fill;
     if h.refusal.number != 0 {
         let refusal = h.refusal;
-        return Checked { refusal, value: 0, fill: have };
+        return Checked {
+            refusal,
+            value: 0,
+            fill: have,
+        };
     }
     let claimed = is_claimed(skinds, sends, spool, have, marking, marks, h.found, q.lhs);
     produced(claimed, rule, q, have)
@@ -213,6 +276,23 @@ pub fn run_merge(
     let none = [0u32; 0];
     match merge {
         Merge::Nothing => refuse1(43, function, fill),
-        Merge::Expr(e) => yield_value(kinds, ends, pool, z, &bound, &none, &none, Name::MERGE_FUNCTION.number, skinds, sends, spool, fill, memo, marking, marks, e),
+        Merge::Expr(e) => yield_value(
+            kinds,
+            ends,
+            pool,
+            z,
+            &bound,
+            &none,
+            &none,
+            Name::MERGE_FUNCTION.number,
+            skinds,
+            sends,
+            spool,
+            fill,
+            memo,
+            marking,
+            marks,
+            e,
+        ),
     }
 }

@@ -84,7 +84,13 @@ fn added(a: Added) -> Checked
 }
 
 // `lit`: the number of a literal, added if there is none equal.
-pub fn add_lit(kinds: &mut [u32], ends: &mut [u32], pool: &mut [u32], fill: Fill, l: Literal) -> Checked
+pub fn add_lit(
+    kinds: &mut [u32],
+    ends: &mut [u32],
+    pool: &mut [u32],
+    fill: Fill,
+    l: Literal,
+) -> Checked
     requires { ⌜ Stored (now kinds) (now ends) (now pool) fill ⌝ }
     ensures { λ r. ⌜ Does (now (kinds .entry)) (now (ends .entry)) (now (pool .entry)) fill (now (kinds .exit)) (now (ends .exit)) (now (pool .exit)) (r .fill) (r .refusal) (r .value) (addNode (roomOf (now (kinds .entry)) (now (pool .entry))) (lit (literalOf l)) (termsIn (now (kinds .entry)) (now (ends .entry)) (now (pool .entry)) fill)) ⌝ }
 {

@@ -38,10 +38,10 @@ loop-less c = omega arith
 -- src/lib.rt:39:5
 loop-again : tie.Need-loop-again Inv-loop μ-loop
 loop-again c = let l = c .before .loop in let d = c .before .before .args .memo .now in (
-      omega arith,
-      ap (λ (x : List ℕ). set x (l .i) 0) (l .inv .1) ∙ fill-more (l .i) 0 d (omega arith),
-      simp length-set (l .inv .2),
-    )
+  omega arith,
+  ap (λ (x : List ℕ). set x (l .i) 0) (l .inv .1) ∙ fill-more (l .i) 0 d (omega arith),
+  simp length-set (l .inv .2),
+)
 
 -- src/lib.rt:34:1
 same-length : tie.Need-same-length Inv-loop μ-loop
