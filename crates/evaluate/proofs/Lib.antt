@@ -1,4 +1,5 @@
 pub mod Checking
+pub mod Collecting
 pub mod Heads
 pub mod Settling
 pub mod Turns

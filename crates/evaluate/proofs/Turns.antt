@@ -2,29 +2,27 @@
 use mathlib.Core.Path.{_≡_, refl, sym, ap, subst, subst⁻¹, _∙_}
 use mathlib.Core.Logic.{_⊎_, inl, inr}
 use mathlib.Core.Bool.{Bool, true, false, true≢false}
-use mathlib.Core.List.{List, [], _∷_, _++_, append-assoc, append-nil, List·Memᴰ, List·Memᴰ·head, List·Memᴰ·tail, List·Memᴰ·not-nil, List·Memᴰ·cases-cons}
+use mathlib.Core.List.{List, [], _∷_, List·Memᴰ, List·Memᴰ·head, List·Memᴰ·tail, List·Memᴰ·not-nil, List·Memᴰ·cases-cons}
 use Prim.Native.Nat.{ℕ, zero, suc, _+_, _<_, _≤_}
 use native.Mathlib.Nat.{not-suc-le-zero, le-of-suc-le-suc}
-use native.Mathlib.Numerals.{add-one}
 use native.Mathlib.Omega.{arith}
 use lib.Dec.{eqb}
 use borrow.Author.Tests.{eqb-true, eqb-false}
-use lib.ListN.{length, getD, set, take, drop, length-set, drop-of-length-le}
-use lib.Seq.{drop-cons, take-suc-set}
+use lib.ListN.{length, getD, set, take, length-set}
 use Rattle.model.specs.Term.{Term}
-use Rattle.model.specs.Program.{Head, Expr, node, Exprs, nil, cons, Binding, Program}
+use Rattle.model.specs.Program.{Head, Expr, node, Binding, Program}
 use Rattle.model.specs.Decode.{argumentsBy}
-use Rattle.model.specs.Check.{Outcome, ok, refused, Check, andThen, pure, Room}
+use Rattle.model.specs.Check.{Outcome, ok, refused, Check, andThen, Room}
 use Rattle.model.proofs.Post.{post-result}
 use Rattle.model.proofs.Store.{Extends, extends-same}
 use Rattle.cells.specs.declared.Fill.{Fill}
 use Rattle.termdag.specs.Store.{termsIn, Stored, roomOf}
 use Rattle.memo.specs.Memo.{valueAt, isNoted, noteAt, Started}
 use Rattle.memo.proofs.Laws.{note-length, note-other, note-value-other, note-here, note-value, note-past}
-use Rattle.outcome.specs.Does.{passed, refusalOf, outcomeOf, Grown, Does}
+use Rattle.outcome.specs.Does.{passed, Does}
 use Rattle.outcome.specs.declared.Refusal.{Refusal}
 use Rattle.outcome.specs.declared.Checked.{Checked}
-use Rattle.outcome.proofs.Laws.{ok-of, refused-of, grown-same, grown-then, room-same, does-here}
+use Rattle.outcome.proofs.Laws.{ok-of, room-same, does-here}
 use Rattle.model.proofs.Fuel.{expr-node}
 use Rattle.model.proofs.Valid.{expressions-lower}
 use Rattle.load.specs.Held.{sizesIn, tablesFor}
@@ -33,6 +31,7 @@ use Rattle.program.specs.Ready.{Ready, programFor}
 use Rattle.program.specs.Read.{exprFor, argumentsFor, headFor}
 use Rattle.evaluate.specs.Value.{evalFor, valueFor, headTerm, evalTerm, evalTerms, Reaches, here, down}
 use Rattle.evaluate.specs.Evaluation.{Memo, Noted, Evaluates, EvaluatesRoot}
+use Rattle.evaluate.proofs.Collecting.{each, each-is, rest, Run, run-start, run-stop, run-turn, run-done}
 use Rattle.evaluate.proofs.Settling.{value-term, head-settled, term-again}
 
 -- members by place
@@ -49,39 +48,21 @@ place-of (x ∷ xs) a m = go (List·Memᴰ·cases-cons m) (place-of xs a)
     go (inl e) r = (0, omega arith, sym e)
     go (inr m) r = let p = r m in (suc (p .0), let q = p .1 in omega arith, p .2)
 
--- values that are collected one by one
-module _ {B : Type 0} where
-  collect : (o : Outcome (List ℕ)) (t : ℕ) (h k : List ℕ → Check B) → ((ts : List ℕ) (s : List Term) → h (t ∷ ts) s ≡ k ts s)
-      → andThen (andThen o (λ ts. pure (t ∷ ts))) h ≡ andThen o k
-  collect (ok ts s) t h k e = e ts s
-  collect (refused r s) t h k e = refl
-
 module _ (fact : Bool) (prog : Program) (rule : ℕ) (σ : List Binding) (n : ℕ) (args : ℕ → List ℕ) (head : ℕ → Head) (expr : ℕ → Expr) where
   abbrev eval : Room → ℕ → Check ℕ
   eval room e = evalTerm fact room prog rule σ (expr e)
 
-  -- what is left to do for e after the values vs, with the arguments xs to come
-  abbrev rest : Room → ℕ → List ℕ → List ℕ → Check ℕ
-  rest room e vs xs s = andThen (evalTerms fact room prog rule σ (argumentsBy expr xs) s) (λ ts. headTerm fact room prog rule σ (head e) (vs ++ ts))
+  -- what is done with the values of e's arguments
+  abbrev value : ℕ → Room → List ℕ → Check ℕ
+  value e room = headTerm fact room prog rule σ (head e)
 
-  rest-all : (room : Room) (e : ℕ) (s : List Term) → expr e ≡ node e (head e) (argumentsBy expr (args e)) → rest room e [] (args e) s ≡ eval room e s
+  terms-each : (room : Room) (xs : List ℕ) (s : List Term) → each (eval room) xs s ≡ evalTerms fact room prog rule σ (argumentsBy expr xs) s
+  unfolding evalTerms
+  terms-each room xs s = each-is (eval room) (λ ys. evalTerms fact room prog rule σ (argumentsBy expr ys)) (λ u. refl) (λ y ys u. refl) xs s
+
+  rest-all : (room : Room) (e : ℕ) (s : List Term) → expr e ≡ node e (head e) (argumentsBy expr (args e)) → rest (eval room) (value e room) [] (args e) s ≡ eval room e s
   unfolding evalTerm
-  rest-all room e s q = ap (λ (x : Expr). evalTerm fact room prog rule σ x s) (sym q)
-
-  rest-none : (room : Room) (e : ℕ) (vs : List ℕ) (s : List Term) → rest room e vs [] s ≡ headTerm fact room prog rule σ (head e) vs s
-  unfolding evalTerms
-  rest-none room e vs s = ap (λ (ts : List ℕ). headTerm fact room prog rule σ (head e) ts s) (append-nil vs)
-
-  rest-value : (room : Room) (e a t : ℕ) (vs xs : List ℕ) (s s′ : List Term) → eval room a s ≡ ok t s′ → rest room e vs (a ∷ xs) s ≡ rest room e (vs ++ (t ∷ [])) xs s′
-  unfolding evalTerms
-  rest-value room e a t vs xs s s′ q =
-      ap (λ (o : Outcome ℕ). andThen (andThen o (λ x. λ u. andThen (evalTerms fact room prog rule σ (argumentsBy expr xs) u) (λ ts. pure (x ∷ ts)))) (λ ts. headTerm fact room prog rule σ (head e) (vs ++ ts))) q
-      ∙ collect (evalTerms fact room prog rule σ (argumentsBy expr xs) s′) t _ _ (λ ts u. ap (λ (l : List ℕ). headTerm fact room prog rule σ (head e) l u) (sym (append-assoc vs (t ∷ []) ts)))
-
-  rest-refused : (room : Room) (e a : ℕ) (vs xs : List ℕ) (s s′ : List Term) (r : Refusal) → eval room a s ≡ refused (refusalOf r) s′ → rest room e vs (a ∷ xs) s ≡ refused (refusalOf r) s′
-  unfolding evalTerms
-  rest-refused room e a vs xs s s′ r q =
-      ap (λ (o : Outcome ℕ). andThen (andThen o (λ x. λ u. andThen (evalTerms fact room prog rule σ (argumentsBy expr xs) u) (λ ts. pure (x ∷ ts)))) (λ ts. headTerm fact room prog rule σ (head e) (vs ++ ts))) q
+  rest-all room e s q = ap (λ (o : Outcome (List ℕ)). andThen o (value e room)) (terms-each room (args e) s) ∙ ap (λ (x : Expr). evalTerm fact room prog rule σ x s) (sym q)
 
   -- a memo in a room of the same size, and in a larger store
   memo-room : {a b : Room} {s : List Term} {m : List ℕ} → a ≡ b → Memo args (eval a) n s m → Memo args (eval b) n s m
@@ -89,10 +70,8 @@ module _ (fact : Bool) (prog : Program) (rule : ℕ) (σ : List Binding) (n : �
 
   -- after i arguments of e, whose numbers are xs
   pub record Turn (e : ℕ) (xs K₀ E₀ P₀ : List ℕ) (f₀ : Fill) (m₀ K E P : List ℕ) (f : Fill) (m vals : List ℕ) (i : ℕ) : Type 0 where
-    pub upto : i ≤ length xs
     pub full : length vals ≡ 16
-    pub grown : Grown K₀ E₀ P₀ f₀ K E P f
-    pub run : rest (roomOf K₀ P₀) e (take i vals) (drop i xs) (termsIn K E P f) ≡ eval (roomOf K₀ P₀) e (termsIn K₀ E₀ P₀ f₀)
+    pub run : Run eval (value e) xs K₀ E₀ P₀ f₀ K E P f vals i (eval (roomOf K₀ P₀) e (termsIn K₀ E₀ P₀ f₀))
     pub memo : Memo args (eval (roomOf K₀ P₀)) n (termsIn K E P f) m
     pub lenM : length m ≡ length m₀
     pub keeps : (k : ℕ) → k < n → isNoted m₀ k ≡ true → isNoted m k ≡ true
@@ -111,10 +90,8 @@ module _ (fact : Bool) (prog : Program) (rule : ℕ) (σ : List Binding) (n : �
   pub start : {e : ℕ} {xs K E P : List ℕ} {f : Fill} {m vals : List ℕ} → expr e ≡ node e (head e) (argumentsBy expr (args e)) → xs ≡ args e → Stored K E P f → Memo args (eval (roomOf K P)) n (termsIn K E P f) m → length vals ≡ 16
       → Turn e xs K E P f m K E P f m vals 0
   start {e} {xs} {K} {E} {P} {f} d q S M l = record {
-    upto = omega arith;
     full = l;
-    grown = grown-same S;
-    run = ap (λ (ys : List ℕ). rest (roomOf K P) e [] ys (termsIn K E P f)) q ∙ rest-all (roomOf K P) e (termsIn K E P f) d;
+    run = run-start S (ap (λ (ys : List ℕ). rest (eval (roomOf K P)) (value e (roomOf K P)) [] ys (termsIn K E P f)) q ∙ rest-all (roomOf K P) e (termsIn K E P f) d);
     memo = M;
     lenM = refl;
     keeps = λ k h p. p;
@@ -127,42 +104,25 @@ module _ (fact : Bool) (prog : Program) (rule : ℕ) (σ : List Binding) (n : �
     room = roomOf K₀ P₀
 
     same-room : roomOf K P ≡ room
-    same-room = room-same (T .grown)
+    same-room = room-same (T .run .grown)
 
     -- what the evaluator asks of its next call
     pub next-memo : Memo args (eval (roomOf K P)) n (termsIn K E P f) m
     next-memo = memo-room (sym same-room) (T .memo)
 
     module _ {K′ E′ P′ : List ℕ} {c : Checked} {m′ : List ℕ} (h : i < length xs) (d : Evaluates args eval n (getD xs i 0) K E P f m K′ E′ P′ c m′) where
-      abbrev s′ : List Term
-      s′ = termsIn K′ E′ P′ (c .fill)
-
-      here-outcome : outcomeOf (c .refusal) (c .value) s′ ≡ eval room (getD xs i 0) (termsIn K E P f)
-      here-outcome = d .does .outcome ∙ ap (λ (x : Room). eval x (getD xs i 0) (termsIn K E P f)) same-room
-
       pub stops : (c .refusal .number ≡ 0 → ⊥) → Evaluates args eval n e K₀ E₀ P₀ f₀ m₀ K′ E′ P′ c m′
       stops z = record {
-        does = record {
-          outcome = refused-of (c .refusal) (c .value) s′ z
-              ∙ sym (rest-refused room e (getD xs i 0) (take i vals) (drop (suc i) xs) (termsIn K E P f) s′ (c .refusal) (sym here-outcome ∙ refused-of (c .refusal) (c .value) s′ z))
-              ∙ ap (λ (ys : List ℕ). rest room e (take i vals) ys (termsIn K E P f)) (sym (drop-cons xs i 0 h))
-              ∙ T .run;
-          grown = grown-then (T .grown) (d .does .grown);
-        };
+        does = run-stop (T .run) h (d .does) (c .value) z;
         memo = λ q. absurd (z q);
         noted = λ q. absurd (z q);
       }
 
       pub turns : xs ≡ args e → length xs ≤ 16 → ((j : ℕ) → j < length xs → getD xs j 0 < n) → length m′ ≡ length m → c .refusal .number ≡ 0
           → Turn e xs K₀ E₀ P₀ f₀ m₀ K′ E′ P′ (c .fill) m′ (set vals i (c .value)) (i + 1)
-      turns q few low l z = let b = T .upto in let w = T .full in record {
-        upto = omega arith;
+      turns q few low l z = record {
         full = length-set vals i (c .value) ∙ T .full;
-        grown = grown-then (T .grown) (d .does .grown);
-        run = (λ k. rest room e (values k) (drop (add-one i k) xs) s′)
-            ∙ sym (rest-value room e (getD xs i 0) (c .value) (take i vals) (drop (suc i) xs) (termsIn K E P f) s′ (sym here-outcome ∙ ok-of (c .refusal) (c .value) s′ z))
-            ∙ ap (λ (ys : List ℕ). rest room e (take i vals) ys (termsIn K E P f)) (sym (drop-cons xs i 0 h))
-            ∙ T .run;
+        run = run-turn (T .run) h (d .does) (let w = T .full in omega arith) z;
         memo = memo-room same-room (d .memo z);
         lenM = l ∙ T .lenM;
         keeps = λ k u p. d .noted z .keeps k u (T .keeps k u p);
@@ -170,9 +130,6 @@ module _ (fact : Bool) (prog : Program) (rule : ℕ) (σ : List Binding) (n : �
         each = λ j u. noted-at j u (eqb j i) refl;
       }
         where
-          values : take (i + 1) (set vals i (c .value)) ≡ take i vals ++ (c .value ∷ [])
-          values = ap (λ (k : ℕ). take k (set vals i (c .value))) (add-one i) ∙ take-suc-set vals i (c .value) (let w = T .full in omega arith)
-
           below : (k : ℕ) → (isNoted m k ≡ true) ⊎ Reaches args k (getD xs i 0) → (isNoted m k ≡ true → (isNoted m₀ k ≡ true) ⊎ Reaches args k e) → (isNoted m₀ k ≡ true) ⊎ Reaches args k e
           below k (inl p) r = r p
           below k (inr p) r = inr (down (subst (List·Memᴰ (getD xs i 0)) q (member-at xs i h)) p)
@@ -191,23 +148,15 @@ module _ (fact : Bool) (prog : Program) (rule : ℕ) (σ : List Binding) (n : �
       abbrev s″ : List Term
       s″ = termsIn K′ E′ P′ (c .fill)
 
-      all-done : take i vals ≡ take (length xs) vals
-      all-done = let b = T .upto in let n′ : i ≡ length xs = omega arith in ap (λ (k : ℕ). take k vals) n′
-
-      is-head : rest room e (take i vals) (drop i xs) (termsIn K E P f) ≡ headTerm fact (roomOf K P) prog rule σ (head e) (take (length xs) vals) (termsIn K E P f)
-      is-head = ap (λ (ys : List ℕ). rest room e (take i vals) ys (termsIn K E P f)) (drop-of-length-le xs {i = i} h)
-          ∙ rest-none room e (take i vals) (termsIn K E P f)
-          ∙ (λ k. headTerm fact (sym same-room k) prog rule σ (head e) (all-done k) (termsIn K E P f))
-
-      whole : outcomeOf (c .refusal) (c .value) s″ ≡ eval room e (termsIn K₀ E₀ P₀ f₀)
-      whole = d .outcome ∙ sym is-head ∙ T .run
+      whole : Does K₀ E₀ P₀ f₀ K′ E′ P′ (c .fill) (c .refusal) (c .value) (eval room e (termsIn K₀ E₀ P₀ f₀))
+      whole = run-done (T .run) h d
 
       module _ (z : c .refusal .number ≡ 0) where
         grows : Extends (termsIn K E P f) s″
         grows = post-result (head-settled fact (roomOf K P) prog rule σ (head e) (take (length xs) vals) (termsIn K E P f)) (sym (d .outcome) ∙ ok-of (c .refusal) (c .value) s″ z) .grows
 
         has-value : eval room e s″ ≡ ok (c .value) s″
-        has-value = term-again fact room prog rule σ (expr e) (termsIn K₀ E₀ P₀ f₀) s″ s″ (c .value) (sym whole ∙ ok-of (c .refusal) (c .value) s″ z) extends-same
+        has-value = term-again fact room prog rule σ (expr e) (termsIn K₀ E₀ P₀ f₀) s″ s″ (c .value) (sym (whole .outcome) ∙ ok-of (c .refusal) (c .value) s″ z) extends-same
 
         fits : e + e + 2 < length m
         fits = let a = T .memo .long in omega arith
@@ -255,7 +204,7 @@ module _ (fact : Bool) (prog : Program) (rule : ℕ) (σ : List Binding) (n : �
 
       pub finishes : Evaluates args eval n e K₀ E₀ P₀ f₀ m₀ K′ E′ P′ c m′
       finishes = subst⁻¹ (Evaluates args eval n e K₀ E₀ P₀ f₀ m₀ K′ E′ P′ c) g (record {
-        does = record { outcome = whole; grown = grown-then (T .grown) (d .grown) };
+        does = whole;
         memo = note-memo;
         noted = note-noted;
       })

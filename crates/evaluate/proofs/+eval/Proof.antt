@@ -77,16 +77,16 @@ eval-shared-slice-read-eval : (t : ℕ) → eval-lts.Need-shared-slice-read-eval
 eval-shared-slice-read-eval t c = search needs
 
 eval-eval-requires : (t : ℕ) → eval-lts.Need-eval-requires (R-eval t) (eval-at t) eval.Post eval-Inv-loop eval-μ-loop
-eval-eval-requires t c κs = let a = c .before .before .before .before .before .before .before .before .before .before .before .before .before .before .before .before .before .before .before .before .before .before .args in let pre = c .before .before .before .before .before .before .before .before .before .before .before .before .before .before .before .before .before .before .before .before .before .before .pre .1 in let prog = programFor (a .kinds .now) (a .ends .now) (a .pool .now) (a .z) in let σ = bindingsIn (a .bound .now) (a .pairs .now) (a .globals .now) in let args = argumentsFor (a .kinds .now) (a .ends .now) (a .pool .now) (a .z) in let head = headFor (a .kinds .now) (a .ends .now) (a .pool .now) (a .z) in let expr = exprFor (a .kinds .now) (a .ends .now) (a .pool .now) (a .z) in let l = c .before .before .before .before .before .before .before .arguments-at .ensures .lower (c .before .before .before .before .before .before .loop .i) (search needs) in let w = c .before .before .before .before .before .before .before .before .before .before .before .wide .ensures in let h = pre .1 .1 .0 in (let m = c .before .before .before .before .before .before .before .before .before .before .before .before .before .before .before .before .before .before .before .before .before .before .pre .0 in omega arith, (pre .0, (c .before .before .before .before .before .before .loop .inv .grown .stored, (omega arith, next-memo (a .fact) prog (a .rule) σ (a .z .expressions) args head expr (c .before .before .before .before .before .before .loop .inv)))))
+eval-eval-requires t c κs = let a = c .before .before .before .before .before .before .before .before .before .before .before .before .before .before .before .before .before .before .before .before .before .before .args in let pre = c .before .before .before .before .before .before .before .before .before .before .before .before .before .before .before .before .before .before .before .before .before .before .pre .1 in let prog = programFor (a .kinds .now) (a .ends .now) (a .pool .now) (a .z) in let σ = bindingsIn (a .bound .now) (a .pairs .now) (a .globals .now) in let args = argumentsFor (a .kinds .now) (a .ends .now) (a .pool .now) (a .z) in let head = headFor (a .kinds .now) (a .ends .now) (a .pool .now) (a .z) in let expr = exprFor (a .kinds .now) (a .ends .now) (a .pool .now) (a .z) in let l = c .before .before .before .before .before .before .before .arguments-at .ensures .lower (c .before .before .before .before .before .before .loop .i) (search needs) in let w = c .before .before .before .before .before .before .before .before .before .before .before .wide .ensures in let h = pre .1 .1 .0 in (let m = c .before .before .before .before .before .before .before .before .before .before .before .before .before .before .before .before .before .before .before .before .before .before .pre .0 in omega arith, (pre .0, (c .before .before .before .before .before .before .loop .inv .run .grown .stored, (omega arith, next-memo (a .fact) prog (a .rule) σ (a .z .expressions) args head expr (c .before .before .before .before .before .before .loop .inv)))))
 
 eval-same-length-2 : (t : ℕ) → eval-lts.Need-same-length-2 (R-eval t) (eval-at t) eval.Post eval-Inv-loop eval-μ-loop
-eval-same-length-2 t c = c .before .before .before .before .before .before .before .before .before .before .eval .ensures .does .grown .lenK ∙ c .before .before .before .before .before .before .before .before .before .before .before .before .before .before .before .before .before .loop .inv .grown .lenK
+eval-same-length-2 t c = c .before .before .before .before .before .before .before .before .before .before .eval .ensures .does .grown .lenK ∙ c .before .before .before .before .before .before .before .before .before .before .before .before .before .before .before .before .before .loop .inv .run .grown .lenK
 
 eval-same-length-3 : (t : ℕ) → eval-lts.Need-same-length-3 (R-eval t) (eval-at t) eval.Post eval-Inv-loop eval-μ-loop
-eval-same-length-3 t c = c .before .before .before .before .before .before .before .before .before .before .eval .ensures .does .grown .lenE ∙ c .before .before .before .before .before .before .before .before .before .before .before .before .before .before .before .before .before .loop .inv .grown .lenE
+eval-same-length-3 t c = c .before .before .before .before .before .before .before .before .before .before .eval .ensures .does .grown .lenE ∙ c .before .before .before .before .before .before .before .before .before .before .before .before .before .before .before .before .before .loop .inv .run .grown .lenE
 
 eval-same-length-4 : (t : ℕ) → eval-lts.Need-same-length-4 (R-eval t) (eval-at t) eval.Post eval-Inv-loop eval-μ-loop
-eval-same-length-4 t c = c .before .before .before .before .before .before .before .before .before .before .eval .ensures .does .grown .lenP ∙ c .before .before .before .before .before .before .before .before .before .before .before .before .before .before .before .before .before .loop .inv .grown .lenP
+eval-same-length-4 t c = c .before .before .before .before .before .before .before .before .before .before .eval .ensures .does .grown .lenP ∙ c .before .before .before .before .before .before .before .before .before .before .before .before .before .before .before .before .before .loop .inv .run .grown .lenP
 
 eval-same-length-5 : (t : ℕ) → eval-lts.Need-same-length-5 (R-eval t) (eval-at t) eval.Post eval-Inv-loop eval-μ-loop
 eval-same-length-5 t c = search needs
@@ -119,19 +119,19 @@ eval-slice-aggregate-head-value : (t : ℕ) → eval-lts.Need-slice-aggregate-he
 eval-slice-aggregate-head-value t c = let f = c .before .before .before .before .before .before .before .arguments-at .ensures .few in let h = c .before .before .before .before .before .before .loop .inv .full in simp length-take (omega arith)
 
 eval-head-value-requires : (t : ℕ) → eval-lts.Need-head-value-requires (R-eval t) (eval-at t) eval.Post eval-Inv-loop eval-μ-loop
-eval-head-value-requires t c κs = let pre = c .before .before .before .before .before .before .before .before .before .before .before .before .before .before .before .before .before .before .before .before .before .before .pre .1 in (pre .0, (c .before .before .before .before .before .before .loop .inv .grown .stored, (let f = c .before .before .before .before .before .before .before .arguments-at .ensures .few in simp length-take (omega arith), c .before .before .before .before .head-at .ensures .primitive)))
+eval-head-value-requires t c κs = let pre = c .before .before .before .before .before .before .before .before .before .before .before .before .before .before .before .before .before .before .before .before .before .before .pre .1 in (pre .0, (c .before .before .before .before .before .before .loop .inv .run .grown .stored, (let f = c .before .before .before .before .before .before .before .arguments-at .ensures .few in simp length-take (omega arith), c .before .before .before .before .head-at .ensures .primitive)))
 
 eval-note-requires : (t : ℕ) → eval-lts.Need-note-requires (R-eval t) (eval-at t) eval.Post eval-Inv-loop eval-μ-loop
 eval-note-requires t c κs = let pre = c .before .before .before .before .before .before .before .before .before .before .before .before .before .before .before .before .before .before .before .before .before .before .before .before .before .before .before .before .before .before .pre .1 in let l = c .before .before .before .before .before .before .before .before .before .before .before .before .before .before .loop .inv .memo .long in let h = pre .1 .1 .0 in let w = c .before .before .before .before .before .before .before .before .before .before .before .before .before .before .before .before .before .before .before .wide .ensures in omega arith
 
 eval-same-length-6 : (t : ℕ) → eval-lts.Need-same-length-6 (R-eval t) (eval-at t) eval.Post eval-Inv-loop eval-μ-loop
-eval-same-length-6 t c = c .before .before .before .before .before .before .before .before .before .before .head-value .ensures .grown .lenK ∙ c .before .before .before .before .before .before .before .before .before .before .before .before .before .before .before .before .before .loop .inv .grown .lenK
+eval-same-length-6 t c = c .before .before .before .before .before .before .before .before .before .before .head-value .ensures .grown .lenK ∙ c .before .before .before .before .before .before .before .before .before .before .before .before .before .before .before .before .before .loop .inv .run .grown .lenK
 
 eval-same-length-7 : (t : ℕ) → eval-lts.Need-same-length-7 (R-eval t) (eval-at t) eval.Post eval-Inv-loop eval-μ-loop
-eval-same-length-7 t c = c .before .before .before .before .before .before .before .before .before .before .head-value .ensures .grown .lenE ∙ c .before .before .before .before .before .before .before .before .before .before .before .before .before .before .before .before .before .loop .inv .grown .lenE
+eval-same-length-7 t c = c .before .before .before .before .before .before .before .before .before .before .head-value .ensures .grown .lenE ∙ c .before .before .before .before .before .before .before .before .before .before .before .before .before .before .before .before .before .loop .inv .run .grown .lenE
 
 eval-same-length-8 : (t : ℕ) → eval-lts.Need-same-length-8 (R-eval t) (eval-at t) eval.Post eval-Inv-loop eval-μ-loop
-eval-same-length-8 t c = c .before .before .before .before .before .before .before .before .before .before .head-value .ensures .grown .lenP ∙ c .before .before .before .before .before .before .before .before .before .before .before .before .before .before .before .before .before .loop .inv .grown .lenP
+eval-same-length-8 t c = c .before .before .before .before .before .before .before .before .before .before .head-value .ensures .grown .lenP ∙ c .before .before .before .before .before .before .before .before .before .before .before .before .before .before .before .before .before .loop .inv .run .grown .lenP
 
 eval-same-length-9 : (t : ℕ) → eval-lts.Need-same-length-9 (R-eval t) (eval-at t) eval.Post eval-Inv-loop eval-μ-loop
 eval-same-length-9 t c = search needs

@@ -1,0 +1,4 @@
+pub mod Keeping
+pub mod Reading
+pub mod Sides
+pub mod Wants
