@@ -156,7 +156,7 @@ rule-long c q =
 
 -- the cells of an admitted job, as they are read
 module _ {K E P : List ℕ} {z : Sizes} (R : Ready K E P z) where
-  refers : (k : ℕ) → k < 10 → (i : ℕ) → i < getD (countsOf (sizesIn z)) k 0 → getD (referTests (sizesIn z)) k passed i (getD (getD (tableList (tablesFor K E P z)) k []) i noCell) ≡ true
+  pub refers : (k : ℕ) → k < 10 → (i : ℕ) → i < getD (countsOf (sizesIn z)) k 0 → getD (referTests (sizesIn z)) k passed i (getD (getD (tableList (tablesFor K E P z)) k []) i noCell) ≡ true
   refers k h i l = R .admitted .refers k h i (rw (table-long K E P z k h) l)
 
   module _ {c : Cell} (e : ℕ) (h : e < z .expressions) (q : c ≡ getD (tablesFor K E P z .expressions) e noCell) where

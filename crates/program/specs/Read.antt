@@ -1,15 +1,20 @@
 -- What the readers of an admitted job's cells give, by number within the table: what the cell says, and numbers in range.
 use mathlib.Core.Path.{_≡_}
-use mathlib.Core.List.{List}
+use mathlib.Core.List.{List, map, List·Memᴰ}
 use Prim.Native.Nat.{ℕ, _≤_, _<_}
 use lib.ListN.{length, getD}
-use Rattle.model.specs.Cell.{noCell}
+use Rattle.model.specs.Cell.{Cell, noCell}
 use Rattle.model.specs.Program as program
-use Rattle.model.specs.Decode.{exprOf, readHead, readArguments, readFact, readAction, ruleFacts, ruleActions}
-use Rattle.decode.specs.View.{headOf, factOf, actionOf}
+use Rattle.model.specs.Program.{Binding, references}
+use Rattle.model.specs.Decode.{exprOf, readHead, readArguments, readFact, readAction, ruleFacts, ruleActions, readBindings, readProof}
+use Rattle.model.specs.Walk.{noProof, claimAt}
+use Rattle.decode.specs.View.{headOf, factOf, actionOf, propositionOf, justificationOf, rulePremises, rulePairs}
 use Rattle.decode.specs.declared.Head.{Head}
 use Rattle.decode.specs.declared.Fact.{Fact}
 use Rattle.decode.specs.declared.Action.{Action}
+use Rattle.decode.specs.declared.Proposition.{Proposition}
+use Rattle.decode.specs.declared.RuleStep.{RuleStep}
+use Rattle.decode.specs.declared.Justification.{Justification}
 use Rattle.load.specs.Held.{tablesFor}
 use Rattle.load.specs.declared.sizes.Sizes.{Sizes}
 
@@ -65,3 +70,41 @@ pub record RuleActionsAt (K E P : List ℕ) (z : Sizes) (r : ℕ) (xs : List ℕ
   pub is : xs ≡ ruleActions (getD (tablesFor K E P z .rules) r noCell)
   pub few : length xs ≤ 64
   pub within : (i : ℕ) → i < length xs → getD xs i 0 < z .actions
+
+-- The proofs of a job, and the cell of proof p.
+abbrev pub proofsFor : List ℕ → List ℕ → List ℕ → Sizes → List program.Proof
+proofsFor K E P z = map readProof (tablesFor K E P z .proofs)
+
+abbrev pub proofCell : List ℕ → List ℕ → List ℕ → Sizes → ℕ → Cell
+proofCell K E P z p = getD (tablesFor K E P z .proofs) p noCell
+
+-- The premises of proof p, and the words of its substitution, where it is by a rule.
+abbrev pub premisesFor : List ℕ → List ℕ → List ℕ → Sizes → ℕ → List ℕ
+premisesFor K E P z p = rulePremises (proofCell K E P z p)
+
+abbrev pub pairsFor : List ℕ → List ℕ → List ℕ → Sizes → ℕ → List ℕ
+pairsFor K E P z p = rulePairs (proofCell K E P z p)
+
+-- q is what proof p claims.
+pub record ClaimAt (K E P : List ℕ) (z : Sizes) (p : ℕ) (q : Proposition) : Type 0 where
+  pub is : propositionOf q ≡ claimAt (proofsFor K E P z) p
+  pub lhs : q .lhs < z .terms
+  pub rhs : q .rhs < z .terms
+
+-- j is why proof p holds; the proofs that it refers to have lower numbers.
+pub record JustificationAt (K E P : List ℕ) (z : Sizes) (p : ℕ) (j : Justification) : Type 0 where
+  pub is : justificationOf j (premisesFor K E P z p) (pairsFor K E P z p) ≡ getD (proofsFor K E P z) p noProof .justification
+  pub lower : (x : ℕ) → List·Memᴰ x (references (getD (proofsFor K E P z) p noProof .justification)) → x < p
+  pub isRule : (s : RuleStep) → j ≡ Justification.Rule s → proofCell K E P z p .kind ≡ 1
+
+-- xs are the premises of proof p, each of a lower number.
+pub record PremisesAt (K E P : List ℕ) (z : Sizes) (p : ℕ) (xs : List ℕ) : Type 0 where
+  pub is : xs ≡ premisesFor K E P z p
+  pub few : length xs ≤ 4096
+  pub lower : (i : ℕ) → i < length xs → getD xs i 0 < p
+
+-- ws are the pairs of name and term of proof p's substitution.
+pub record SubstitutionAt (K E P : List ℕ) (z : Sizes) (p : ℕ) (ws : List ℕ) : Type 0 where
+  pub is : ws ≡ pairsFor K E P z p
+  pub few : length ws ≤ 64
+  pub within : (b : Binding) → List·Memᴰ b (readBindings ws) → b .term < z .terms

@@ -4,20 +4,26 @@ use crate::first_rule;
 use decode::Action;
 use decode::Fact;
 use decode::Head;
+use decode::Justification;
+use decode::Proposition;
 use decode::read_action;
 use decode::read_arguments;
+use decode::read_claim;
 use decode::read_fact;
 use decode::read_head;
+use decode::read_justification;
 use decode::rule_actions;
 use decode::rule_facts;
 use decode::rule_name;
+use decode::rule_pairs;
+use decode::rule_premises;
 use load::sizes::Sizes;
 ghost use mathlib.Core.Path.{_≡_};
 ghost use Prim.Native.Nat.{_+_, _<_};
-ghost use Rattle.model.specs.Layout.{firstFact, firstAction};
+ghost use Rattle.model.specs.Layout.{firstFact, firstAction, firstProof};
 ghost use Rattle.load.specs.Held.{sizesIn, Limits};
 ghost use Rattle.program.specs.Ready.{Ready, ruleFor};
-ghost use Rattle.program.specs.Read.{HeadAt, ArgumentsAt, FactAt, ActionAt, RuleFactsAt, RuleActionsAt};
+ghost use Rattle.program.specs.Read.{HeadAt, ArgumentsAt, FactAt, ActionAt, RuleFactsAt, RuleActionsAt, proofCell, ClaimAt, JustificationAt, PremisesAt, SubstitutionAt};
 
 // The number of the first fact's cell.
 pub fn first_fact(z: Sizes) -> usize
@@ -118,4 +124,69 @@ pub fn rule_actions_at<'a>(
     ensures { λ xs. ⌜ RuleActionsAt (now (kinds .entry)) (now (ends .entry)) (now (pool .entry)) z r (now xs) ⌝ }
 {
     rule_actions(cell_words(kinds, ends, pool, z, first_rule(z) + r))
+}
+
+// The number of the first proof's cell.
+pub fn first_proof(z: Sizes) -> usize
+    requires { ⌜ Limits z ⌝ }
+    ensures { λ r. ⌜ r ≡ firstProof (sizesIn z) ⌝ }
+{
+    first_rule(z) + z.rules
+}
+
+// What proof p claims.
+pub fn claim_at(kinds: &[u32], ends: &[u32], pool: &[u32], z: Sizes, p: usize) -> Proposition
+    requires { ⌜ Ready (now kinds) (now ends) (now pool) z ⌝ }
+    requires { ⌜ p < z .proofs ⌝ }
+    ensures { λ r. ⌜ ClaimAt (now (kinds .entry)) (now (ends .entry)) (now (pool .entry)) z p r ⌝ }
+{
+    read_claim(cell_words(kinds, ends, pool, z, first_proof(z) + p))
+}
+
+// Why proof p holds.
+pub fn justification_at(
+    kinds: &[u32],
+    ends: &[u32],
+    pool: &[u32],
+    z: Sizes,
+    p: usize,
+) -> Justification
+    requires { ⌜ Ready (now kinds) (now ends) (now pool) z ⌝ }
+    requires { ⌜ p < z .proofs ⌝ }
+    ensures { λ r. ⌜ JustificationAt (now (kinds .entry)) (now (ends .entry)) (now (pool .entry)) z p r ⌝ }
+{
+    let k = first_proof(z) + p;
+    read_justification(kinds[k], cell_words(kinds, ends, pool, z, k))
+}
+
+// The premises of proof p, which is by a rule.
+pub fn premises_at<'a>(
+    kinds: &[u32],
+    ends: &[u32],
+    pool: &'a [u32],
+    z: Sizes,
+    p: usize,
+) -> &'a [u32]
+    requires { ⌜ Ready (now kinds) (now ends) (now pool) z ⌝ }
+    requires { ⌜ p < z .proofs ⌝ }
+    requires { ⌜ proofCell (now kinds) (now ends) (now pool) z p .kind ≡ 1 ⌝ }
+    ensures { λ r. ⌜ PremisesAt (now (kinds .entry)) (now (ends .entry)) (now (pool .entry)) z p (now r) ⌝ }
+{
+    rule_premises(cell_words(kinds, ends, pool, z, first_proof(z) + p))
+}
+
+// The pairs of name and term of the substitution of proof p, which is by a rule.
+pub fn substitution_at<'a>(
+    kinds: &[u32],
+    ends: &[u32],
+    pool: &'a [u32],
+    z: Sizes,
+    p: usize,
+) -> &'a [u32]
+    requires { ⌜ Ready (now kinds) (now ends) (now pool) z ⌝ }
+    requires { ⌜ p < z .proofs ⌝ }
+    requires { ⌜ proofCell (now kinds) (now ends) (now pool) z p .kind ≡ 1 ⌝ }
+    ensures { λ r. ⌜ SubstitutionAt (now (kinds .entry)) (now (ends .entry)) (now (pool .entry)) z p (now r) ⌝ }
+{
+    rule_pairs(cell_words(kinds, ends, pool, z, first_proof(z) + p))
 }

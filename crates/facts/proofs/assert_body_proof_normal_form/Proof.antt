@@ -4,35 +4,27 @@ use borrow.Author.Needs.{needs}
 use Rattle.facts.proofs.assert_body_proof_normal_form.Statement.{statement}
 use Rattle.facts.proofs.assert_body_proof_normal_form.Tie as tie
 
--- src/lib.rt:90:61
 wide-requires : tie.Need-wide-requires
 wide-requires c κs = search needs
 
--- src/lib.rt:90:9
 fact-offence-requires : tie.Need-fact-offence-requires
 fact-offence-requires c κs = let p = c .before .before .before .before .before .pre in let w = c .wide .ensures in (p .0, (p .1 .0, let h = p .1 .1 in omega arith))
 
--- src/lib.rt:92:65
 enum-told : tie.Need-enum-told
 enum-told c = search needs
 
--- src/lib.rt:93:40
 enum-known-offence : tie.Need-enum-known-offence
 enum-known-offence c = search needs
 
--- src/lib.rt:94:53
 enum-known-offence-2 : tie.Need-enum-known-offence-2
 enum-known-offence-2 c = search needs
 
--- src/lib.rt:76:1
 returns : tie.Need-returns
 returns c = let a = c .before .before .before .before .before .before .before .before .args in λ s. normal-form (a .kinds .now) (a .ends .now) (a .pool .now) (a .z) (a .rule) s (c .before .before .fact-offence .ensures) (c .before .before .before .wide .ensures) (c .enum-told .given .1)
 
--- src/lib.rt:76:1
 returns-2 : tie.Need-returns-2
 returns-2 c = let a = c .before .before .before .before .before .before .before .before .before .args in λ s. normal-form (a .kinds .now) (a .ends .now) (a .pool .now) (a .z) (a .rule) s (c .before .before .before .fact-offence .ensures) (c .before .before .before .before .wide .ensures) (c .before .offence .given .1)
 
--- src/lib.rt:76:1
 returns-3 : tie.Need-returns-3
 returns-3 c = let a = c .before .before .before .before .before .before .before .before .before .args in λ s. normal-form (a .kinds .now) (a .ends .now) (a .pool .now) (a .z) (a .rule) s (c .before .before .before .fact-offence .ensures) (c .before .before .before .before .wide .ensures) (c .before .offence2 .given .1)
 

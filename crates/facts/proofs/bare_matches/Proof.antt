@@ -5,15 +5,12 @@ use borrow.Author.Needs.{needs}
 use Rattle.facts.proofs.bare_matches.Statement.{statement}
 use Rattle.facts.proofs.bare_matches.Tie as tie
 
--- src/lib.rt:602:8
 same-right-requires : tie.Need-same-right-requires
 same-right-requires c κs = search needs
 
--- src/lib.rt:603:9
 returns : tie.Need-returns
 returns c = let a = c .before .before .args in λ e s. bare-same (a .rule) (a .i) (propositionOf (a .w)) (propositionOf (a .q)) s e (sym (c .before .same-right .ensures) ∙ c .if1 .taken)
 
--- src/lib.rt:599:1
 returns-2 : tie.Need-returns-2
 returns-2 c = let a = c .before .before .args in λ e s. bare-differs (a .rule) (a .i) (propositionOf (a .w)) (propositionOf (a .q)) s e (sym (c .before .same-right .ensures) ∙ c .if1 .left)
 

@@ -4,19 +4,15 @@ use borrow.Author.Needs.{needs}
 use Rattle.facts.proofs.bind_output.Statement.{statement}
 use Rattle.facts.proofs.bind_output.Tie as tie
 
--- src/lib.rt:179:22
 enum-known-variable : tie.Need-enum-known-variable
 enum-known-variable c = search needs
 
--- src/lib.rt:185:62
 enum-told : tie.Need-enum-told
 enum-told c = search needs
 
--- src/lib.rt:174:1
 returns : tie.Need-returns
 returns c = let a = c .before .before .before .args in (refl, λ σ s. output-bound (a .rule) (a .i) (a .t) σ s (c .before .variable .given .1))
 
--- src/lib.rt:174:1
 returns-2 : tie.Need-returns-2
 returns-2 c = let a = c .before .before .args in (refl, λ σ s. output-none (a .rule) (a .i) (a .t) σ s (c .enum-told .given .1))
 

@@ -8,51 +8,39 @@ use borrow.Author.Needs.{needs}
 use Rattle.facts.proofs.check_fact_matches_proposition.Statement.{statement}
 use Rattle.facts.proofs.check_fact_matches_proposition.Tie as tie
 
--- src/lib.rt:638:9
 wanted-requires : tie.Need-wanted-requires
 wanted-requires c κs = search needs
 
--- src/lib.rt:642:9
 same-length : tie.Need-same-length
 same-length c = search needs
 
--- src/lib.rt:642:9
 same-length-2 : tie.Need-same-length-2
 same-length-2 c = search needs
 
--- src/lib.rt:642:9
 same-length-3 : tie.Need-same-length-3
 same-length-3 c = search needs
 
--- src/lib.rt:642:9
 same-length-4 : tie.Need-same-length-4
 same-length-4 c = search needs
 
--- src/lib.rt:642:9
 returns : tie.Need-returns
 returns c = let a = c .before .before .before .before .before .before .before .before .before .before .before .before .before .before .before .before .before .before .before .before .before .before .before .before .before .before .before .args in let pre = c .before .before .before .before .before .before .before .before .before .before .before .before .before .before .before .before .before .before .before .before .before .before .before .before .before .before .before .pre in let prog = programFor (a .kinds .now) (a .ends .now) (a .pool .now) (a .z) in let σ = bindingsIn (a .bound .now) (a .pairs .now) (a .globals .now) in let expr = exprFor (a .kinds .now) (a .ends .now) (a .pool .now) (a .z) in fact-refused prog (a .rule) σ (factFor (a .kinds .now) (a .ends .now) (a .pool .now) (a .z) (a .i)) (propositionOf (a .q)) (c .before .before .before .before .before .before .before .before .before .before .before .before .wanted .result) (c .before .before .before .before .before .before .before .before .before .before .before .before .wanted .ensures) (c .if1 .taken)
 
--- src/lib.rt:648:9
 matches-requires : tie.Need-matches-requires
 matches-requires c κs = let p = c .before .before .before .before .before .before .before .before .before .before .before .before .before .before .before .before .before .before .before .before .before .before .before .before .before .before .before .pre in (p .0, p .1 .1 .1 .1)
 
--- src/lib.rt:614:1
 same-length-5 : tie.Need-same-length-5
 same-length-5 c = search needs
 
--- src/lib.rt:614:1
 same-length-6 : tie.Need-same-length-6
 same-length-6 c = search needs
 
--- src/lib.rt:614:1
 same-length-7 : tie.Need-same-length-7
 same-length-7 c = search needs
 
--- src/lib.rt:614:1
 same-length-8 : tie.Need-same-length-8
 same-length-8 c = search needs
 
--- src/lib.rt:614:1
 returns-2 : tie.Need-returns-2
 returns-2 c = let a = c .before .before .before .before .before .before .before .before .before .before .before .before .before .before .before .before .before .before .before .before .before .before .before .before .before .before .before .before .args in let pre = c .before .before .before .before .before .before .before .before .before .before .before .before .before .before .before .before .before .before .before .before .before .before .before .before .before .before .before .before .pre in let prog = programFor (a .kinds .now) (a .ends .now) (a .pool .now) (a .z) in let σ = bindingsIn (a .bound .now) (a .pairs .now) (a .globals .now) in let expr = exprFor (a .kinds .now) (a .ends .now) (a .pool .now) (a .z) in fact-compared prog (a .rule) σ (factFor (a .kinds .now) (a .ends .now) (a .pool .now) (a .z) (a .i)) (propositionOf (a .q)) (c .before .before .before .before .before .before .before .before .before .before .before .before .before .wanted .result) (c .before .before .before .before .before .before .before .before .before .before .before .before .before .wanted .ensures) (c .before .if1 .left) (c .matches .ensures)
 

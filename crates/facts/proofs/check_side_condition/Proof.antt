@@ -7,47 +7,36 @@ use borrow.Author.Needs.{needs}
 use Rattle.facts.proofs.check_side_condition.Statement.{statement}
 use Rattle.facts.proofs.check_side_condition.Tie as tie
 
--- src/lib.rt:319:46
 wide-requires : tie.Need-wide-requires
 wide-requires c κs = search needs
 
--- src/lib.rt:319:9
 fact-at-requires : tie.Need-fact-at-requires
 fact-at-requires c κs = search needs
 
--- src/lib.rt:321:21
 enum-known-fact : tie.Need-enum-known-fact
 enum-known-fact c = search needs
 
--- src/lib.rt:321:30
 check-equality-condition-requires : tie.Need-check-equality-condition-requires
 check-equality-condition-requires c κs = let p = c .before .before .before .before .before .before .before .before .before .before .before .before .before .before .before .before .before .before .before .pre in let b = c .before .before .before .before .before .before .before .fact-at .ensures .equal (c .before .before .before .before .before .fact .given .0 .0) (c .before .before .before .before .before .fact .given .0 .1 .0) (c .before .before .before .before .before .fact .given .1) in (p .0, (p .1 .0, (p .1 .1 .0, (p .1 .1 .1 .0, (b .0, b .1)))))
 
--- src/lib.rt:323:61
 enum-told : tie.Need-enum-told
 enum-told c = search needs
 
--- src/lib.rt:296:1
 same-length : tie.Need-same-length
 same-length c = search needs
 
--- src/lib.rt:296:1
 same-length-2 : tie.Need-same-length-2
 same-length-2 c = search needs
 
--- src/lib.rt:296:1
 same-length-3 : tie.Need-same-length-3
 same-length-3 c = search needs
 
--- src/lib.rt:296:1
 same-length-4 : tie.Need-same-length-4
 same-length-4 c = search needs
 
--- src/lib.rt:296:1
 returns : tie.Need-returns
 returns c = let a = c .before .before .before .before .before .before .before .before .before .before .before .before .before .before .before .before .before .before .before .before .before .before .before .before .before .before .before .before .args in let pre = c .before .before .before .before .before .before .before .before .before .before .before .before .before .before .before .before .before .before .before .before .before .before .before .before .before .before .before .before .pre in let prog = programFor (a .kinds .now) (a .ends .now) (a .pool .now) (a .z) in let σ = bindingsIn (a .bound .now) (a .pairs .now) (a .globals .now) in let expr = exprFor (a .kinds .now) (a .ends .now) (a .pool .now) (a .z) in condition-as prog (a .rule) σ (fact-by (c .before .before .before .before .before .before .before .before .before .before .before .before .before .before .before .before .fact-at .ensures) (c .before .before .before .before .before .before .before .before .before .before .before .before .before .before .before .before .before .wide .ensures) (c .before .before .before .before .before .before .before .before .before .before .before .before .before .before .fact .given .1)) (c .before .before .before .before .before .before .before .before .check-equality-condition .ensures)
 
--- src/lib.rt:296:1
 returns-2 : tie.Need-returns-2
 returns-2 c = let a = c .before .before .before .before .before .before .before .before .before .before .before .before .before .before .args in let pre = c .before .before .before .before .before .before .before .before .before .before .before .before .before .before .pre in let prog = programFor (a .kinds .now) (a .ends .now) (a .pool .now) (a .z) in let σ = bindingsIn (a .bound .now) (a .pairs .now) (a .globals .now) in let expr = exprFor (a .kinds .now) (a .ends .now) (a .pool .now) (a .z) in condition-as prog (a .rule) σ (fact-by (c .before .before .fact-at .ensures) (c .before .before .before .wide .ensures) (c .enum-told .given .1)) (condition-bare prog (a .rule) σ (a .i) _ (pre .1 .0) (pre .1 .1 .1 .0))
 

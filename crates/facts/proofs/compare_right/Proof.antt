@@ -4,23 +4,18 @@ use borrow.Author.Needs.{needs}
 use Rattle.facts.proofs.compare_right.Statement.{statement}
 use Rattle.facts.proofs.compare_right.Tie as tie
 
--- src/lib.rt:198:22
 enum-known-b : tie.Need-enum-known-b
 enum-known-b c = search needs
 
--- src/lib.rt:198:28
 bind-output-requires : tie.Need-bind-output-requires
 bind-output-requires c κs = search needs
 
--- src/lib.rt:200:62
 enum-told : tie.Need-enum-told
 enum-told c = search needs
 
--- src/lib.rt:193:1
 returns : tie.Need-returns
 returns c = let a = c .before .before .before .before .args in (c .bind-output .ensures .0, λ σ rv s. c .bind-output .ensures .1 σ s ∙ compared-right (a .rule) (a .i) σ _ rv s (c .before .before .b .given .1))
 
--- src/lib.rt:193:1
 returns-2 : tie.Need-returns-2
 returns-2 c = let a = c .before .before .args in (refl, λ σ rv s. compared-none (a .rule) (a .i) σ _ rv s (c .enum-told .given .1))
 

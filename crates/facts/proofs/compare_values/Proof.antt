@@ -3,11 +3,9 @@ use Rattle.facts.proofs.Sides.{compared-same, compared-differ}
 use Rattle.facts.proofs.compare_values.Statement.{statement}
 use Rattle.facts.proofs.compare_values.Tie as tie
 
--- src/lib.rt:213:9
 returns : tie.Need-returns
 returns c = let a = c .before .args in (refl, λ σ lv rv s. compared-same (a .rule) (a .i) σ lv rv s (a .x) (a .y) (c .if1 .taken))
 
--- src/lib.rt:208:1
 returns-2 : tie.Need-returns-2
 returns-2 c = let a = c .before .args in (refl, λ σ lv rv s. compared-differ (a .rule) (a .i) σ lv rv s (a .x) (a .y) (c .if1 .left))
 

@@ -17,99 +17,75 @@ abbrev μ-loop : tie.MeasureT-loop
 μ-loop kinds ends pool z bound pairs globals rule skinds₀ sends₀ spool₀ memo₀ e values₀ args count have₀ i₀ skinds sends spool memo values have i =
     length args - i
 
--- src/lib.rt:356:51
 wide-requires : tie.Need-wide-requires Inv-loop μ-loop
 wide-requires c κs = search needs
 
--- src/lib.rt:356:9
 arguments-at-requires : tie.Need-arguments-at-requires Inv-loop μ-loop
 arguments-at-requires c κs = let p = c .before .before .before .before .before .before .before .before .before .before .before .before .pre in let w = c .wide .ensures in let h = p .1 .1 .1 .1 .0 in (p .0, omega arith)
 
--- src/lib.rt:360:5
 loop-holds : tie.Need-loop-holds Inv-loop μ-loop
 loop-holds c = let a = c .before .before .before .before .before .before .before .before .before .before .before .before .before .args in let p = c .before .before .before .before .before .before .before .before .before .before .before .before .before .pre in arguments-start (a .kinds .now) (a .ends .now) (a .pool .now) (a .z) (a .rule) (bindingsIn (a .bound .now) (a .pairs .now) (a .globals .now)) (c .arguments-at .ensures .is ∙ ap (argumentsFor (a .kinds .now) (a .ends .now) (a .pool .now) (a .z)) (c .before .wide .ensures)) (p .1 .0) (p .1 .1 .1 .0)
 
--- src/lib.rt:361:117
 mul-evaluate : tie.Need-mul-evaluate Inv-loop μ-loop
 mul-evaluate c = search needs
 
--- src/lib.rt:361:117
 shared-slice-read-evaluate : tie.Need-shared-slice-read-evaluate Inv-loop μ-loop
 shared-slice-read-evaluate c = search needs
 
--- src/lib.rt:361:13
 evaluate-requires : tie.Need-evaluate-requires Inv-loop μ-loop
 evaluate-requires c κs = let a = c .before .before .before .before .before .before .before .before .before .before .before .before .before .before .before .before .before .before .before .before .args in let p = c .before .before .before .before .before .before .before .before .before .before .before .before .before .before .before .before .before .before .before .before .pre in let l = c .before .before .before .before .before .before .loop in let inv = l .inv in let x = c .before .before .before .before .before .before .before .arguments-at .ensures .lower (l .i) (search needs) in let w = c .before .before .before .before .before .before .before .before .wide .ensures in let h = p .1 .1 .1 .1 .0 in let k = inv .lenM in let long = p .1 .1 .0 in (p .0, (inv .run .grown .stored, (omega arith, (omega arith, inv .past))))
 
--- src/lib.rt:363:13
 same-length : tie.Need-same-length Inv-loop μ-loop
 same-length c = c .before .before .before .before .before .before .before .before .before .before .evaluate .ensures .does .grown .lenK ∙ c .before .before .before .before .before .before .before .before .before .before .before .before .before .before .before .before .before .loop .inv .run .grown .lenK
 
--- src/lib.rt:363:13
 same-length-2 : tie.Need-same-length-2 Inv-loop μ-loop
 same-length-2 c = c .before .before .before .before .before .before .before .before .before .before .evaluate .ensures .does .grown .lenE ∙ c .before .before .before .before .before .before .before .before .before .before .before .before .before .before .before .before .before .loop .inv .run .grown .lenE
 
--- src/lib.rt:363:13
 same-length-3 : tie.Need-same-length-3 Inv-loop μ-loop
 same-length-3 c = c .before .before .before .before .before .before .before .before .before .before .evaluate .ensures .does .grown .lenP ∙ c .before .before .before .before .before .before .before .before .before .before .before .before .before .before .before .before .before .loop .inv .run .grown .lenP
 
--- src/lib.rt:363:13
 same-length-4 : tie.Need-same-length-4 Inv-loop μ-loop
 same-length-4 c = c .before .before .before .before .before .before .before .before .before .before .evaluate .kept .1 .1 .1 .1 .1 .1 .1 .1 .1 .1 .1 .1 .1 .0 ∙ c .before .before .before .before .before .before .before .before .before .before .before .before .before .before .before .before .before .loop .inv .lenM
 
--- src/lib.rt:363:13
 same-length-5 : tie.Need-same-length-5 Inv-loop μ-loop
 same-length-5 c = c .before .before .before .before .before .before .before .before .before .before .before .before .before .before .before .before .before .loop .inv .lenV
 
--- src/lib.rt:363:13
 returns : tie.Need-returns Inv-loop μ-loop
 returns c = let a = c .before .before .before .before .before .before .before .before .before .before .before .before .before .before .before .before .before .before .before .before .before .before .before .before .before .before .before .before .before .before .before .args in let p = c .before .before .before .before .before .before .before .before .before .before .before .before .before .before .before .before .before .before .before .before .before .before .before .before .before .before .before .before .before .before .before .pre in arguments-stop (a .kinds .now) (a .ends .now) (a .pool .now) (a .z) (a .rule) (bindingsIn (a .bound .now) (a .pairs .now) (a .globals .now)) (c .before .before .before .before .before .before .before .before .before .before .before .before .before .before .before .before .before .loop .inv) (search needs) (c .before .before .before .before .before .before .before .before .before .before .evaluate .ensures) _ (c .if1 .taken)
 
--- src/lib.rt:365:9
 mul-values : tie.Need-mul-values Inv-loop μ-loop
 mul-values c = search needs
 
--- src/lib.rt:365:9
 slice-write-values : tie.Need-slice-write-values Inv-loop μ-loop
 slice-write-values c = let f = c .before .before .before .before .before .before .before .before .before .before .before .before .before .before .before .before .before .before .arguments-at .ensures .few in let v = c .before .before .before .before .before .before .before .before .before .before .before .before .before .before .before .before .before .loop .inv .lenV in let t = c .before .before .before .before .before .before .before .before .before .before .before .before .before .before .before .before .loop-test .taken in let h = c .before .before .before .before .before .before .before .before .before .before .before .before .before .before .before .before .before .before .before .before .before .before .before .before .before .before .before .before .before .before .before .pre .1 .1 .1 .1 .1 in omega arith
 
--- src/lib.rt:367:9
 add-i : tie.Need-add-i Inv-loop μ-loop
 add-i c = search needs
 
--- src/lib.rt:360:5
 loop-less : tie.Need-loop-less Inv-loop μ-loop
 loop-less c = search needs
 
--- src/lib.rt:360:5
 loop-again : tie.Need-loop-again Inv-loop μ-loop
 loop-again c = let a = c .before .before .before .before .before .before .before .before .before .before .before .before .before .before .before .before .before .before .before .before .before .before .before .before .before .before .before .before .before .before .before .before .args in let p = c .before .before .before .before .before .before .before .before .before .before .before .before .before .before .before .before .before .before .before .before .before .before .before .before .before .before .before .before .before .before .before .before .pre in arguments-turn (a .kinds .now) (a .ends .now) (a .pool .now) (a .z) (a .rule) (bindingsIn (a .bound .now) (a .pairs .now) (a .globals .now)) (c .before .before .before .before .before .before .before .before .before .before .before .before .before .before .before .before .before .before .loop .inv) (search needs) (c .before .before .before .before .before .before .before .before .before .before .before .evaluate .ensures) (let f = c .before .before .before .before .before .before .before .before .before .before .before .before .before .before .before .before .before .before .before .arguments-at .ensures .few in let v = c .before .before .before .before .before .before .before .before .before .before .before .before .before .before .before .before .before .before .loop .inv .lenV in let t = c .before .before .before .before .before .before .before .before .before .before .before .before .before .before .before .before .before .loop-test .taken in let h = p .1 .1 .1 .1 .1 in omega arith) (c .before .before .before .before .before .before .before .before .before .before .before .evaluate .kept .1 .1 .1 .1 .1 .1 .1 .1 .1 .1 .1 .1 .1 .0) (c .before .if1 .left)
 
--- src/lib.rt:369:5
 pass-requires : tie.Need-pass-requires Inv-loop μ-loop
 pass-requires c κs = search needs
 
--- src/lib.rt:331:1
 same-length-6 : tie.Need-same-length-6 Inv-loop μ-loop
 same-length-6 c = c .before .before .loop .inv .run .grown .lenK
 
--- src/lib.rt:331:1
 same-length-7 : tie.Need-same-length-7 Inv-loop μ-loop
 same-length-7 c = c .before .before .loop .inv .run .grown .lenE
 
--- src/lib.rt:331:1
 same-length-8 : tie.Need-same-length-8 Inv-loop μ-loop
 same-length-8 c = c .before .before .loop .inv .run .grown .lenP
 
--- src/lib.rt:331:1
 same-length-9 : tie.Need-same-length-9 Inv-loop μ-loop
 same-length-9 c = c .before .before .loop .inv .lenM
 
--- src/lib.rt:331:1
 same-length-10 : tie.Need-same-length-10 Inv-loop μ-loop
 same-length-10 c = c .before .before .loop .inv .lenV
 
--- src/lib.rt:331:1
 returns-2 : tie.Need-returns-2 Inv-loop μ-loop
 returns-2 c = let a = c .before .before .before .before .before .before .before .before .before .before .before .before .before .before .before .before .args in let p = c .before .before .before .before .before .before .before .before .before .before .before .before .before .before .before .before .pre in arguments-done (a .kinds .now) (a .ends .now) (a .pool .now) (a .z) (a .rule) (bindingsIn (a .bound .now) (a .pairs .now) (a .globals .now)) (c .before .before .loop .inv) (c .before .before .before .arguments-at .ensures .is ∙ ap (argumentsFor (a .kinds .now) (a .ends .now) (a .pool .now) (a .z)) (c .before .before .before .before .wide .ensures)) (c .before .loop-test .left) (c .pass .ensures)
 

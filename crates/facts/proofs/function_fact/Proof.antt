@@ -3,39 +3,30 @@ use borrow.Author.Needs.{needs}
 use Rattle.facts.proofs.function_fact.Statement.{statement}
 use Rattle.facts.proofs.function_fact.Tie as tie
 
--- src/lib.rt:497:9
 custom-of-requires : tie.Need-custom-of-requires
 custom-of-requires c κs = search needs
 
--- src/lib.rt:498:22
 enum-known-custom : tie.Need-enum-known-custom
 enum-known-custom c = search needs
 
--- src/lib.rt:499:9
 enum-told : tie.Need-enum-told
 enum-told c = search needs
 
--- src/lib.rt:499:9
 returns : tie.Need-returns
 returns c = call-none _ (c .before .before .custom-of .ensures) (c .enum-told .given .1)
 
--- src/lib.rt:501:9
 variable-of-requires : tie.Need-variable-of-requires
 variable-of-requires c κs = search needs
 
--- src/lib.rt:503:22
 enum-known-variable : tie.Need-enum-known-variable
 enum-known-variable c = search needs
 
--- src/lib.rt:504:25
 enum-told-2 : tie.Need-enum-told-2
 enum-told-2 c = search needs
 
--- src/lib.rt:491:1
 returns-2 : tie.Need-returns-2
 returns-2 c = call-some _ (c .before .before .before .before .before .before .before .custom-of .ensures) (c .before .before .before .before .before .custom .given .1) (c .before .before .before .variable-of .ensures) (c .before .variable .given .1)
 
--- src/lib.rt:491:1
 returns-3 : tie.Need-returns-3
 returns-3 c = call-other _ (c .before .before .before .before .before .before .custom-of .ensures) (c .before .before .before .before .custom .given .1) (c .before .before .variable-of .ensures) (c .enum-told2 .given .1)
 

@@ -7,31 +7,24 @@ use borrow.Author.Needs.{needs}
 use Rattle.facts.proofs.wanted_bare.Statement.{statement}
 use Rattle.facts.proofs.wanted_bare.Tie as tie
 
--- src/lib.rt:486:9
 evaluate-requires : tie.Need-evaluate-requires
 evaluate-requires c κs = let p = c .before .before .before .before .before .before .before .before .before .before .before .before .before .before .pre in (p .0, (p .1 .0, (p .1 .1 .1 .1, (p .1 .1 .0, p .1 .1 .1 .0))))
 
--- src/lib.rt:487:5
 asks-requires : tie.Need-asks-requires
 asks-requires c κs = search needs
 
--- src/lib.rt:462:1
 same-length : tie.Need-same-length
 same-length c = search needs
 
--- src/lib.rt:462:1
 same-length-2 : tie.Need-same-length-2
 same-length-2 c = search needs
 
--- src/lib.rt:462:1
 same-length-3 : tie.Need-same-length-3
 same-length-3 c = search needs
 
--- src/lib.rt:462:1
 same-length-4 : tie.Need-same-length-4
 same-length-4 c = search needs
 
--- src/lib.rt:462:1
 returns : tie.Need-returns
 returns c = let a = c .before .before .before .before .before .before .before .before .before .before .before .before .before .before .before .before .before .before .before .before .before .before .before .before .args in let pre = c .before .before .before .before .before .before .before .before .before .before .before .before .before .before .before .before .before .before .before .before .before .before .before .before .pre in let prog = programFor (a .kinds .now) (a .ends .now) (a .pool .now) (a .z) in let σ = bindingsIn (a .bound .now) (a .pairs .now) (a .globals .now) in let expr = exprFor (a .kinds .now) (a .ends .now) (a .pool .now) (a .z) in bare-asks prog (a .rule) σ (a .i) (expr (a .e)) (c .before .before .before .before .before .before .before .before .before .evaluate .result) (checks-value (c .before .before .before .before .before .before .before .before .before .evaluate .ensures)) (c .asks .ensures)
 

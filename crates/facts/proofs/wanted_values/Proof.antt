@@ -9,59 +9,45 @@ use borrow.Author.Needs.{needs}
 use Rattle.facts.proofs.wanted_values.Statement.{statement}
 use Rattle.facts.proofs.wanted_values.Tie as tie
 
--- src/lib.rt:453:9
 evaluate-requires : tie.Need-evaluate-requires
 evaluate-requires c κs = let p = c .before .before .before .before .before .before .before .before .before .before .before .before .before .before .pre in (p .0, (p .1 .0, (p .1 .1 .1 .1 .0, (p .1 .1 .0, p .1 .1 .1 .0))))
 
--- src/lib.rt:455:9
 asks-requires : tie.Need-asks-requires
 asks-requires c κs = search needs
 
--- src/lib.rt:455:9
 same-length : tie.Need-same-length
 same-length c = search needs
 
--- src/lib.rt:455:9
 same-length-2 : tie.Need-same-length-2
 same-length-2 c = search needs
 
--- src/lib.rt:455:9
 same-length-3 : tie.Need-same-length-3
 same-length-3 c = search needs
 
--- src/lib.rt:455:9
 same-length-4 : tie.Need-same-length-4
 same-length-4 c = search needs
 
--- src/lib.rt:455:9
 returns : tie.Need-returns
 returns c = let a = c .before .before .before .before .before .before .before .before .before .before .before .before .before .before .before .before .before .before .before .before .before .before .before .before .before .before .args in let pre = c .before .before .before .before .before .before .before .before .before .before .before .before .before .before .before .before .before .before .before .before .before .before .before .before .before .before .pre in let prog = programFor (a .kinds .now) (a .ends .now) (a .pool .now) (a .z) in let σ = bindingsIn (a .bound .now) (a .pairs .now) (a .globals .now) in let expr = exprFor (a .kinds .now) (a .ends .now) (a .pool .now) (a .z) in values-refused prog (a .rule) σ (expr (a .left)) (expr (a .right)) (c .before .before .before .before .before .before .before .before .before .before .before .evaluate .result) (checks-value (c .before .before .before .before .before .before .before .before .before .before .before .evaluate .ensures)) (c .before .if1 .taken) (c .asks .ensures)
 
--- src/lib.rt:457:9
 evaluate-requires-2 : tie.Need-evaluate-requires-2
 evaluate-requires-2 c κs = let p = c .before .before .before .before .before .before .before .before .before .before .before .before .before .before .before .before .before .before .before .before .before .before .before .before .before .before .before .before .before .pre in let e = c .before .before .before .before .before .before .before .before .before .before .before .before .before .before .evaluate in (p .0, (e .ensures .does .grown .stored, (p .1 .1 .1 .1 .1, (let k = e .kept .1 .1 .1 .1 .1 .1 .1 .1 .1 .1 .1 .1 .1 .0 in let h = p .1 .1 .0 in omega arith, e .ensures .past (c .before .before .before .before .if1 .left)))))
 
--- src/lib.rt:458:5
 asks-requires-2 : tie.Need-asks-requires-2
 asks-requires-2 c κs = search needs
 
--- src/lib.rt:428:1
 same-length-5 : tie.Need-same-length-5
 same-length-5 c = c .before .before .before .before .before .before .before .before .before .evaluate2 .ensures .does .grown .lenK ∙ c .before .before .before .before .before .before .before .before .before .before .before .before .before .before .before .before .before .before .before .before .before .before .before .before .evaluate .ensures .does .grown .lenK
 
--- src/lib.rt:428:1
 same-length-6 : tie.Need-same-length-6
 same-length-6 c = c .before .before .before .before .before .before .before .before .before .evaluate2 .ensures .does .grown .lenE ∙ c .before .before .before .before .before .before .before .before .before .before .before .before .before .before .before .before .before .before .before .before .before .before .before .before .evaluate .ensures .does .grown .lenE
 
--- src/lib.rt:428:1
 same-length-7 : tie.Need-same-length-7
 same-length-7 c = c .before .before .before .before .before .before .before .before .before .evaluate2 .ensures .does .grown .lenP ∙ c .before .before .before .before .before .before .before .before .before .before .before .before .before .before .before .before .before .before .before .before .before .before .before .before .evaluate .ensures .does .grown .lenP
 
--- src/lib.rt:428:1
 same-length-8 : tie.Need-same-length-8
 same-length-8 c = c .before .before .before .before .before .before .before .before .before .evaluate2 .kept .1 .1 .1 .1 .1 .1 .1 .1 .1 .1 .1 .1 .1 .0 ∙ c .before .before .before .before .before .before .before .before .before .before .before .before .before .before .before .before .before .before .before .before .before .before .before .before .evaluate .kept .1 .1 .1 .1 .1 .1 .1 .1 .1 .1 .1 .1 .1 .0
 
--- src/lib.rt:428:1
 returns-2 : tie.Need-returns-2
 returns-2 c = let a = c .before .before .before .before .before .before .before .before .before .before .before .before .before .before .before .before .before .before .before .before .before .before .before .before .before .before .before .before .before .before .before .before .before .before .before .before .before .before .before .args in let pre = c .before .before .before .before .before .before .before .before .before .before .before .before .before .before .before .before .before .before .before .before .before .before .before .before .before .before .before .before .before .before .before .before .before .before .before .before .before .before .before .pre in let prog = programFor (a .kinds .now) (a .ends .now) (a .pool .now) (a .z) in let σ = bindingsIn (a .bound .now) (a .pairs .now) (a .globals .now) in let expr = exprFor (a .kinds .now) (a .ends .now) (a .pool .now) (a .z) in values-ask prog (a .rule) σ (expr (a .left)) (expr (a .right)) (c .before .before .before .before .before .before .before .before .before .before .before .before .before .before .before .before .before .before .before .before .before .before .before .before .evaluate .result) (checks-value (c .before .before .before .before .before .before .before .before .before .before .before .before .before .before .before .before .before .before .before .before .before .before .before .before .evaluate .ensures)) (c .before .before .before .before .before .before .before .before .before .evaluate2 .result) (c .before .before .before .before .before .before .before .before .before .before .before .before .before .before .if1 .left) (checks-value (c .before .before .before .before .before .before .before .before .before .evaluate2 .ensures)) (c .asks2 .ensures)
 

@@ -1,0 +1,202 @@
+-- Laws of the readers of proofs: what an admitted job's proofs have, and the bounds of the numbers in them.
+use mathlib.Core.Path.{_≡_, refl, sym, ap, subst, _∙_}
+use mathlib.Core.Logic.{_⊎_, inl, inr}
+use mathlib.Core.Bool.{Bool, true, false, not, _&&_}
+use mathlib.Core.List.{List, [], _∷_, map, List·Memᴰ, List·Memᴰ·not-nil, List·Memᴰ·cases-cons, Memᴰ·map}
+use Prim.Native.Nat.{ℕ, zero, suc, _+_, _≤_, _<_, _%_}
+use native.Mathlib.Omega.{arith}
+use native.Mathlib.Nat.{not-suc-le-zero, le-of-suc-le-suc}
+use lib.Dec.{eqb, leb, ltb, lit<}
+use lib.ListN.{length, getD, drop, length-take, length-drop}
+use Rattle.model.specs.Cell.{Cell, noCell}
+use Rattle.model.specs.Program as program
+use Rattle.model.specs.Program.{Binding, references, substitution}
+use Rattle.model.specs.Decode.{word, readBindings, readJustification, readProof}
+use Rattle.model.specs.Load.{counts, below, ruleProofFits, proofFits, proofRefers}
+use Rattle.model.specs.Walk.{noProof}
+use Rattle.model.proofs.Tests.{or-cases, not-true, eq-of, lt-of, le-of, and-left, and-right, never}
+use Rattle.decode.specs.View.{cell, propositionOf, justificationOf, rulePremises, rulePairs, Justifies}
+use Rattle.decode.specs.declared.Proposition.{Proposition}
+use Rattle.decode.specs.declared.RuleStep.{RuleStep}
+use Rattle.decode.specs.declared.Justification.{Justification}
+use Rattle.load.specs.Held.{tablesFor}
+use Rattle.load.specs.declared.sizes.Sizes.{Sizes}
+use Rattle.program.specs.Ready.{Ready}
+use Rattle.program.specs.Read.{proofsFor, proofCell, premisesFor, pairsFor, ClaimAt, JustificationAt, PremisesAt, SubstitutionAt}
+use Rattle.program.proofs.Laws.{table-long, fits}
+use Rattle.program.proofs.Reading.{below-at, refers}
+
+-- a place of what was read is a place of the cells
+pub read-at : {A : Type 0} (read : Cell → A) (cs : List Cell) (d : A) (k : ℕ) → k < length cs → getD (map read cs) k d ≡ read (getD cs k noCell)
+read-at read [] d k h = absurd (not-suc-le-zero h)
+read-at read (c ∷ cs) d zero h = refl
+read-at read (c ∷ cs) d (suc k) h = read-at read cs d k (le-of-suc-le-suc h)
+
+-- a member of a list whose numbers lie below n
+pub below-in : (n : ℕ) (xs : List ℕ) → below n xs ≡ true → (x : ℕ) → List·Memᴰ x xs → x < n
+below-in n [] e x m = absurd (List·Memᴰ·not-nil m)
+below-in n (y ∷ ys) e x m = go (List·Memᴰ·cases-cons m) (below-in n ys (and-right (ltb y n) _ e) x)
+  where
+    go : (x ≡ y) ⊎ List·Memᴰ x ys → (List·Memᴰ x ys → x < n) → x < n
+    go (inl h) k = rw h (lt-of y n (and-left _ _ e))
+    go (inr m) k = k m
+
+-- the operand counts of the kinds of proofs but a rule's, and the least that a justification needs
+abbrev proofCounts : List ℕ
+proofCounts = 2 ∷ 0 ∷ 5 ∷ 4 ∷ 3 ∷ 5 ∷ 3 ∷ 2 ∷ []
+
+abbrev leastWords : List ℕ
+leastWords = 0 ∷ 4 ∷ 5 ∷ 4 ∷ 3 ∷ 5 ∷ 3 ∷ []
+
+-- the cell of a proof by a rule that fits
+rule-proof-long : (c : Cell) → ruleProofFits c ≡ true → (4 + word c 3 ≤ length (c .words)) × (length (rulePremises c) ≤ 4096) × (length (rulePairs c) ≤ 64)
+rule-proof-long c q =
+    let front = and-left _ (eqb (length (rulePairs c) % 2) 0) q in
+    let inner = and-left _ (leb (length (rulePairs c)) 64) front in
+    let start = and-left _ (leb (word c 3) 4096) inner in
+    let four = le-of 4 (length (c .words)) (and-left _ (leb (word c 3) (length (drop 4 (c .words)))) start) in
+    let long = le-of (word c 3) (length (drop 4 (c .words))) (and-right (leb 4 (length (c .words))) _ start) in
+    let few = le-of (word c 3) 4096 (and-right (leb 4 (length (c .words)) && leb (word c 3) (length (drop 4 (c .words)))) _ inner) in
+    let most = le-of (length (rulePairs c)) 64 (and-right (leb 4 (length (c .words)) && leb (word c 3) (length (drop 4 (c .words))) && leb (word c 3) 4096) _ front) in
+    (omega (arith, length-drop 4 (c .words)), omega (arith, length-take (word c 3) (drop 4 (c .words))), most)
+
+-- a proof's cell that fits: by a rule, or with its kind's count
+proof-cases : (c : Cell) → proofFits c ≡ true → ((c .kind ≡ 1) × (ruleProofFits c ≡ true)) ⊎ ((eqb (c .kind) 1 ≡ false) × (counts proofCounts c ≡ true))
+proof-cases c e = go (or-cases (eqb (c .kind) 1 && ruleProofFits c) _ e)
+  where
+    go : ((eqb (c .kind) 1 && ruleProofFits c) ≡ true) ⊎ ((not (eqb (c .kind) 1) && counts proofCounts c) ≡ true)
+        → ((c .kind ≡ 1) × (ruleProofFits c ≡ true)) ⊎ ((eqb (c .kind) 1 ≡ false) × (counts proofCounts c ≡ true))
+    go (inl h) = inl (eq-of (c .kind) 1 (and-left _ _ h), and-right (eqb (c .kind) 1) _ h)
+    go (inr h) = inr (not-true (eqb (c .kind) 1) (and-left _ _ h), and-right (not (eqb (c .kind) 1)) _ h)
+
+proof-long : (c : Cell) → proofFits c ≡ true → (2 ≤ length (c .words)) × (getD leastWords (c .kind) 0 ≤ length (c .words))
+proof-long c e = go (proof-cases c e)
+  where
+    by-kind : (k : ℕ) (ws : List ℕ) → eqb k 1 ≡ false → counts proofCounts (cell k ws) ≡ true → (2 ≤ length ws) × (getD leastWords k 0 ≤ length ws)
+    by-kind zero ws n h = let l = eq-of (length ws) 2 (and-right (ltb 0 8) _ h) in (omega arith, omega arith)
+    by-kind (suc zero) ws n h = never (sym n)
+    by-kind (suc (suc zero)) ws n h = let l = eq-of (length ws) 5 (and-right (ltb 2 8) _ h) in (omega arith, omega arith)
+    by-kind (suc (suc (suc zero))) ws n h = let l = eq-of (length ws) 4 (and-right (ltb 3 8) _ h) in (omega arith, omega arith)
+    by-kind (suc (suc (suc (suc zero)))) ws n h = let l = eq-of (length ws) 3 (and-right (ltb 4 8) _ h) in (omega arith, omega arith)
+    by-kind (suc (suc (suc (suc (suc zero))))) ws n h = let l = eq-of (length ws) 5 (and-right (ltb 5 8) _ h) in (omega arith, omega arith)
+    by-kind (suc (suc (suc (suc (suc (suc zero)))))) ws n h = let l = eq-of (length ws) 3 (and-right (ltb 6 8) _ h) in (omega arith, omega arith)
+    by-kind (suc (suc (suc (suc (suc (suc (suc zero))))))) ws n h = let l = eq-of (length ws) 2 (and-right (ltb 7 8) _ h) in (omega arith, omega arith)
+    by-kind (suc (suc (suc (suc (suc (suc (suc (suc k)))))))) ws n h =
+        absurd (omega (arith, lt-of (suc (suc (suc (suc (suc (suc (suc (suc k)))))))) 8 (and-left _ (eqb (length ws) 0) h)))
+
+    go : ((c .kind ≡ 1) × (ruleProofFits c ≡ true)) ⊎ ((eqb (c .kind) 1 ≡ false) × (counts proofCounts c ≡ true)) → (2 ≤ length (c .words)) × (getD leastWords (c .kind) 0 ≤ length (c .words))
+    go (inl h) =
+        let l = rule-proof-long c (h .1) .0 in
+        let k : getD leastWords (c .kind) 0 ≡ 4 = ap (λ (n : ℕ). getD leastWords n 0) (h .0) in
+        (omega arith, omega arith)
+    go (inr h) = by-kind (c .kind) (c .words) (h .0) (h .1)
+
+rule-fits : (c : Cell) → c .kind ≡ 1 → proofFits c ≡ true → ruleProofFits c ≡ true
+rule-fits c k e = go (proof-cases c e)
+  where
+    go : ((c .kind ≡ 1) × (ruleProofFits c ≡ true)) ⊎ ((eqb (c .kind) 1 ≡ false) × (counts proofCounts c ≡ true)) → ruleProofFits c ≡ true
+    go (inl h) = h .1
+    go (inr h) = never (sym (h .0) ∙ ap (λ (n : ℕ). eqb n 1) k)
+
+-- a rule step's cell is of kind 1
+rule-kind : (c : Cell) {f : ℕ} {ps : List ℕ} {σ : List Binding} → program.rule f ps σ ≡ readJustification c → c .kind ≡ 1
+rule-kind c e = go (c .kind) (c .words) e
+  where
+    go : (k : ℕ) (ws : List ℕ) {f : ℕ} {ps : List ℕ} {σ : List Binding} → program.rule f ps σ ≡ readJustification (cell k ws) → k ≡ 1
+    go zero ws e = let z : _≡_ {A = ℕ} 0 1 = cc in absurd (omega arith)
+    go (suc zero) ws e = refl
+    go (suc (suc zero)) ws e = let z : _≡_ {A = ℕ} 0 1 = cc in absurd (omega arith)
+    go (suc (suc (suc zero))) ws e = let z : _≡_ {A = ℕ} 0 1 = cc in absurd (omega arith)
+    go (suc (suc (suc (suc zero)))) ws e = let z : _≡_ {A = ℕ} 0 1 = cc in absurd (omega arith)
+    go (suc (suc (suc (suc (suc zero))))) ws e = let z : _≡_ {A = ℕ} 0 1 = cc in absurd (omega arith)
+    go (suc (suc (suc (suc (suc (suc zero)))))) ws e = let z : _≡_ {A = ℕ} 0 1 = cc in absurd (omega arith)
+    go (suc (suc (suc (suc (suc (suc (suc k))))))) ws e = let z : _≡_ {A = ℕ} 0 1 = cc in absurd (omega arith)
+
+-- the parts of a proof's test
+module _ (terms i : ℕ) (q : program.Proof) (e : proofRefers terms i q ≡ true) where
+  front : (ltb (q .claim .lhs) terms && ltb (q .claim .rhs) terms && below i (references (q .justification))) ≡ true
+  front = and-left _ (below terms (map (λ b. b .term) (substitution (q .justification)))) e
+
+  sides : (ltb (q .claim .lhs) terms && ltb (q .claim .rhs) terms) ≡ true
+  sides = and-left _ (below i (references (q .justification))) front
+
+  lhs-within : q .claim .lhs < terms
+  lhs-within = lt-of (q .claim .lhs) terms (and-left _ (ltb (q .claim .rhs) terms) sides)
+
+  rhs-within : q .claim .rhs < terms
+  rhs-within = lt-of (q .claim .rhs) terms (and-right (ltb (q .claim .lhs) terms) _ sides)
+
+  references-below : below i (references (q .justification)) ≡ true
+  references-below = and-right (ltb (q .claim .lhs) terms && ltb (q .claim .rhs) terms) _ front
+
+  substitution-within : (b : Binding) → List·Memᴰ b (substitution (q .justification)) → b .term < terms
+  substitution-within b m = below-in terms (map (λ b. b .term) (substitution (q .justification)))
+      (and-right (ltb (q .claim .lhs) terms && ltb (q .claim .rhs) terms && below i (references (q .justification))) _ e) (b .term) (Memᴰ·map (λ (c : Binding). c .term) m)
+
+-- the proofs of an admitted job, as they are read
+module _ {K E P : List ℕ} {z : Sizes} (R : Ready K E P z) (p : ℕ) (h : p < z .proofs) where
+  -- proof p, from its cell
+  pub proof-for : getD (proofsFor K E P z) p noProof ≡ readProof (proofCell K E P z p)
+  proof-for = read-at readProof (tablesFor K E P z .proofs) noProof p (rw (table-long K E P z 9 (lit< tt)) h)
+
+  proof-fits : proofFits (proofCell K E P z p) ≡ true
+  proof-fits = fits R 9 (lit< tt) p h
+
+  proof-refers : proofRefers (z .terms) p (readProof (proofCell K E P z p)) ≡ true
+  proof-refers = refers R 9 (lit< tt) p h
+
+  module _ {us : List ℕ} (q : us ≡ proofCell K E P z p .words) where
+    pub claim-words : 2 ≤ length us
+    claim-words = subst (λ (ws : List ℕ). 2 ≤ length ws) (sym q) (proof-long (proofCell K E P z p) proof-fits .0)
+
+    pub claim-read : {r : Proposition} → ((k : ℕ) → propositionOf r ≡ readProof (cell k us) .claim) → ClaimAt K E P z p r
+    claim-read {r} v =
+        let s : propositionOf r ≡ readProof (proofCell K E P z p) .claim = v (proofCell K E P z p .kind) ∙ ap (λ (ws : List ℕ). readProof (cell (proofCell K E P z p .kind) ws) .claim) q in
+        record {
+          is = s ∙ ap (λ (x : program.Proof). x .claim) (sym proof-for);
+          lhs = subst (λ (x : program.Proposition). x .lhs < z .terms) (sym s) (lhs-within (z .terms) p (readProof (proofCell K E P z p)) proof-refers);
+          rhs = subst (λ (x : program.Proposition). x .rhs < z .terms) (sym s) (rhs-within (z .terms) p (readProof (proofCell K E P z p)) proof-refers);
+        }
+
+  module _ {c : Cell} (q : c ≡ proofCell K E P z p) where
+    pub justification-words : getD (0 ∷ 4 ∷ 5 ∷ 4 ∷ 3 ∷ 5 ∷ 3 ∷ []) (c .kind) 0 ≤ length (c .words)
+    justification-words = subst (λ (x : Cell). getD leastWords (x .kind) 0 ≤ length (x .words)) (sym q) (proof-long (proofCell K E P z p) proof-fits .1)
+
+    pub justification-read : {r : Justification} → Justifies r c → JustificationAt K E P z p r
+    justification-read {r} j =
+        let s : justificationOf r (premisesFor K E P z p) (pairsFor K E P z p) ≡ readJustification (proofCell K E P z p) = subst (λ (x : Cell). justificationOf r (rulePremises x) (rulePairs x) ≡ readJustification x) q (j .is) in
+        record {
+          is = s ∙ ap (λ (x : program.Proof). x .justification) (sym proof-for);
+          lower = below-in p (references (getD (proofsFor K E P z) p noProof .justification))
+              (ap (λ (x : program.Proof). below p (references (x .justification))) proof-for ∙ references-below (z .terms) p (readProof (proofCell K E P z p)) proof-refers);
+          isRule = λ t e. rule-kind (proofCell K E P z p) (ap (λ (x : Justification). justificationOf x (premisesFor K E P z p) (pairsFor K E P z p)) (sym e) ∙ s);
+        }
+
+  -- where it is by a rule
+  module _ (k : proofCell K E P z p .kind ≡ 1) where
+    by-rule : readJustification (proofCell K E P z p) ≡ program.rule (word (proofCell K E P z p) 2) (premisesFor K E P z p) (readBindings (pairsFor K E P z p))
+    by-rule = ap (λ (n : ℕ). readJustification (cell n (proofCell K E P z p .words))) k
+
+    rule-proof : (4 + word (proofCell K E P z p) 3 ≤ length (proofCell K E P z p .words)) × (length (premisesFor K E P z p) ≤ 4096) × (length (pairsFor K E P z p) ≤ 64)
+    rule-proof = rule-proof-long (proofCell K E P z p) (rule-fits (proofCell K E P z p) k proof-fits)
+
+    module _ {us : List ℕ} (q : us ≡ proofCell K E P z p .words) where
+      pub step-words : 4 + getD us 3 0 ≤ length us
+      step-words = subst (λ (ws : List ℕ). 4 + getD ws 3 0 ≤ length ws) (sym q) (rule-proof .0)
+
+      pub premises-read : {xs : List ℕ} → xs ≡ rulePremises (cell 1 us) → PremisesAt K E P z p xs
+      premises-read {xs} r = let s = r ∙ ap (λ (ws : List ℕ). rulePremises (cell 1 ws)) q in
+          record {
+            is = s;
+            few = subst (λ (ys : List ℕ). length ys ≤ 4096) (sym s) (rule-proof .1);
+            lower = below-at p xs (ap (below p) s ∙ ap (λ (j : program.Justification). below p (references j)) (sym by-rule) ∙ references-below (z .terms) p (readProof (proofCell K E P z p)) proof-refers);
+          }
+
+      pub substitution-read : {xs : List ℕ} → xs ≡ rulePairs (cell 1 us) → SubstitutionAt K E P z p xs
+      substitution-read {xs} r = let s = r ∙ ap (λ (ws : List ℕ). rulePairs (cell 1 ws)) q in
+          record {
+            is = s;
+            few = subst (λ (ys : List ℕ). length ys ≤ 64) (sym s) (rule-proof .2);
+            within = λ b m. substitution-within (z .terms) p (readProof (proofCell K E P z p)) proof-refers b
+                (subst (λ (j : program.Justification). List·Memᴰ b (substitution j)) (sym by-rule) (subst (λ (ws : List ℕ). List·Memᴰ b (readBindings ws)) s m));
+          }
