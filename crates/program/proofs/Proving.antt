@@ -1,7 +1,7 @@
 -- Laws of the readers of proofs: what an admitted job's proofs have, and the bounds of the numbers in them.
 use mathlib.Core.Path.{_≡_, refl, sym, ap, subst, _∙_}
 use mathlib.Core.Logic.{_⊎_, inl, inr}
-use mathlib.Core.Bool.{Bool, true, false, not, _&&_}
+use mathlib.Core.Bool.{true, false, not, _&&_}
 use mathlib.Core.List.{List, [], _∷_, map, List·Memᴰ, List·Memᴰ·not-nil, List·Memᴰ·cases-cons, Memᴰ·map}
 use Prim.Native.Nat.{ℕ, zero, suc, _+_, _≤_, _<_, _%_}
 use native.Mathlib.Omega.{arith}
@@ -17,7 +17,6 @@ use Rattle.model.specs.Walk.{noProof}
 use Rattle.model.proofs.Tests.{or-cases, not-true, eq-of, lt-of, le-of, and-left, and-right, never}
 use Rattle.decode.specs.View.{cell, propositionOf, justificationOf, rulePremises, rulePairs, Justifies}
 use Rattle.decode.specs.declared.Proposition.{Proposition}
-use Rattle.decode.specs.declared.RuleStep.{RuleStep}
 use Rattle.decode.specs.declared.Justification.{Justification}
 use Rattle.load.specs.Held.{tablesFor}
 use Rattle.load.specs.declared.sizes.Sizes.{Sizes}
