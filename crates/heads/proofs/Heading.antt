@@ -51,7 +51,7 @@ pub pushed-bindings : {T : List ℕ} {at : ℕ} {e : Effect} {T′ : List ℕ} {
 pushed-bindings {T} {at} {e} S G p = sym (over-others e (readBindings (drop at T)) (readBindings S ++ readBindings G)) ∙ ap (λ (σ : List Binding). σ ++ (readBindings S ++ readBindings G)) (sym (p .bindings))
 
 -- a store that is sane with more bindings
-sane-fewer : {prog : Program} {σ τ : List Binding} {s s′ : List Term} → Sane prog σ s → Extends s s′ → Sane prog τ s′ → Sane prog σ s′
+pub sane-fewer : {prog : Program} {σ τ : List Binding} {s s′ : List Term} → Sane prog σ s → Extends s s′ → Sane prog τ s′ → Sane prog σ s′
 sane-fewer {s = s} {s′ = s′} w x v = let l : length s ≤ length s′ = extends-length x in record { ordered = v .ordered; bound = λ b m. let h = w .bound b m in omega arith; rows = v .rows }
 
 module _ (K E P : List ℕ) (z : Sizes) (rule : ℕ) (S G : List ℕ) (q : Proposition) (marking : Bool) where

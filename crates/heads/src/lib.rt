@@ -128,7 +128,7 @@ fn head_actions(
 }
 
 // Clears the marks, if they are used.
-fn clear_if(marking: bool, marks: &mut [u32])
+pub fn clear_if(marking: bool, marks: &mut [u32])
     ensures { λ _. ⌜ now (marks .exit) ≡ clearedIf marking (now (marks .entry)) ⌝ }
 {
     if !marking {
@@ -154,7 +154,7 @@ fn is_covered(
 }
 
 // The claimed pair is among the pairs: by the marks where it is reflexive, else by the unions.
-fn is_claimed(
+pub fn is_claimed(
     kinds: &[u32],
     ends: &[u32],
     pool: &[u32],

@@ -1,0 +1,131 @@
+-- The terms and the proofs of a job that steps read.
+use mathlib.Core.Path.{_≡_, refl, sym, ap, subst, _∙_}
+use mathlib.Core.Bool.{true}
+use mathlib.Core.List.{List, [], _∷_, map, List·Memᴰ}
+use mathlib.Core.Option.{Option, some}
+use Prim.Native.Nat.{ℕ, zero, suc, _+_, _-_, _<_, _≤_}
+use native.Mathlib.Omega.{arith}
+use native.Mathlib.Nat.{not-suc-le-zero, le-of-suc-le-suc}
+use lib.Dec.{leb, lit<}
+use lib.ListN.{length, getD, take, drop, length-append, length-drop, length-map}
+use lib.Seq.{take-length, take-append-le}
+use borrow.Rule.Slice.PartMut.{putMid, mid-len, take-put, drop-put}
+use Rattle.model.specs.Cell.{Cell, noCell, tabulate, cellAt, cellsOf}
+use Rattle.model.specs.Layout.{cellCount}
+use Rattle.model.specs.Term.{Term, getTerm, readTerm}
+use Rattle.model.specs.Program as program
+use Rattle.model.specs.Program.{references}
+use Rattle.model.specs.Load.{termFits}
+use Rattle.model.specs.Evaluate.{children}
+use Rattle.model.specs.Walk.{claimAt}
+use Rattle.model.proofs.Tests.{le-of, and-right, never}
+use Rattle.model.proofs.Store.{Extends, extends-same, extends-then, extends-length, get-extends}
+use Rattle.decode.specs.View.{cell, propositionOf, justificationOf}
+use Rattle.decode.specs.declared.Proposition.{Proposition}
+use Rattle.decode.specs.declared.Justification.{Justification}
+use Rattle.termdag.specs.Store.{termsIn}
+use Rattle.cells.specs.declared.Fill.{Fill}
+use Rattle.marks.proofs.Laws.{terms-length}
+use Rattle.load.specs.Held.{sizesIn, tablesFor}
+use Rattle.load.specs.declared.sizes.Sizes.{Sizes}
+use Rattle.program.specs.Ready.{Ready}
+use Rattle.program.specs.Read.{proofsFor, proofCell, premisesFor, pairsFor, ClaimAt, JustificationAt}
+use Rattle.program.proofs.Laws.{table-long, fits}
+use Rattle.program.proofs.Proving.{claim-read}
+use Rattle.steps.specs.Step.{Small, TermsFirst, SecondPart}
+
+-- a term's cell that fits has at most 16 children
+cell-few : (c : Cell) → termFits c ≡ true → length (children (some (readTerm c))) ≤ 16
+unfolding readTerm
+cell-few c e = go (c .kind) (c .words) e
+  where
+    go : (k : ℕ) (ws : List ℕ) → termFits (cell k ws) ≡ true → length (children (some (readTerm (cell k ws)))) ≤ 16
+    go zero ws q = omega arith
+    go (suc zero) ws q = omega arith
+    go (suc (suc zero)) ws q = let b = le-of (length ws) 17 (and-right (leb 1 (length ws)) _ q) in omega (arith, length-drop 1 ws)
+    go (suc (suc (suc k))) ws q = never q
+
+get-read : (cs : List Cell) (t : ℕ) → t < length cs → getTerm (map readTerm cs) t ≡ some (readTerm (getD cs t noCell))
+unfolding getTerm
+get-read [] t h = absurd (not-suc-le-zero h)
+get-read (c ∷ cs) zero h = refl
+get-read (c ∷ cs) (suc t) h = get-read cs t (le-of-suc-le-suc h)
+
+module _ {A : Type 0} (f : ℕ → A) where
+  tabulate-long : (n : ℕ) → length (tabulate n f) ≡ n
+  unfolding tabulate
+  tabulate-long zero = refl
+  tabulate-long (suc n) = let h = tabulate-long n in rw (length-append (tabulate n f) (f n ∷ [])) (omega arith)
+
+  take-tabulate : (d n m : ℕ) → n ≡ d + m → take m (tabulate n f) ≡ tabulate m f
+  unfolding tabulate
+  take-tabulate zero n m e = let q : n ≡ m = omega arith in rw q (ap (λ (k : ℕ). take k (tabulate m f)) (sym (tabulate-long m)) ∙ take-length (tabulate m f))
+  take-tabulate (suc d) n m e =
+      let q : n ≡ suc (d + m) = omega arith in
+      let l = tabulate-long (d + m) in
+      ap (λ (k : ℕ). take m (tabulate k f)) q ∙ take-append-le m (tabulate (d + m) f) (f (d + m) ∷ []) (omega arith) ∙ take-tabulate d (d + m) m refl
+
+take-cells : (K E P : List ℕ) (m n : ℕ) → m ≤ n → take m (drop 0 (cellsOf K E P n)) ≡ cellsOf K E P m
+unfolding cellsOf
+take-cells K E P m n h = take-tabulate (cellAt K E P) (n - m) n m (omega arith)
+
+terms-within : (z : Sizes) → z .terms ≤ cellCount (sizesIn z)
+terms-within z = omega arith
+
+pub first-grows : {K E P : List ℕ} {z : Sizes} {s s′ : List Term} → TermsFirst K E P z s → Extends s s′ → TermsFirst K E P z s′
+first-grows F x = record { extends = extends-then (F .extends) x }
+
+module _ {K E P : List ℕ} {z : Sizes} (R : Ready K E P z) where
+  terms-long : length (tablesFor K E P z .terms) ≡ z .terms
+  terms-long = table-long K E P z 0 (lit< tt)
+
+  pub first-long : {s : List Term} → TermsFirst K E P z s → z .terms ≤ length s
+  first-long F = let l = extends-length (F .extends) in let m = length-map (tablesFor K E P z .terms) readTerm in let n = terms-long in omega arith
+
+  pub first-cells : (k e p : List ℕ) (f : Fill) → TermsFirst K E P z (termsIn k e p f) → z .terms ≤ f .cells
+  first-cells k e p f F = let l = first-long F in let m = terms-length k e p f in omega arith
+
+  pub term-small : {s : List Term} {t : ℕ} → TermsFirst K E P z s → t < z .terms → Small s t
+  term-small {s} {t} F h =
+      let n = terms-long in
+      let m = length-map (tablesFor K E P z .terms) readTerm in
+      record {
+        inside = let l = first-long F in omega arith;
+        few = subst (λ (o : Option Term). length (children o) ≤ 16)
+            (sym (get-extends (map readTerm (tablesFor K E P z .terms)) s (F .extends) t (omega arith) ∙ get-read (tablesFor K E P z .terms) t (omega arith)))
+            (cell-few (getD (tablesFor K E P z .terms) t noCell) (fits R 0 (lit< tt) t h));
+      }
+
+  -- a store that the job's terms were loaded into, and one that grew
+  pub first-loaded : {s : List Term} → s ≡ map readTerm (cellsOf K E P (z .terms)) → TermsFirst K E P z s
+  first-loaded e = record { extends = subst (Extends (map readTerm (tablesFor K E P z .terms))) (ap (map readTerm) (take-cells K E P (z .terms) (cellCount (sizesIn z)) (let h = terms-within z in omega arith)) ∙ sym e) extends-same }
+
+  -- what proof x claims
+  pub claim-inside : (x : ℕ) → x < z .proofs → claimAt (proofsFor K E P z) x .rhs < z .terms
+  claim-inside x h =
+      let c : ClaimAt K E P z x (record { lhs = getD (proofCell K E P z x .words) 0 0; rhs = getD (proofCell K E P z x .words) 1 0 }) = claim-read R x h refl (λ k. refl) in
+      subst (λ (q : program.Proposition). q .rhs < z .terms) (c .is) (c .rhs)
+
+pub claim-of : {K E P : List ℕ} {z : Sizes} {n x : ℕ} {a : Proposition} → ClaimAt K E P z n a → n ≡ x → propositionOf a ≡ claimAt (proofsFor K E P z) x
+claim-of {K} {E} {P} {z} C e = C .is ∙ ap (claimAt (proofsFor K E P z)) e
+
+-- a proof that proof p refers to
+pub reference-inside : {K E P : List ℕ} {z : Sizes} {p : ℕ} {j g : Justification} {x n : ℕ} → JustificationAt K E P z p j → p < z .proofs → j ≡ g
+    → List·Memᴰ x (references (justificationOf g (premisesFor K E P z p) (pairsFor K E P z p))) → n ≡ x → n < z .proofs
+reference-inside {K} {E} {P} {z} {p} {j} {g} {x} J h e m q =
+    let l = J .lower x (subst (λ (y : program.Justification). List·Memᴰ x (references y)) (ap (λ (y : Justification). justificationOf y (premisesFor K E P z p) (pairsFor K E P z p)) (sym e) ∙ J .is) m) in
+    omega arith
+
+-- the second part of the scratch
+module _ (c : ℕ) (W : List ℕ) (h : c + c ≤ length W) where
+  pub second-long : length (take (c + c - c) (drop c W)) ≡ c
+  second-long = mid-len c (c + c) W h ∙ (omega arith)
+
+  pub second-part : (ys : List ℕ) → length ys ≡ length (take (c + c - c) (drop c W)) → SecondPart c W (putMid c (c + c - c) W ys)
+  second-part ys l = let m = second-long in record {
+    before = take-put c (c + c - c) W ys (omega arith);
+    behind = drop-put c (c + c) W ys (omega arith) h (omega arith);
+  }
+
+pub part-same : (c : ℕ) (W : List ℕ) → SecondPart c W W
+part-same c W = record { before = refl; behind = refl }

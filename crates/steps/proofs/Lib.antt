@@ -1,0 +1,10 @@
+pub mod AddLaws
+pub mod AddViewLaws
+pub mod ConcludeLaws
+pub mod JobLaws
+pub mod Keeping
+pub mod KindLaws
+pub mod MergeLaws
+pub mod PlainLaws
+pub mod Splitting
+pub mod ViewLaws

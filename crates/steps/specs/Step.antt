@@ -1,0 +1,105 @@
+-- The contracts of proof steps.
+use Prim.Native.Nat.{ℕ, _+_, _≤_, _<_}
+use mathlib.Core.Path.{_≡_}
+use mathlib.Core.List.{List, [], map}
+use mathlib.Core.Bool.{Bool, true, false}
+use mathlib.Core.Option.{Option, none, some}
+use lib.Dec.{eqb}
+use lib.ListN.{length, getD, take, drop}
+use Rattle.model.specs.Term.{Term, getTerm, readTerm}
+use Rattle.model.specs.Program as program
+use Rattle.model.specs.Program.{Binding}
+use Rattle.model.specs.Check.{Room}
+use Rattle.model.specs.Evaluate.{children}
+use Rattle.model.specs.Action.{among}
+use Rattle.model.specs.Normalize.{App}
+use Rattle.model.specs.Walk.{front, noProof, claimAt}
+use Rattle.model.proofs.Store.{Extends, Ordered}
+use Rattle.cells.specs.declared.Fill.{Fill}
+use Rattle.decode.specs.View.{justificationOf}
+use Rattle.decode.specs.declared.Justification.{Justification}
+use Rattle.termdag.specs.Store.{termsIn, Stored, roomOf}
+use Rattle.memo.specs.Memo.{Past}
+use Rattle.outcome.specs.Does.{Grown, passed, outcomeOf, Does}
+use Rattle.outcome.specs.declared.Refusal.{Refusal}
+use Rattle.outcome.specs.declared.Checked.{Checked}
+use Rattle.marks.proofs.Marking.{Marks}
+use Rattle.load.specs.Held.{tablesFor}
+use Rattle.load.specs.declared.sizes.Sizes.{Sizes}
+use Rattle.program.specs.Ready.{Ready, programFor}
+use Rattle.program.specs.Read.{proofsFor, premisesFor, pairsFor}
+use Rattle.evaluate.specs.Evaluation.{Sane}
+use Rattle.context.specs.Contexts.{GlobalPairs}
+use Rattle.steps.specs.declared.Views.{Views}
+use Rattle.steps.specs.Concluding.{Merging, addView, concludes}
+
+-- The refusal, unless the test passes.
+abbrev pub refusedUnless : Bool → Refusal → Refusal
+refusedUnless true r = passed
+refusedUnless false r = r
+
+-- The application of a head, if there is one.
+abbrev pub appWith : Option ℕ → List ℕ → Option App
+appWith none xs = none
+appWith (some f) xs = some (record { head = f; args = xs })
+
+-- Term t lies in the store and has at most 16 children, as every term of a job has.
+pub record Small (s : List Term) (t : ℕ) : Type 0 where
+  pub inside : t < length s
+  pub few : length (children (getTerm s t)) ≤ 16
+
+-- The views as the code holds them; the inputs are read again where they are needed.
+abbrev pub mergingOf : Views → List ℕ → Merging
+mergingOf v xs = record { head = v .head; inputs = xs; old = v .old; new = v .new }
+
+-- What the view of a merged value, added to the store, claims: for all pairs ps of the merge that the marks m stand for.
+pub record AddsView (p : ℕ) (q : program.Proposition) (t head value : ℕ) (k e pool : List ℕ) (f : Fill) (m k′ e′ pool′ : List ℕ) (r : Checked) : Type 0 where
+  pub does : (ps : List program.Proposition) → Ordered (termsIn k e pool f) → value < length (termsIn k e pool f) → length k ≤ length m
+      → ((q .lhs ≡ q .rhs → ⊥) → among q ps ≡ false) → (eqb (q .lhs) (q .rhs) ≡ true → Marks (termsIn k e pool f) m ps)
+      → Does k e pool f k′ e′ pool′ (r .fill) (r .refusal) tt (addView (roomOf k pool) p q head (front (children (getTerm (termsIn k e pool f) t))) value ps (termsIn k e pool f))
+
+-- A step that adds no term.
+abbrev pub isPlain : Justification → Bool
+isPlain Justification.Fiat = true
+isPlain (Justification.Rule s) = true
+isPlain (Justification.MergeFn s) = false
+isPlain (Justification.Trans a b) = true
+isPlain (Justification.Sym a) = true
+isPlain (Justification.Congr s) = false
+isPlain (Justification.ContainerNormalize a) = true
+isPlain Justification.Eval = true
+
+-- The step of proof p that adds no term: the outcome is the definition's for whatever pairs the unions U and the marks m stand for.
+pub record PlainStep (K E P : List ℕ) (z : Sizes) (U m : List ℕ) (s : List Term) (p : ℕ) (q : program.Proposition) (j : Justification) (r : Refusal) : Type 0 where
+  pub outcome : (room : Room) (ps : List program.Proposition) → GlobalPairs ps U m → isPlain j ≡ true
+      → outcomeOf r tt s ≡ concludes room (programFor K E P z) (proofsFor K E P z) ps p q (justificationOf j (premisesFor K E P z p) (pairsFor K E P z p)) s
+
+-- The store has the job's terms first.
+pub record TermsFirst (K E P : List ℕ) (z : Sizes) (s : List Term) : Type 0 where
+  pub extends : Extends (map readTerm (tablesFor K E P z .terms)) s
+
+-- Of some words only the second c are written.
+pub record SecondPart (c : ℕ) (W W′ : List ℕ) : Type 0 where
+  pub before : take c W′ ≡ take c W
+  pub behind : drop (c + c) W′ ≡ drop (c + c) W
+
+-- What a step may be handed: an admitted job, a sane store that has the job's terms first, a memo, and two words of scratch for each cell of the store.
+pub record Prepared (K E P : List ℕ) (z : Sizes) (k e p : List ℕ) (f : Fill) (memo scratch : List ℕ) : Type 0 where
+  pub ready : Ready K E P z
+  pub stored : Stored k e p f
+  pub sane : Sane (programFor K E P z) [] (termsIn k e p f)
+  pub terms : TermsFirst K E P z (termsIn k e p f)
+  pub fits : z .expressions + z .expressions < length memo
+  pub past : Past memo
+  pub long : length k + length k ≤ length scratch
+
+-- The step of proof n, where the first words of the scratch W are the marks of the global pairs: the outcome is the definition's for whatever pairs these and the unions U stand for.
+-- After a value the memo can be used again, and the store grew and is sane; of the scratch only the second C words are written.
+pub record Concludes (K E P : List ℕ) (z : Sizes) (U k e p : List ℕ) (f : Fill) (W : List ℕ) (n : ℕ) (k′ e′ p′ : List ℕ) (r : Checked) (memo′ W′ : List ℕ) : Type 0 where
+  pub grown : Grown k e p f k′ e′ p′ (r .fill)
+  pub does : (ps : List program.Proposition) → GlobalPairs ps U (take (length k) W) → Does k e p f k′ e′ p′ (r .fill) (r .refusal) tt
+      (concludes (roomOf k p) (programFor K E P z) (proofsFor K E P z) ps n (claimAt (proofsFor K E P z) n) (getD (proofsFor K E P z) n noProof .justification) (termsIn k e p f))
+  pub past : r .refusal .number ≡ 0 → Past memo′
+  pub grows : r .refusal .number ≡ 0 → Extends (termsIn k e p f) (termsIn k′ e′ p′ (r .fill))
+  pub sane : r .refusal .number ≡ 0 → (σ : List Binding) → Sane (programFor K E P z) σ (termsIn k e p f) → Sane (programFor K E P z) σ (termsIn k′ e′ p′ (r .fill))
+  pub scratch : SecondPart (length k) W W′

@@ -1,0 +1,782 @@
+// Proof steps other than a rule's, from `check_proof_with_context` of proof_checker.rs: what they do once the proofs that they refer to are checked.
+use cells::Fill;
+use cells::wide;
+use context::is_global_pair;
+use decode::Justification;
+use decode::Proposition;
+use decode::Term;
+use heads::clear_if;
+use heads::is_claimed;
+use heads::run_merge;
+use load::sizes::Sizes;
+use outcome::Checked;
+use outcome::Refusal;
+use outcome::add_app;
+use outcome::refuse1;
+use program::Looked;
+use program::normalize_container;
+use program::read::claim_at;
+use program::read::justification_at;
+use termdag::children;
+ghost use mathlib.Core.Path.{_≡_};
+ghost use mathlib.Core.List.{List, [], _∷_};
+ghost use mathlib.Core.Bool.{false, _||_, cond};
+ghost use Prim.Native.Nat.{_≤_, _<_};
+ghost use lib.Dec.{eqb, ltb};
+ghost use lib.ListN.{length, getD, set};
+ghost use Rattle.model.specs.Term as terms;
+ghost use Rattle.model.specs.Program as program;
+ghost use Rattle.model.specs.Check.{checkThat, addNode};
+ghost use Rattle.model.specs.Evaluate as evaluate;
+ghost use Rattle.model.specs.Action.{sameProposition};
+ghost use Rattle.model.specs.Normalize.{asApp};
+ghost use Rattle.model.specs.Walk.{claimAt, isLiteral, front};
+ghost use Rattle.decode.specs.View.{propositionOf};
+ghost use Rattle.termdag.specs.Store.{termsIn, Stored, roomOf};
+ghost use Rattle.outcome.specs.Does.{outcomeOf, Does};
+ghost use Rattle.marks.specs.Marks as closing;
+ghost use Rattle.program.specs.Ready.{Ready, programFor, optionOf};
+ghost use Rattle.program.specs.Read.{proofsFor, ClaimAt, JustificationAt};
+ghost use Rattle.evaluate.specs.Evaluation.{Checks};
+ghost use Rattle.actions.specs.Acting.{Standing};
+ghost use Rattle.context.specs.Contexts.{GlobalPairs};
+ghost use Rattle.heads.specs.Heading.{claimedBy};
+ghost use Rattle.steps.specs.Concluding.{transStep, symStep, fiatStep, normalizeStep, childMatches, congrClaims, congrStep, mergeStep, bothReflexive, compareViews, readViews};
+ghost use Rattle.steps.specs.Step.{refusedUnless, appWith, Small, mergingOf, AddsView, TermsFirst, PlainStep, SecondPart, Prepared, Concludes};
+
+// Two views to merge: their function and their values.
+pub struct Views {
+    pub refusal: Refusal,
+    pub head: u32,
+    pub old: u32,
+    pub new: u32,
+}
+
+// The refusal, unless the test passes.
+fn check_that(test: bool, refusal: Refusal) -> Refusal
+    ensures { λ r. ⌜ r ≡ refusedUnless test refusal ⌝ }
+{
+    if test {
+        return Refusal {
+            number: 0,
+            count: 0,
+            fields: [0; 6],
+        };
+    }
+    refusal
+}
+
+// `Trans`: a, then b.
+fn trans_step(p: u32, q: Proposition, a: Proposition, b: Proposition) -> Refusal
+    ensures { λ r. ⌜ ((s : List terms.Term) → outcomeOf r tt s ≡ transStep p (propositionOf q) (propositionOf a) (propositionOf b) s) ⌝ }
+{
+    let first = check_that(
+        a.rhs == b.lhs,
+        Refusal {
+            number: 21,
+            count: 3,
+            fields: [p, a.rhs, b.lhs, 0, 0, 0],
+        },
+    );
+    if first.number != 0 {
+        return first;
+    }
+    check_that(
+        (q.lhs == a.lhs) & (q.rhs == b.rhs),
+        Refusal {
+            number: 20,
+            count: 5,
+            fields: [p, q.lhs, q.rhs, a.lhs, b.rhs, 0],
+        },
+    )
+}
+
+// `Sym`: a, turned round.
+fn sym_step(p: u32, q: Proposition, a: Proposition) -> Refusal
+    ensures { λ r. ⌜ ((s : List terms.Term) → outcomeOf r tt s ≡ symStep p (propositionOf q) (propositionOf a) s) ⌝ }
+{
+    check_that(
+        (q.lhs == a.rhs) & (q.rhs == a.lhs),
+        Refusal {
+            number: 20,
+            count: 5,
+            fields: [p, q.lhs, q.rhs, a.rhs, a.lhs, 0],
+        },
+    )
+}
+
+// A term is a literal.
+fn is_literal(kinds: &[u32], ends: &[u32], pool: &[u32], fill: Fill, t: u32) -> bool
+    requires { ⌜ Stored (now kinds) (now ends) (now pool) fill ⌝ }
+    requires { ⌜ t < fill .cells ⌝ }
+    ensures { λ r. ⌜ r ≡ isLiteral (terms.getTerm (termsIn (now (kinds .entry)) (now (ends .entry)) (now (pool .entry)) fill) t) ⌝ }
+{
+    let term = termdag::get(kinds, ends, pool, fill, wide(t));
+    match term {
+        Term::Lit(_) => true,
+        Term::Var(_) => false,
+        Term::App(_) => false,
+    }
+}
+
+// `Fiat`: a literal, equal to itself, or a global pair.
+fn fiat_step(
+    kinds: &[u32],
+    ends: &[u32],
+    pool: &[u32],
+    fill: Fill,
+    unions: &[u32],
+    gmarks: &[u32],
+    p: u32,
+    q: Proposition,
+) -> Refusal
+    requires { ⌜ Stored (now kinds) (now ends) (now pool) fill ⌝ }
+    requires { ⌜ q .lhs < fill .cells ⌝ }
+    ensures { λ r. ⌜ ((ps : List program.Proposition) → GlobalPairs ps (now (unions .entry)) (now (gmarks .entry)) → outcomeOf r tt (termsIn (now (kinds .entry)) (now (ends .entry)) (now (pool .entry)) fill) ≡ fiatStep ps p (propositionOf q) (termsIn (now (kinds .entry)) (now (ends .entry)) (now (pool .entry)) fill)) ⌝ }
+{
+    let literal = is_literal(kinds, ends, pool, fill, q.lhs);
+    let global = is_global_pair(unions, gmarks, q);
+    check_that(
+        (literal & (q.lhs == q.rhs)) | global,
+        Refusal {
+            number: 33,
+            count: 3,
+            fields: [p, q.lhs, q.rhs, 0, 0, 0],
+        },
+    )
+}
+
+// 1 or 0.
+fn flag(test: bool) -> u32
+    ensures { λ r. ⌜ r ≡ cond test 1 0 ⌝ }
+{
+    if test {
+        return 1;
+    }
+    0
+}
+
+// `ContainerNormalize`: the right side of a has the normal form that is claimed.
+fn normalize_step(
+    kinds: &[u32],
+    ends: &[u32],
+    pool: &[u32],
+    z: Sizes,
+    skinds: &[u32],
+    sends: &[u32],
+    spool: &[u32],
+    fill: Fill,
+    p: u32,
+    q: Proposition,
+    a: Proposition,
+) -> Refusal
+    requires { ⌜ Ready (now kinds) (now ends) (now pool) z ⌝ }
+    requires { ⌜ Stored (now skinds) (now sends) (now spool) fill ⌝ }
+    requires { ⌜ a .rhs < fill .cells ⌝ }
+    ensures { λ r. ⌜ outcomeOf r tt (termsIn (now (skinds .entry)) (now (sends .entry)) (now (spool .entry)) fill) ≡ normalizeStep (programFor (now (kinds .entry)) (now (ends .entry)) (now (pool .entry)) z) p (propositionOf q) (propositionOf a) (termsIn (now (skinds .entry)) (now (sends .entry)) (now (spool .entry)) fill) ⌝ }
+{
+    let n = normalize_container(kinds, ends, pool, z, skinds, sends, spool, fill, a.rhs);
+    let same = q.lhs == a.lhs;
+    check_that(
+        same & (q.rhs == n),
+        Refusal {
+            number: 40,
+            count: 5,
+            fields: [p, a.rhs, n, q.rhs, flag(same), 0],
+        },
+    )
+}
+
+// The head of a term, if it is an application.
+fn app_head(kinds: &[u32], ends: &[u32], pool: &[u32], fill: Fill, t: u32) -> Looked
+    requires { ⌜ Stored (now kinds) (now ends) (now pool) fill ⌝ }
+    requires { ⌜ t < fill .cells ⌝ }
+    ensures { λ r. ⌜ appWith (optionOf r) (evaluate.children (terms.getTerm (termsIn (now (kinds .entry)) (now (ends .entry)) (now (pool .entry)) fill) t)) ≡ asApp (terms.getTerm (termsIn (now (kinds .entry)) (now (ends .entry)) (now (pool .entry)) fill) t) ⌝ }
+{
+    let term = termdag::get(kinds, ends, pool, fill, wide(t));
+    match term {
+        Term::Lit(_) => Looked::None,
+        Term::Var(_) => Looked::None,
+        Term::App(f) => Looked::Some(f),
+    }
+}
+
+// The child that a congruence replaces.
+fn child_matches(args: &[u32], p: u32, i: u32, lhs: u32) -> Refusal
+    requires { ⌜ length (now args) ≤ 16 ⌝ }
+    ensures { λ r. ⌜ ((s : List terms.Term) → outcomeOf r tt s ≡ childMatches p i lhs (now (args .entry)) s) ⌝ }
+    ensures { λ r. ⌜ (r .number ≡ 0 → i < length (now (args .entry))) ⌝ }
+{
+    let n = args.len();
+    let k = wide(i);
+    if n <= k {
+        return Refusal {
+            number: 23,
+            count: 3,
+            fields: [p, i, n as u32, 0, 0, 0],
+        };
+    }
+    let child = args[k];
+    check_that(
+        child == lhs,
+        Refusal {
+            number: 24,
+            count: 4,
+            fields: [p, lhs, child, i, 0, 0],
+        },
+    )
+}
+
+// What a congruence claims, where it gives the term t of a term equal to lhs.
+fn congr_claims(p: u32, q: Proposition, lhs: u32, t: u32) -> Refusal
+    ensures { λ r. ⌜ ((s : List terms.Term) → outcomeOf r tt s ≡ congrClaims p (propositionOf q) lhs t s) ⌝ }
+{
+    let first = check_that(
+        q.rhs == t,
+        Refusal {
+            number: 25,
+            count: 3,
+            fields: [p, q.rhs, t, 0, 0, 0],
+        },
+    );
+    if first.number != 0 {
+        return first;
+    }
+    check_that(
+        q.lhs == lhs,
+        Refusal {
+            number: 26,
+            count: 1,
+            fields: [p, 0, 0, 0, 0, 0],
+        },
+    )
+}
+
+// The application of a head to the children of t, of which child i is replaced by x.
+fn replace_child(
+    kinds: &mut [u32],
+    ends: &mut [u32],
+    pool: &mut [u32],
+    fill: Fill,
+    t: u32,
+    head: u32,
+    i: usize,
+    x: u32,
+) -> Checked
+    requires { ⌜ Stored (now kinds) (now ends) (now pool) fill ⌝ }
+    requires { ⌜ Small (termsIn (now kinds) (now ends) (now pool) fill) t ⌝ }
+    requires { ⌜ i < length (evaluate.children (terms.getTerm (termsIn (now kinds) (now ends) (now pool) fill) t)) ⌝ }
+    ensures { λ r. ⌜ Does (now (kinds .entry)) (now (ends .entry)) (now (pool .entry)) fill (now (kinds .exit)) (now (ends .exit)) (now (pool .exit)) (r .fill) (r .refusal) (r .value) (addNode (roomOf (now (kinds .entry)) (now (pool .entry))) (terms.app head (set (evaluate.children (terms.getTerm (termsIn (now (kinds .entry)) (now (ends .entry)) (now (pool .entry)) fill) t)) i x)) (termsIn (now (kinds .entry)) (now (ends .entry)) (now (pool .entry)) fill)) ⌝ }
+{
+    let mut args = [0u32; 17];
+    let xs = children(kinds, ends, pool, fill, wide(t));
+    let n = xs.len();
+    cells::copy(&mut args, 0, xs);
+    args[i] = x;
+    add_app(kinds, ends, pool, fill, head, &args[..n])
+}
+
+// `Congr`: child i of the right side of a is replaced, by b.
+fn congr_step(
+    kinds: &mut [u32],
+    ends: &mut [u32],
+    pool: &mut [u32],
+    fill: Fill,
+    p: u32,
+    q: Proposition,
+    a: Proposition,
+    i: u32,
+    b: Proposition,
+) -> Checked
+    requires { ⌜ Stored (now kinds) (now ends) (now pool) fill ⌝ }
+    requires { ⌜ Small (termsIn (now kinds) (now ends) (now pool) fill) (a .rhs) ⌝ }
+    ensures { λ r. ⌜ Does (now (kinds .entry)) (now (ends .entry)) (now (pool .entry)) fill (now (kinds .exit)) (now (ends .exit)) (now (pool .exit)) (r .fill) (r .refusal) tt (congrStep (roomOf (now (kinds .entry)) (now (pool .entry))) p (propositionOf q) (propositionOf a) i (propositionOf b) (termsIn (now (kinds .entry)) (now (ends .entry)) (now (pool .entry)) fill)) ⌝ }
+{
+    let t = a.rhs;
+    let head = app_head(kinds, ends, pool, fill, t);
+    let Looked::Some(f) = head else {
+        return refuse1(22, p, fill);
+    };
+    let args = children(kinds, ends, pool, fill, wide(t));
+    let first = child_matches(args, p, i, b.lhs);
+    if first.number != 0 {
+        return Checked {
+            refusal: first,
+            value: 0,
+            fill,
+        };
+    }
+    let r = replace_child(kinds, ends, pool, fill, t, f, wide(i), b.rhs);
+    if r.refusal.number != 0 {
+        return r;
+    }
+    let refusal = congr_claims(p, q, a.lhs, r.value);
+    let have = r.fill;
+    Checked {
+        refusal,
+        value: 0,
+        fill: have,
+    }
+}
+
+// Two claims that are reflexive.
+fn both_reflexive(p: u32, a: Proposition, b: Proposition) -> Refusal
+    ensures { λ r. ⌜ ((s : List terms.Term) → outcomeOf r tt s ≡ bothReflexive p (propositionOf a) (propositionOf b) s) ⌝ }
+{
+    let first = check_that(
+        a.lhs == a.rhs,
+        Refusal {
+            number: 39,
+            count: 4,
+            fields: [p, 0, a.lhs, a.rhs, 0, 0],
+        },
+    );
+    if first.number != 0 {
+        return first;
+    }
+    check_that(
+        b.lhs == b.rhs,
+        Refusal {
+            number: 39,
+            count: 4,
+            fields: [p, 1, b.lhs, b.rhs, 0, 0],
+        },
+    )
+}
+
+// Views that are refused.
+fn refused_views(refusal: Refusal) -> Views
+    ensures { λ r. ⌜ r ≡ record { refusal = refusal; head = 0; old = 0; new = 0 } ⌝ }
+{
+    Views {
+        refusal,
+        head: 0,
+        old: 0,
+        new: 0,
+    }
+}
+
+// Two views, of the functions f and g with these arguments: the same function and the same inputs.
+fn compare_views(xs: &[u32], ys: &[u32], p: u32, f: u32, g: u32) -> Views
+    ensures { λ r. ⌜ ((s : List terms.Term) → outcomeOf (r .refusal) (mergingOf r (front (now (xs .entry)))) s ≡ compareViews p (record { head = f; args = now (xs .entry) }) (record { head = g; args = now (ys .entry) }) s) ⌝ }
+{
+    let m = xs.len();
+    let n = ys.len();
+    if f != g {
+        return refused_views(Refusal {
+            number: 34,
+            count: 3,
+            fields: [p, f, g, 0, 0, 0],
+        });
+    }
+    if m == 0 {
+        return refused_views(Refusal {
+            number: 35,
+            count: 2,
+            fields: [p, 0, 0, 0, 0, 0],
+        });
+    }
+    if n == 0 {
+        return refused_views(Refusal {
+            number: 35,
+            count: 2,
+            fields: [p, 1, 0, 0, 0, 0],
+        });
+    }
+    let i = m - 1;
+    let j = n - 1;
+    let refusal = check_that(
+        cells::same_words(&xs[..i], &ys[..j]),
+        Refusal {
+            number: 36,
+            count: 1,
+            fields: [p, 0, 0, 0, 0, 0],
+        },
+    );
+    Views {
+        refusal,
+        head: f,
+        old: xs[i],
+        new: ys[j],
+    }
+}
+
+// The views that two claims are of.
+fn read_views(
+    kinds: &[u32],
+    ends: &[u32],
+    pool: &[u32],
+    fill: Fill,
+    p: u32,
+    a: Proposition,
+    b: Proposition,
+) -> Views
+    requires { ⌜ Stored (now kinds) (now ends) (now pool) fill ⌝ }
+    requires { ⌜ a .rhs < fill .cells ⌝ }
+    requires { ⌜ b .rhs < fill .cells ⌝ }
+    ensures { λ r. ⌜ outcomeOf (r .refusal) (mergingOf r (front (evaluate.children (terms.getTerm (termsIn (now (kinds .entry)) (now (ends .entry)) (now (pool .entry)) fill) (a .rhs))))) (termsIn (now (kinds .entry)) (now (ends .entry)) (now (pool .entry)) fill) ≡ readViews p (propositionOf a) (propositionOf b) (termsIn (now (kinds .entry)) (now (ends .entry)) (now (pool .entry)) fill) ⌝ }
+{
+    let first = both_reflexive(p, a, b);
+    if first.number != 0 {
+        return refused_views(first);
+    }
+    let x = app_head(kinds, ends, pool, fill, a.rhs);
+    let y = app_head(kinds, ends, pool, fill, b.rhs);
+    let none = Refusal {
+        number: 37,
+        count: 3,
+        fields: [p, a.rhs, b.rhs, 0, 0, 0],
+    };
+    let Looked::Some(f) = x else {
+        return refused_views(none);
+    };
+    let Looked::Some(g) = y else {
+        return refused_views(none);
+    };
+    let xs = children(kinds, ends, pool, fill, wide(a.rhs));
+    let ys = children(kinds, ends, pool, fill, wide(b.rhs));
+    compare_views(xs, ys, p, f, g)
+}
+
+// The claimed pair is the view, equal to itself, or one that the marks stand for.
+fn view_claimed(
+    kinds: &[u32],
+    ends: &[u32],
+    pool: &[u32],
+    fill: Fill,
+    marks: &mut [u32],
+    p: u32,
+    q: Proposition,
+    view: u32,
+) -> Refusal
+    requires { ⌜ Stored (now kinds) (now ends) (now pool) fill ⌝ }
+    ensures { λ r. ⌜ ((s : List terms.Term) → outcomeOf r tt s ≡ checkThat (sameProposition (propositionOf q) (evaluate.same view) || claimedBy (eqb (q .lhs) (q .rhs)) false (ltb 0 (getD (closing.close (termsIn (now (kinds .entry)) (now (ends .entry)) (now (pool .entry)) fill) (fill .cells) (now (marks .entry))) (q .lhs) 0))) 38 (p ∷ q .lhs ∷ q .rhs ∷ []) s) ⌝ }
+{
+    let marking = q.lhs == q.rhs;
+    let covered = is_claimed(kinds, ends, pool, fill, marking, marks, false, q.lhs);
+    check_that(
+        ((q.lhs == view) & (q.rhs == view)) | covered,
+        Refusal {
+            number: 38,
+            count: 3,
+            fields: [p, q.lhs, q.rhs, 0, 0, 0],
+        },
+    )
+}
+
+// The view of a merged value is added, with the inputs of t, and the claimed pair looked for.
+fn add_view(
+    kinds: &mut [u32],
+    ends: &mut [u32],
+    pool: &mut [u32],
+    fill: Fill,
+    marks: &mut [u32],
+    p: u32,
+    q: Proposition,
+    t: u32,
+    head: u32,
+    value: u32,
+) -> Checked
+    requires { ⌜ Stored (now kinds) (now ends) (now pool) fill ⌝ }
+    requires { ⌜ Small (termsIn (now kinds) (now ends) (now pool) fill) t ⌝ }
+    requires { ⌜ 0 < length (evaluate.children (terms.getTerm (termsIn (now kinds) (now ends) (now pool) fill) t)) ⌝ }
+    ensures { λ r. ⌜ AddsView p (propositionOf q) t head value (now (kinds .entry)) (now (ends .entry)) (now (pool .entry)) fill (now (marks .entry)) (now (kinds .exit)) (now (ends .exit)) (now (pool .exit)) r ⌝ }
+{
+    let n = children(kinds, ends, pool, fill, wide(t)).len();
+    let r = replace_child(kinds, ends, pool, fill, t, head, n - 1, value);
+    if r.refusal.number != 0 {
+        return r;
+    }
+    let have = r.fill;
+    let refusal = view_claimed(kinds, ends, pool, have, marks, p, q, r.value);
+    Checked {
+        refusal,
+        value: 0,
+        fill: have,
+    }
+}
+
+// `MergeFn`: the views of a and b, merged by the function named.
+fn merge_step(
+    kinds: &[u32],
+    ends: &[u32],
+    pool: &[u32],
+    z: Sizes,
+    skinds: &mut [u32],
+    sends: &mut [u32],
+    spool: &mut [u32],
+    fill: Fill,
+    memo: &mut [u32],
+    marks: &mut [u32],
+    p: u32,
+    q: Proposition,
+    function: u32,
+    a: Proposition,
+    b: Proposition,
+) -> Checked
+    requires { ⌜ Standing (now kinds) (now ends) (now pool) z [] (now skinds) (now sends) (now spool) fill (now memo) (now marks) ⌝ }
+    requires { ⌜ Small (termsIn (now skinds) (now sends) (now spool) fill) (a .rhs) ⌝ }
+    requires { ⌜ Small (termsIn (now skinds) (now sends) (now spool) fill) (b .rhs) ⌝ }
+    ensures { λ r. ⌜ Checks (now (skinds .entry)) (now (sends .entry)) (now (spool .entry)) fill (now (skinds .exit)) (now (sends .exit)) (now (spool .exit)) (r .fill) (r .refusal) tt (now (memo .exit)) (mergeStep (roomOf (now (skinds .entry)) (now (spool .entry))) (programFor (now (kinds .entry)) (now (ends .entry)) (now (pool .entry)) z) p (propositionOf q) function (propositionOf a) (propositionOf b) (termsIn (now (skinds .entry)) (now (sends .entry)) (now (spool .entry)) fill)) ⌝ }
+{
+    let v = read_views(skinds, sends, spool, fill, p, a, b);
+    let first = v.refusal;
+    if first.number != 0 {
+        return Checked {
+            refusal: first,
+            value: 0,
+            fill,
+        };
+    }
+    let marking = q.lhs == q.rhs;
+    clear_if(marking, marks);
+    let m = run_merge(
+        kinds,
+        ends,
+        pool,
+        z,
+        skinds,
+        sends,
+        spool,
+        fill,
+        memo,
+        marking,
+        marks,
+        function,
+        v.old,
+        v.new,
+    );
+    if m.refusal.number != 0 {
+        return m;
+    }
+    add_view(
+        skinds,
+        sends,
+        spool,
+        m.fill,
+        marks,
+        p,
+        q,
+        a.rhs,
+        v.head,
+        m.value,
+    )
+}
+
+// What the step of proof p concludes that adds no term.
+fn plain_step(
+    kinds: &[u32],
+    ends: &[u32],
+    pool: &[u32],
+    z: Sizes,
+    unions: &[u32],
+    gmarks: &[u32],
+    skinds: &[u32],
+    sends: &[u32],
+    spool: &[u32],
+    fill: Fill,
+    p: u32,
+    q: Proposition,
+    j: Justification,
+) -> Refusal
+    requires { ⌜ Ready (now kinds) (now ends) (now pool) z ⌝ }
+    requires { ⌜ Stored (now skinds) (now sends) (now spool) fill ⌝ }
+    requires { ⌜ z .terms ≤ fill .cells ⌝ }
+    requires { ⌜ p < z .proofs ⌝ }
+    requires { ⌜ ClaimAt (now kinds) (now ends) (now pool) z p q ⌝ }
+    requires { ⌜ JustificationAt (now kinds) (now ends) (now pool) z p j ⌝ }
+    ensures { λ r. ⌜ PlainStep (now (kinds .entry)) (now (ends .entry)) (now (pool .entry)) z (now (unions .entry)) (now (gmarks .entry)) (termsIn (now (skinds .entry)) (now (sends .entry)) (now (spool .entry)) fill) p (propositionOf q) j r ⌝ }
+{
+    match j {
+        Justification::Fiat => fiat_step(skinds, sends, spool, fill, unions, gmarks, p, q),
+        Justification::Rule(_) => Refusal {
+            number: 0,
+            count: 0,
+            fields: [0; 6],
+        },
+        Justification::MergeFn(_) => Refusal {
+            number: 0,
+            count: 0,
+            fields: [0; 6],
+        },
+        Justification::Trans(x, y) => {
+            let a = claim_at(kinds, ends, pool, z, wide(x));
+            let b = claim_at(kinds, ends, pool, z, wide(y));
+            trans_step(p, q, a, b)
+        }
+        Justification::Sym(x) => {
+            let a = claim_at(kinds, ends, pool, z, wide(x));
+            sym_step(p, q, a)
+        }
+        Justification::Congr(_) => Refusal {
+            number: 0,
+            count: 0,
+            fields: [0; 6],
+        },
+        Justification::ContainerNormalize(x) => {
+            let a = claim_at(kinds, ends, pool, z, wide(x));
+            normalize_step(kinds, ends, pool, z, skinds, sends, spool, fill, p, q, a)
+        }
+        Justification::Eval => Refusal {
+            number: 41,
+            count: 1,
+            fields: [p, 0, 0, 0, 0, 0],
+        },
+    }
+}
+
+// `Congr`, with the claims of proofs x and y.
+fn congr_at(
+    kinds: &[u32],
+    ends: &[u32],
+    pool: &[u32],
+    z: Sizes,
+    skinds: &mut [u32],
+    sends: &mut [u32],
+    spool: &mut [u32],
+    fill: Fill,
+    p: u32,
+    q: Proposition,
+    x: u32,
+    i: u32,
+    y: u32,
+) -> Checked
+    requires { ⌜ Ready (now kinds) (now ends) (now pool) z ⌝ }
+    requires { ⌜ Stored (now skinds) (now sends) (now spool) fill ⌝ }
+    requires { ⌜ TermsFirst (now kinds) (now ends) (now pool) z (termsIn (now skinds) (now sends) (now spool) fill) ⌝ }
+    requires { ⌜ x < z .proofs ⌝ }
+    requires { ⌜ y < z .proofs ⌝ }
+    ensures { λ r. ⌜ Does (now (skinds .entry)) (now (sends .entry)) (now (spool .entry)) fill (now (skinds .exit)) (now (sends .exit)) (now (spool .exit)) (r .fill) (r .refusal) tt (congrStep (roomOf (now (skinds .entry)) (now (spool .entry))) p (propositionOf q) (claimAt (proofsFor (now (kinds .entry)) (now (ends .entry)) (now (pool .entry)) z) x) i (claimAt (proofsFor (now (kinds .entry)) (now (ends .entry)) (now (pool .entry)) z) y) (termsIn (now (skinds .entry)) (now (sends .entry)) (now (spool .entry)) fill)) ⌝ }
+{
+    let a = claim_at(kinds, ends, pool, z, wide(x));
+    let b = claim_at(kinds, ends, pool, z, wide(y));
+    congr_step(skinds, sends, spool, fill, p, q, a, i, b)
+}
+
+// `MergeFn`, with the claims of proofs x and y, and marks in the second part of the scratch.
+fn merge_at(
+    kinds: &[u32],
+    ends: &[u32],
+    pool: &[u32],
+    z: Sizes,
+    skinds: &mut [u32],
+    sends: &mut [u32],
+    spool: &mut [u32],
+    fill: Fill,
+    memo: &mut [u32],
+    scratch: &mut [u32],
+    p: u32,
+    q: Proposition,
+    function: u32,
+    x: u32,
+    y: u32,
+) -> Checked
+    requires { ⌜ Prepared (now kinds) (now ends) (now pool) z (now skinds) (now sends) (now spool) fill (now memo) (now scratch) ⌝ }
+    requires { ⌜ x < z .proofs ⌝ }
+    requires { ⌜ y < z .proofs ⌝ }
+    ensures { λ r. ⌜ Checks (now (skinds .entry)) (now (sends .entry)) (now (spool .entry)) fill (now (skinds .exit)) (now (sends .exit)) (now (spool .exit)) (r .fill) (r .refusal) tt (now (memo .exit)) (mergeStep (roomOf (now (skinds .entry)) (now (spool .entry))) (programFor (now (kinds .entry)) (now (ends .entry)) (now (pool .entry)) z) p (propositionOf q) function (claimAt (proofsFor (now (kinds .entry)) (now (ends .entry)) (now (pool .entry)) z) x) (claimAt (proofsFor (now (kinds .entry)) (now (ends .entry)) (now (pool .entry)) z) y) (termsIn (now (skinds .entry)) (now (sends .entry)) (now (spool .entry)) fill)) ⌝ }
+    ensures { λ r. ⌜ SecondPart (length (now (skinds .entry))) (now (scratch .entry)) (now (scratch .exit)) ⌝ }
+{
+    let a = claim_at(kinds, ends, pool, z, wide(x));
+    let b = claim_at(kinds, ends, pool, z, wide(y));
+    let c = skinds.len();
+    let d = c + c;
+    merge_step(
+        kinds,
+        ends,
+        pool,
+        z,
+        skinds,
+        sends,
+        spool,
+        fill,
+        memo,
+        &mut scratch[c..d],
+        p,
+        q,
+        function,
+        a,
+        b,
+    )
+}
+
+// What the step of proof p concludes, once the proofs that it refers to are checked. A rule's step passes: it is checked elsewhere.
+pub fn conclude(
+    kinds: &[u32],
+    ends: &[u32],
+    pool: &[u32],
+    z: Sizes,
+    unions: &[u32],
+    skinds: &mut [u32],
+    sends: &mut [u32],
+    spool: &mut [u32],
+    fill: Fill,
+    memo: &mut [u32],
+    scratch: &mut [u32],
+    p: u32,
+) -> Checked
+    requires { ⌜ Prepared (now kinds) (now ends) (now pool) z (now skinds) (now sends) (now spool) fill (now memo) (now scratch) ⌝ }
+    requires { ⌜ p < z .proofs ⌝ }
+    ensures { λ r. ⌜ Concludes (now (kinds .entry)) (now (ends .entry)) (now (pool .entry)) z (now (unions .entry)) (now (skinds .entry)) (now (sends .entry)) (now (spool .entry)) fill (now (scratch .entry)) p (now (skinds .exit)) (now (sends .exit)) (now (spool .exit)) r (now (memo .exit)) (now (scratch .exit)) ⌝ }
+{
+    let n = wide(p);
+    let q = claim_at(kinds, ends, pool, z, n);
+    let j = justification_at(kinds, ends, pool, z, n);
+    match j {
+        Justification::MergeFn(s) => merge_at(
+            kinds,
+            ends,
+            pool,
+            z,
+            skinds,
+            sends,
+            spool,
+            fill,
+            memo,
+            scratch,
+            p,
+            q,
+            s.function,
+            s.old_proof,
+            s.new_proof,
+        ),
+        Justification::Congr(s) => congr_at(
+            kinds,
+            ends,
+            pool,
+            z,
+            skinds,
+            sends,
+            spool,
+            fill,
+            p,
+            q,
+            s.proof,
+            s.child_index,
+            s.child_proof,
+        ),
+        _ => {
+            let c = skinds.len();
+            let refusal = plain_step(
+                kinds,
+                ends,
+                pool,
+                z,
+                unions,
+                &scratch[..c],
+                skinds,
+                sends,
+                spool,
+                fill,
+                p,
+                q,
+                j,
+            );
+            Checked {
+                refusal,
+                value: 0,
+                fill,
+            }
+        }
+    }
+}

@@ -1,0 +1,7 @@
+pub mod Walking
+pub mod Premises
+pub mod Operating
+pub mod Premising
+pub mod Bodies
+pub mod Justifying
+pub mod Tying

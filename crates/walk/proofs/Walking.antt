@@ -1,0 +1,121 @@
+-- One check that walks after another, and what happens in between.
+use mathlib.Core.Path.{_≡_, refl, sym, ap, subst, subst⁻¹, _∙_}
+use mathlib.Core.Bool.{Bool, true, false, _||_}
+use mathlib.Core.List.{List, [], _∷_}
+use Prim.Native.Nat.{ℕ, _+_, _<_, _≤_}
+use native.Mathlib.Omega.{arith}
+use lib.Dec.{eqb}
+use borrow.Author.Tests.{eqb-true, eqb-false, eq-eqb, ne-eqb}
+use lib.ListN.{length, getD, set, take, length-set}
+use lib.Seq.{getD-set-same, getD-set-other, take-set-le}
+use Rattle.model.specs.Term.{Term}
+use Rattle.model.specs.Program.{Proposition, Binding, Program}
+use Rattle.model.specs.Decode.{readBindings}
+use Rattle.model.specs.Check.{Outcome, ok, refused, Check, andThen, pure, Room}
+use Rattle.model.specs.Walk.{member}
+use Rattle.model.proofs.Store.{Extends, extends-same, extends-then}
+use Rattle.cells.specs.declared.Fill.{Fill}
+use Rattle.termdag.specs.Store.{termsIn, Stored, roomOf}
+use Rattle.memo.specs.Memo.{Past}
+use Rattle.outcome.specs.Does.{passed, Grown, Does}
+use Rattle.outcome.specs.declared.Refusal.{Refusal}
+use Rattle.outcome.specs.declared.Checked.{Checked}
+use Rattle.outcome.proofs.Laws.{ok-of, grown-same, grown-then, does-here, does-then, does-stop}
+use Rattle.load.specs.declared.sizes.Sizes.{Sizes}
+use Rattle.program.specs.Ready.{Ready, programFor}
+use Rattle.evaluate.specs.Evaluation.{Sane}
+use Rattle.context.specs.Contexts.{GlobalPairs}
+use Rattle.walk.specs.Walking.{Flags, Ground, Walked, After, Walks}
+
+after-same : {K E P : List ℕ} {z : Sizes} {F G k e p : List ℕ} {f : Fill} {memo W : List ℕ} → Ground K E P z F G k e p f memo W → After K E P z F G k e p f W k e p f memo W
+after-same g = record { ground = g; grows = extends-same; globals = refl }
+
+after-then : {K E P : List ℕ} {z : Sizes} {F G k e p : List ℕ} {f : Fill} {W k₁ e₁ p₁ : List ℕ} {f₁ : Fill} {memo₁ W₁ k₂ e₂ p₂ : List ℕ} {f₂ : Fill} {memo₂ W₂ : List ℕ} → length k₁ ≡ length k
+    → After K E P z F G k e p f W k₁ e₁ p₁ f₁ memo₁ W₁ → After K E P z F G k₁ e₁ p₁ f₁ W₁ k₂ e₂ p₂ f₂ memo₂ W₂ → After K E P z F G k e p f W k₂ e₂ p₂ f₂ memo₂ W₂
+after-then {W₁ = W₁} {W₂ = W₂} l x y = record {
+  ground = y .ground;
+  grows = extends-then (x .grows) (y .grows);
+  globals = ap (λ (n : ℕ). take n W₂) (sym l) ∙ y .globals ∙ ap (λ (n : ℕ). take n W₁) l ∙ x .globals;
+}
+
+module _ {K E P : List ℕ} {z : Sizes} {F G U k e p : List ℕ} {f : Fill} {W : List ℕ} where
+  -- a check that does not walk, and leaves everything as it is
+  pub walks-here : {memo : List ℕ} {A : Type 0} {r : Refusal} {a : List ℕ → A} {o : Room → List Proposition → List ℕ → Check A} → Ground K E P z F G k e p f memo W
+      → ((ps : List Proposition) (done : List ℕ) → Flags (length k) W (z .proofs) done → Does k e p f k e p f r (a done) (o (roomOf k p) ps done (termsIn k e p f)))
+      → Walks K E P z F G U k e p f W k e p f r memo W a o
+  walks-here g d = record {
+    grown = grown-same (g .stored);
+    after = λ _. after-same g;
+    walked = λ ps done x w. record { done = done; does = d ps done w; flags = λ _. w };
+  }
+
+  module _ {k₁ e₁ p₁ : List ℕ} {f₁ : Fill} {memo₁ W₁ : List ℕ} where
+    -- one after the other
+    module _ {A B : Type 0} {r : Refusal} {a : List ℕ → A} {o : Room → List Proposition → List ℕ → Check A} (w : Walks K E P z F G U k e p f W k₁ e₁ p₁ f₁ r memo₁ W₁ a o) where
+      pub walks-stop : (b : List ℕ → B) (c : Room → List Proposition → A → Check B) → (r .number ≡ 0 → ⊥)
+          → Walks K E P z F G U k e p f W k₁ e₁ p₁ f₁ r memo₁ W₁ b (λ room ps done s. andThen (o room ps done s) (c room ps))
+      walks-stop b c n = record {
+        grown = w .grown;
+        after = w .after;
+        walked = λ ps done x y. let d = w .walked ps done x y in record { done = d .done; does = does-stop (b (d .done)) (c (roomOf k p) ps) (d .does) n; flags = d .flags };
+      }
+
+      pub walks-then : {b : List ℕ → B} (c : Room → List Proposition → A → Check B) {k₂ e₂ p₂ : List ℕ} {f₂ : Fill} {r₂ : Refusal} {memo₂ W₂ : List ℕ} → r .number ≡ 0
+          → Walks K E P z F G U k₁ e₁ p₁ f₁ W₁ k₂ e₂ p₂ f₂ r₂ memo₂ W₂ b (λ room ps done. c room ps (a done))
+          → Walks K E P z F G U k e p f W k₂ e₂ p₂ f₂ r₂ memo₂ W₂ b (λ room ps done s. andThen (o room ps done s) (c room ps))
+      walks-then c {W₂ = W₂} n v = record {
+        grown = grown-then (w .grown) (v .grown);
+        after = λ u. after-then (w .grown .lenK) (w .after n) (v .after u);
+        walked = λ ps done x y.
+            let d = w .walked ps done x y in
+            let x₁ : GlobalPairs ps U (take (length k₁) W₁) = subst⁻¹ (GlobalPairs ps U) (ap (λ (m : ℕ). take m W₁) (w .grown .lenK) ∙ w .after n .globals) x in
+            let y₁ : Flags (length k₁) W₁ (z .proofs) (d .done) = subst⁻¹ (λ (m : ℕ). Flags m W₁ (z .proofs) (d .done)) (w .grown .lenK) (d .flags n) in
+            let t = v .walked ps (d .done) x₁ y₁ in record {
+              done = t .done;
+              does = does-then (λ room. c room ps) (d .does) n (t .does);
+              flags = λ u. subst (λ (m : ℕ). Flags m W₂ (z .proofs) (t .done)) (w .grown .lenK) (t .flags u);
+            };
+      }
+
+-- a check that walks, by another name of its outcome
+pub walks-as : {K E P : List ℕ} {z : Sizes} {F G U k e p : List ℕ} {f : Fill} {W k₁ e₁ p₁ : List ℕ} {f₁ : Fill} {memo₁ W₁ : List ℕ} {A : Type 0} {r : Refusal} {a : List ℕ → A}
+    {o o′ : Room → List Proposition → List ℕ → Check A} → ((ps : List Proposition) (done : List ℕ) → o (roomOf k p) ps done (termsIn k e p f) ≡ o′ (roomOf k p) ps done (termsIn k e p f))
+    → Walks K E P z F G U k e p f W k₁ e₁ p₁ f₁ r memo₁ W₁ a o → Walks K E P z F G U k e p f W k₁ e₁ p₁ f₁ r memo₁ W₁ a o′
+walks-as {k = k} {e = e} {p = p} {f = f} {k₁ = k₁} {e₁ = e₁} {p₁ = p₁} {f₁ = f₁} {r = r} {a = a} q w = record {
+  grown = w .grown;
+  after = w .after;
+  walked = λ ps done x y. let d = w .walked ps done x y in record { done = d .done; does = subst (Does k e p f k₁ e₁ p₁ f₁ r (a (d .done))) (q ps done) (d .does); flags = d .flags };
+}
+
+-- the flags of scratch whose last part is as it was
+pub flags-same : {c : ℕ} {W W′ : List ℕ} {n : ℕ} {done : List ℕ} → ((i : ℕ) → getD W′ (c + c + i) 0 ≡ getD W (c + c + i) 0) → Flags c W n done → Flags c W′ n done
+flags-same h w = record { is = λ i l. ap (λ (x : ℕ). eqb x 1) (h i) ∙ w .is i l }
+
+-- a proof that is checked
+pub flags-set : {c : ℕ} {W : List ℕ} {n : ℕ} {done : List ℕ} (p : ℕ) → p < n → c + c + n ≤ length W → Flags c W n done → Flags c (set W (c + c + p) 1) n (p ∷ done)
+flags-set {c} {W} {n} {done} p h l w = record { is = λ i u. go i u (eqb i p) refl }
+  where
+    go : (i : ℕ) → i < n → (b : Bool) → eqb i p ≡ b → eqb (getD (set W (c + c + p) 1) (c + c + i) 0) 1 ≡ (eqb i p || member i done)
+    go i u true q =
+        let j : i ≡ p = eqb-true i p q in
+        ap (λ (m : ℕ). eqb (getD (set W (c + c + p) 1) (c + c + m) 0) 1) j
+        ∙ ap (λ (x : ℕ). eqb x 1) (getD-set-same W (c + c + p) 1 0 (omega arith))
+        ∙ ap (λ (b : Bool). b || member i done) (sym q)
+    go i u false q =
+        let j = eqb-false i p q in
+        ap (λ (x : ℕ). eqb x 1) (getD-set-other W (c + c + p) (c + c + i) 1 0 (λ y. j (omega arith)))
+        ∙ w .is i u
+        ∙ ap (λ (b : Bool). b || member i done) (sym q)
+
+-- a check that passed
+pub walks-passed : {K E P : List ℕ} {z : Sizes} {F G U k e p : List ℕ} {f : Fill} {W k₁ e₁ p₁ : List ℕ} {f₁ : Fill} {memo₁ W₁ : List ℕ} {A : Type 0} {r : Refusal} {a : List ℕ → A} {o : Room → List Proposition → List ℕ → Check A}
+    → r .number ≡ 0 → Walks K E P z F G U k e p f W k₁ e₁ p₁ f₁ r memo₁ W₁ a o → Walks K E P z F G U k e p f W k₁ e₁ p₁ f₁ passed memo₁ W₁ a o
+walks-passed {k₁ = k₁} {e₁ = e₁} {p₁ = p₁} {f₁ = f₁} {r = r} {a = a} n w = record {
+  grown = w .grown;
+  after = λ _. w .after n;
+  walked = λ ps done x y. let d = w .walked ps done x y in record {
+    done = d .done;
+    does = record { outcome = sym (ok-of r (a (d .done)) (termsIn k₁ e₁ p₁ f₁) n) ∙ d .does .outcome; grown = d .does .grown };
+    flags = λ _. d .flags n;
+  };
+}

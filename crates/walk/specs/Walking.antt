@@ -1,0 +1,93 @@
+-- The contract of the walk over the proofs. Scratch has a mark for each cell of the store, for the global pairs; one more for each, for the head at hand; and a word for each
+-- proof, 1 where it is checked.
+use Prim.Native.Nat.{ℕ, _+_, _<_, _≤_}
+use mathlib.Core.Path.{_≡_}
+use mathlib.Core.List.{List, [], _∷_, map}
+use mathlib.Core.Bool.{true, false}
+use lib.Dec.{eqb}
+use lib.ListN.{length, getD, take}
+use Rattle.model.specs.Term.{Term, readTerm}
+use Rattle.model.specs.Program.{Proposition, Binding, Program, Fact, Rule, Proof, rule, references}
+use Rattle.model.specs.Decode.{readBindings}
+use Rattle.model.specs.Check.{Outcome, Check, _>>=_, pure, choose, Room}
+use Rattle.model.specs.Fact.{assertBodyProofNormalForm, isContainerSideCondition, checkSideCondition, checkFactMatchesProposition}
+use Rattle.model.specs.Action.{ActionContext, checkRuleProducesEquality}
+use Rattle.model.specs.Walk.{noProof, claimAt, member, checkPremises}
+use Rattle.model.proofs.Store.{Extends}
+use Rattle.cells.specs.declared.Fill.{Fill}
+use Rattle.termdag.specs.Store.{termsIn, Stored, roomOf}
+use Rattle.memo.specs.Memo.{Past}
+use Rattle.outcome.specs.Does.{Grown, Does}
+use Rattle.outcome.specs.declared.Refusal.{Refusal}
+use Rattle.load.specs.Held.{tablesFor}
+use Rattle.load.specs.declared.sizes.Sizes.{Sizes}
+use Rattle.program.specs.Ready.{Ready, programFor}
+use Rattle.normal_form.specs.Search.{Searched}
+use Rattle.evaluate.specs.Evaluation.{Sane}
+use Rattle.context.specs.Contexts.{GlobalPairs}
+use Rattle.program.specs.Read.{proofsFor, proofCell, premisesFor, pairsFor}
+use Rattle.steps.specs.Concluding.{isRule}
+use Rattle.walk.specs.declared.Needs.{Needs}
+
+-- Of n proofs those in `done` are checked, by the words of W behind two for each of c cells.
+pub record Flags (c : ℕ) (W : List ℕ) (n : ℕ) (done : List ℕ) : Type 0 where
+  pub is : (p : ℕ) → p < n → eqb (getD W (c + c + p) 0) 1 ≡ member p done
+
+-- What the walk is handed: an admitted job with its offences F and the global bindings G, a store that has the job's terms and is sane, a memo, and scratch.
+pub record Ground (K E P : List ℕ) (z : Sizes) (F G k e p : List ℕ) (f : Fill) (memo W : List ℕ) : Type 0 where
+  pub ready : Ready K E P z
+  pub searched : Searched K E P z F
+  pub stored : Stored k e p f
+  pub sane : Sane (programFor K E P z) (readBindings G) (termsIn k e p f)
+  pub terms : Extends (map readTerm (tablesFor K E P z .terms)) (termsIn k e p f)
+  pub fits : z .expressions + z .expressions < length memo
+  pub past : Past memo
+  pub long : length k + length k + z .proofs ≤ length W
+
+-- The context of the global bindings and pairs.
+abbrev pub contextOf : List ℕ → List Proposition → ActionContext
+contextOf G ps = record { bindings = readBindings G; pairs = ps }
+
+-- What a check that walks leaves: the proofs checked, and the outcome o, whose value is a of them.
+pub record Walked {A : Type 0} (n : ℕ) (k e p : List ℕ) (f : Fill) (k′ e′ p′ : List ℕ) (f′ : Fill) (r : Refusal) (W′ : List ℕ) (a : List ℕ → A) (o : Outcome A) : Type 0 where
+  pub done : List ℕ
+  pub does : Does k e p f k′ e′ p′ f′ r (a done) o
+  pub flags : r .number ≡ 0 → Flags (length k) W′ n done
+
+-- What it hands on after a value.
+pub record After (K E P : List ℕ) (z : Sizes) (F G k e p : List ℕ) (f : Fill) (W k′ e′ p′ : List ℕ) (f′ : Fill) (memo′ W′ : List ℕ) : Type 0 where
+  pub ground : Ground K E P z F G k′ e′ p′ f′ memo′ W′
+  pub grows : Extends (termsIn k e p f) (termsIn k′ e′ p′ f′)
+  pub globals : take (length k) W′ ≡ take (length k) W
+
+-- The contract of a check that walks. U and the first marks stand for the global pairs, whatever these are; the check o of room, global pairs and proofs checked before is the definition's.
+pub record Walks {A : Type 0} (K E P : List ℕ) (z : Sizes) (F G U k e p : List ℕ) (f : Fill) (W k′ e′ p′ : List ℕ) (f′ : Fill) (r : Refusal) (memo′ W′ : List ℕ) (a : List ℕ → A)
+    (o : Room → List Proposition → List ℕ → Check A) : Type 0 where
+  pub grown : Grown k e p f k′ e′ p′ f′
+  pub after : r .number ≡ 0 → After K E P z F G k e p f W k′ e′ p′ f′ memo′ W′
+  pub walked : (ps : List Proposition) (done : List ℕ) → GlobalPairs ps U (take (length k) W) → Flags (length k) W (z .proofs) done
+      → Walked (z .proofs) k e p f k′ e′ p′ f′ r W′ a (o (roomOf k p) ps done (termsIn k e p f))
+
+-- What a step of proof p refers to: a rule's has a name, premises and pairs; another has at most two references, each lower.
+pub record Operates (K E P : List ℕ) (z : Sizes) (p : ℕ) (r : Needs) : Type 0 where
+  pub rule : r .rule ≡ true → (proofCell K E P z p .kind ≡ 1) × (getD (proofsFor K E P z) p noProof .justification ≡ rule (r .name) (premisesFor K E P z p) (readBindings (pairsFor K E P z p)))
+  pub other : r .rule ≡ false → (isRule (getD (proofsFor K E P z) p noProof .justification) ≡ false)
+      × (take (r .count) (r .first ∷ r .second ∷ []) ≡ references (getD (proofsFor K E P z) p noProof .justification))
+  pub few : r .count ≤ 2
+  pub lower : (i : ℕ) → i < r .count → getD (r .first ∷ r .second ∷ []) i 0 < p
+
+-- One fact with its premise, of `checkPremises`: the bindings and the proofs checked after it.
+module _ (room : Room) (prog : Program) (proofs : List Proof) (sub : ℕ → List ℕ → Check (List ℕ)) where
+  unfoldable pub checkPremise : ℕ → Fact → ℕ → List Binding → List ℕ → Check (List Binding × List ℕ)
+  checkPremise name f p σ done =
+      assertBodyProofNormalForm prog name f >>= λ _.
+      choose (isContainerSideCondition prog f)
+      (checkSideCondition room prog name σ f >>= λ σ′. pure (σ′, done))
+      (sub p done >>= λ done₁. checkFactMatchesProposition room prog name σ f (claimAt proofs p) >>= λ _. pure (σ, done₁))
+
+-- The body of a rule's step: each fact with its premise, then the head, which must produce q.
+unfoldable pub checkBody : Room → Program → List Proof → ActionContext → (ℕ → List ℕ → Check (List ℕ)) → ℕ → Rule → List ℕ → List Binding → Proposition → List ℕ → Check (List ℕ)
+checkBody room prog proofs ctx sub name r ps σ q done =
+    checkPremises room prog proofs ctx sub name (r .facts) ps σ done >>= λ b.
+    checkRuleProducesEquality room prog r (b .0) q >>= λ _.
+    pure (b .1)
