@@ -1,6 +1,7 @@
 //! What the commands share: the bench jobs, the fixed list, and printing.
 
 pub mod bench_jobs;
+pub mod doubling;
 pub mod fixed_list;
 pub mod print;
 

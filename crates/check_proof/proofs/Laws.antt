@@ -1,0 +1,132 @@
+-- The global actions, then the walk from no proof checked.
+use mathlib.Core.Path.{_≡_, refl, sym, ap, subst, subst⁻¹, _∙_}
+use mathlib.Core.Bool.{Bool, true, false}
+use mathlib.Core.List.{List, [], _∷_, _++_, append-nil}
+use Prim.Native.Nat.{ℕ, suc, _+_, _-_, _<_, _≤_}
+use native.Mathlib.Omega.{arith}
+use lib.Dec.{eqb, lit<}
+use lib.ListN.{length, getD, take, drop, length-map, length-drop, length-append, drop-of-length-le}
+use lib.Seq.{getD-drop, take-take, take-at, drop-at, length-take-le}
+use borrow.Rule.Slice.PartMut.{midOf, putMid, same-len-mid, take-put}
+use Rattle.model.specs.Term.{Term}
+use Rattle.model.specs.Program as program
+use Rattle.model.specs.Program.{Binding, Program, Proof}
+use Rattle.model.specs.Decode.{readBindings, readProof}
+use Rattle.model.specs.Check.{Outcome, Check, andThen, _>>=_, pure, Room}
+use Rattle.model.specs.Action.{ActionContext}
+use Rattle.model.specs.Walk.{claimAt, newContext, checkProofWithContext, checkProof}
+use Rattle.model.proofs.Store.{Extends, extends-then}
+use Rattle.cells.specs.declared.Fill.{Fill}
+use Rattle.cells.proofs.Laws.{to-end}
+use Rattle.termdag.specs.Store.{termsIn, roomOf}
+use Rattle.memo.specs.Memo.{Past}
+use Rattle.outcome.specs.Does.{Grown, Does}
+use Rattle.outcome.specs.declared.Refusal.{Refusal}
+use Rattle.outcome.proofs.Laws.{does-then, does-stop, does-map}
+use Rattle.marks.specs.Marks.{zeros}
+use Rattle.marks.proofs.Closing.{zeros-at}
+use Rattle.load.specs.Held.{tablesFor}
+use Rattle.load.specs.declared.sizes.Sizes.{Sizes}
+use Rattle.program.specs.Ready.{Ready, programFor}
+use Rattle.program.specs.Read.{proofsFor}
+use Rattle.program.proofs.Laws.{table-long}
+use Rattle.normal_form.specs.Search.{Searched}
+use Rattle.evaluate.specs.Evaluation.{Sane}
+use Rattle.context.specs.Contexts.{GlobalPairs, Context}
+use Rattle.context.specs.declared.Globals.{Globals}
+use Rattle.walk.specs.Walking.{Flags, Ground, Walks, contextOf}
+use Rattle.walk.proofs.Justifying.{fuel-for}
+use Rattle.check_proof.specs.Checking.{Given}
+
+-- no proof is checked yet
+pub flags-none : (W : List ℕ) (c n m : ℕ) → c + c ≤ length W → Flags c (putMid (c + c) (length W - (c + c)) W (zeros m)) n []
+flags-none W c n m h = record { is = λ p l. ap (λ (x : ℕ). eqb x 1) (word p) }
+  where
+    none : drop (length W - (c + c)) (drop (c + c) W) ≡ []
+    none = drop-of-length-le (drop (c + c) W) {i = length W - (c + c)} (simp length-drop (omega arith))
+
+    behind : drop (c + c) (putMid (c + c) (length W - (c + c)) W (zeros m)) ≡ zeros m
+    behind = drop-at (take (c + c) W) (zeros m ++ drop (length W - (c + c)) (drop (c + c) W)) (c + c) (length-take-le (c + c) W h)
+        ∙ ap (λ (x : List ℕ). zeros m ++ x) none ∙ append-nil (zeros m)
+
+    word : (p : ℕ) → getD (putMid (c + c) (length W - (c + c)) W (zeros m)) (c + c + p) 0 ≡ 0
+    word p = sym (getD-drop (c + c) (putMid (c + c) (length W - (c + c)) W (zeros m)) p 0) ∙ ap (λ (x : List ℕ). getD x p 0) behind ∙ zeros-at m p
+
+-- the marks of the global pairs stay
+pub marks-kept : (M R Z : List ℕ) (c k : ℕ) → length M ≡ c → c + c ≤ length (M ++ R) → take c (putMid (c + c) k (M ++ R) Z) ≡ M
+marks-kept M R Z c k l h =
+    sym (take-take c (c + c) (putMid (c + c) k (M ++ R) Z) (omega arith)) ∙ ap (take c) (take-put (c + c) k (M ++ R) Z h) ∙ take-take c (c + c) (M ++ R) (omega arith) ∙ take-at M R c l
+
+module _ {K E P : List ℕ} {z : Sizes} {k e p : List ℕ} {f : Fill} {W : List ℕ} (g : Given K E P z k e p f W) (asked : ℕ) (h : asked < z .proofs)
+    {k₁ e₁ p₁ : List ℕ} {r : Globals} {memo₁ m₁ T U : List ℕ} (C : Context (programFor K E P z) k e p f k₁ e₁ p₁ r memo₁ m₁ T U) where
+  abbrev prog : Program
+  prog = programFor K E P z
+
+  abbrev proofs : List Proof
+  proofs = proofsFor K E P z
+
+  abbrev next : Room → ActionContext → Check program.Proposition
+  next room ctx = checkProofWithContext room prog proofs ctx (suc (length proofs)) asked [] >>= λ _. pure (claimAt proofs asked)
+
+  is-check : (room : Room) (s : List Term) → andThen (newContext room prog s) (next room) ≡ checkProof room prog proofs asked s
+  unfolding checkProof
+  is-check room s = refl
+
+  pub check-stops : (r .refusal .number ≡ 0 → ⊥) → Does k e p f k₁ e₁ p₁ (r .fill) (r .refusal) (claimAt proofs asked) (checkProof (roomOf k p) prog proofs asked (termsIn k e p f))
+  check-stops n = subst (Does k e p f k₁ e₁ p₁ (r .fill) (r .refusal) (claimAt proofs asked)) (is-check (roomOf k p) (termsIn k e p f)) (does-stop (claimAt proofs asked) (next (roomOf k p)) (C .does) n)
+
+  module _ (n : r .refusal .number ≡ 0) {G : List ℕ} (gq : G ≡ drop (r .bindings) T) where
+    same-context : contextOf G (C .context .pairs) ≡ C .context
+    same-context = ap {B = ActionContext} (λ (σ : List Binding). record { bindings = σ; pairs = C .context .pairs }) (ap readBindings gq ∙ sym (C .bindings n))
+
+    pub check-ground : {F memo W₁ : List ℕ} → Searched K E P z F → memo ≡ memo₁ → z .expressions + z .expressions < length memo → length W₁ ≡ length W → Ground K E P z F G k₁ e₁ p₁ (r .fill) memo W₁
+    check-ground {memo = memo} F mq fits lW = record {
+      ready = g .ready;
+      searched = F;
+      stored = C .does .grown .stored;
+      sane = subst⁻¹ (λ (σ : List Binding). Sane prog σ (termsIn k₁ e₁ p₁ (r .fill))) (ap readBindings gq ∙ sym (C .bindings n)) (C .sane n);
+      terms = extends-then (g .terms) (C .grows n);
+      fits = fits;
+      past = subst⁻¹ Past mq (C .past n);
+      long = let a = g .long in let b = C .does .grown .lenK in omega arith;
+    }
+
+    pub check-walks : {F W₁ k₂ e₂ p₂ : List ℕ} {f₂ : Fill} {c : Refusal} {memo₂ W₂ : List ℕ} → take (length k₁) W₁ ≡ m₁ → Flags (length k₁) W₁ (z .proofs) []
+        → Walks K E P z F G (take (r .unions) U) k₁ e₁ p₁ (r .fill) W₁ k₂ e₂ p₂ f₂ c memo₂ W₂ (λ d. d) (λ room ps done. checkProofWithContext room prog proofs (contextOf G ps) (suc asked) asked done)
+        → Does k e p f k₂ e₂ p₂ f₂ c (claimAt proofs asked) (checkProof (roomOf k p) prog proofs asked (termsIn k e p f))
+    check-walks {W₁ = W₁} {k₂ = k₂} {e₂ = e₂} {p₂ = p₂} {f₂ = f₂} {c = c} mq fl w =
+        let x = w .walked (C .context .pairs) [] (subst⁻¹ (GlobalPairs (C .context .pairs) (take (r .unions) U)) mq (C .pairs n)) fl in
+        subst (Does k e p f k₂ e₂ p₂ f₂ c (claimAt proofs asked)) (is-check (roomOf k p) (termsIn k e p f))
+        (does-then next (C .does) n (does-map (λ _. claimAt proofs asked) (claimAt proofs asked)
+        (subst (Does k₁ e₁ p₁ (r .fill) k₂ e₂ p₂ f₂ c (x .done)) (fuel ∙ ap (λ (ctx : ActionContext). checkProofWithContext (roomOf k₁ p₁) prog proofs ctx (suc (length proofs)) asked [] (termsIn k₁ e₁ p₁ (r .fill))) same-context) (x .does))
+        (λ _. refl)))
+      where
+        many : length proofs ≡ z .proofs
+        many = length-map (tablesFor K E P z .proofs) readProof ∙ table-long K E P z 9 (lit< tt)
+
+        fuel : checkProofWithContext (roomOf k₁ p₁) prog proofs (contextOf G (C .context .pairs)) (suc asked) asked [] (termsIn k₁ e₁ p₁ (r .fill))
+            ≡ checkProofWithContext (roomOf k₁ p₁) prog proofs (contextOf G (C .context .pairs)) (suc (length proofs)) asked [] (termsIn k₁ e₁ p₁ (r .fill))
+        fuel = fuel-for (g .ready) (contextOf G (C .context .pairs)) (roomOf k₁ p₁) asked (suc (length proofs)) (omega (arith, many)) [] (termsIn k₁ e₁ p₁ (r .fill))
+
+-- a memo that is cleared
+pub past-cleared : (n : ℕ) → Past (zeros n)
+past-cleared n = record { each = λ k. let a = zeros-at n (k + k + 1) in let b = zeros-at n 0 in omega arith }
+
+-- the table from a place on, as the code lends it
+pub table-part : (T : List ℕ) (at : ℕ) → length T ≡ 512 → take (512 - at) (drop at T) ≡ drop at T
+table-part T at e = ap (λ (n : ℕ). take (n - at) (drop at T)) (sym e) ∙ to-end at T
+
+-- scratch at the walk's start: the marks of the global pairs, and no proof checked
+module _ (W M Z : List ℕ) (c l : ℕ) (lM : length M ≡ c) (h : c + c ≤ length (M ++ drop c W)) (q : l ≡ c) where
+  abbrev W₁ : List ℕ
+  W₁ = putMid (c + c) (length (M ++ drop c W) - (c + c)) (M ++ drop c W) Z
+
+  pub start-marks : take l W₁ ≡ M
+  start-marks = ap (λ (n : ℕ). take n W₁) q ∙ marks-kept M (drop c W) Z c (length (M ++ drop c W) - (c + c)) lM h
+
+  pub start-flags : (n : ℕ) → Z ≡ zeros (length (midOf (c + c) (length (M ++ drop c W) - (c + c)) (M ++ drop c W))) → Flags l W₁ n []
+  start-flags n e = subst⁻¹ (λ (j : ℕ). Flags j W₁ n []) q
+      (subst⁻¹ (λ (X : List ℕ). Flags c (putMid (c + c) (length (M ++ drop c W) - (c + c)) (M ++ drop c W) X) n []) e (flags-none (M ++ drop c W) c n (length (midOf (c + c) (length (M ++ drop c W) - (c + c)) (M ++ drop c W))) h))
+
+  pub start-long : c ≤ length W → length Z ≡ length (midOf (c + c) (length (M ++ drop c W) - (c + c)) (M ++ drop c W)) → length W₁ ≡ length W
+  start-long b e = same-len-mid (c + c) (length (M ++ drop c W) - (c + c)) (M ++ drop c W) Z e ∙ simp (length-append, length-drop) (omega arith)
