@@ -1,8 +1,8 @@
 // Replays the fixed list of the Rust's answers, on standard input: so far, the loading of each of its jobs. Its format stands
 // in compare/data/fixed_list.txt.
 use cells::wide;
+use console::read_words;
 use load::Loaded;
-use load::bytes::words_of_bytes;
 use load::load;
 ghost use mathlib.Core.Path.{_≡_};
 ghost use Prim.Native.Nat.{_+_, _≤_, _<_};
@@ -110,31 +110,6 @@ fn replay(list: &[u32]) {
     report(b" different\n", different);
 }
 
-// Reads the next words of the list, over the front of those lent; how many they are.
-fn read_some(words: &mut [u32]) -> usize
-    requires { ⌜ 16384 ≤ length (now words) ⌝ }
-    ensures { λ r. ⌜ r ≤ length (now (words .exit)) ⌝ }
-{
-    let mut bytes = io::large_buffer();
-    let n = io::read_full(0, &mut bytes);
-    words_of_bytes(&bytes[..n], words)
-}
-
-// Reads the list, as far as there is room for it.
-fn read_list(words: &mut [u32]) -> usize
-    ensures { λ r. ⌜ r ≤ length (now (words .exit)) ⌝ }
-{
-    let mut at = 0;
-    while 16384 <= words.len() - at {
-        let got = read_some(&mut words[at..]);
-        if got == 0 {
-            return at;
-        }
-        at += got;
-    }
-    at
-}
-
 // Room for the list's words.
 fn list_words() -> [u32; 250000]
     ensures { λ r. ⌜ 250000 ≡ length r ⌝ }
@@ -144,7 +119,7 @@ fn list_words() -> [u32; 250000]
 
 // Reads the list and replays it.
 fn replay_list(words: &mut [u32]) {
-    let count = read_list(words);
+    let count = read_words(words);
     replay(&words[..count]);
 }
 

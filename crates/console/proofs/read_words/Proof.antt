@@ -3,8 +3,8 @@ use native.Mathlib.Omega.{arith}
 use mathlib.Core.Path.{_≡_}
 use Prim.Native.Nat.{ℕ, _≤_, _-_}
 use lib.ListN.{length}
-use Rattle.replay.proofs.read_list.Statement.{statement}
-use Rattle.replay.proofs.read_list.Tie as tie
+use Rattle.console.proofs.read_words.Statement.{statement}
+use Rattle.console.proofs.read_words.Tie as tie
 
 abbrev Inv-loop : tie.InvT-loop
 Inv-loop words₀ at₀ words at = (at ≤ length words) × (length words ≡ length words₀)
@@ -54,8 +54,8 @@ same-length-2 c = search needs
 returns-2 : tie.Need-returns-2 Inv-loop μ-loop
 returns-2 c = omega arith
 
-pub read-list-spec : {M : Type 1} → statement M
-read-list-spec =
+pub read-words-spec : {M : Type 1} → statement M
+read-words-spec =
     tie.close
     (tie.spec
     Inv-loop
