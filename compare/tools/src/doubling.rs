@@ -22,7 +22,12 @@ fn expression(tables: &mut Tables, levels: usize) -> u32 {
 
 fn last_of(tables: &Tables) -> Case {
     let terms = tables.count(Table::Terms) as usize;
-    Case::new(tables.words(), tables.count(Table::Proofs) - 1, 2 * terms, 16 * terms)
+    Case::new(
+        tables.words(),
+        tables.count(Table::Proofs) - 1,
+        2 * terms,
+        16 * terms,
+    )
 }
 
 /// A step by a rule without facts, whose head is the expression.
@@ -108,4 +113,27 @@ pub fn cases(levels: usize) -> Vec<Case> {
         claimed(levels, true),
         claimed(levels, false),
     ]
+}
+
+/// Their answers, in the same order: all but the last pass.
+pub fn answers(levels: u32) -> Vec<[u32; 8]> {
+    let terms = levels + 1;
+    vec![
+        [0, terms, levels, levels, 1, 0, 0, 0],
+        [0, terms, 0, 0, 2, 0, 0, 0],
+        [0, terms + 4, terms + 3, terms + 3, 2, 0, 0, 0],
+        [0, terms, 0, 0, 2, 0, 0, 0],
+        [0, terms + 1, 0, 0, 1, 0, 0, 0],
+        [31, terms + 1, RULE, terms, terms, 0, 0, 0],
+    ]
+}
+
+/// The list for the program doubling: before each job stand its length and the asked proof.
+pub fn list(levels: usize) -> Vec<u32> {
+    let mut words = Vec::new();
+    for case in cases(levels) {
+        words.extend([case.job.len() as u32, case.asked]);
+        words.extend(&case.job);
+    }
+    words
 }

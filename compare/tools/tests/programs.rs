@@ -1,9 +1,11 @@
 //! The command line program, and the bench jobs' answers in their order.
 
+use std::fs;
 use std::io::Write;
+use std::path::Path;
 use std::process::{Command, Stdio};
 
-use tools::{bench_jobs, to_bytes};
+use tools::{bench_jobs, doubling, to_bytes};
 
 /// What `checkproof` prints for a job.
 fn printed(bytes: &[u8]) -> String {
@@ -63,4 +65,32 @@ fn bench_jobs_in_their_order() {
         [6, 0, 7, 0, 0, 0, 0, 0],
     ];
     assert_eq!(answers, expected);
+}
+
+/// What the Rust answers at a few levels; the program doubling is held to the same at 60, where the Rust would walk 2^60 paths.
+#[test]
+fn jobs_that_double() {
+    for levels in [1, 2, 10] {
+        let answers: Vec<[u32; 8]> = doubling::cases(levels)
+            .iter()
+            .map(|case| case.judge().expect("few steps").answer)
+            .collect();
+        assert_eq!(answers, doubling::answers(levels as u32));
+    }
+}
+
+#[test]
+fn what_doubling_reads_and_prints() {
+    let program = Path::new(env!("CARGO_MANIFEST_DIR")).join("../../crates/doubling");
+    let list = fs::read(program.join("stdin")).expect("the list");
+    assert!(
+        list == to_bytes(&doubling::list(60)),
+        "the list made anew differs"
+    );
+    let lines: String = doubling::answers(60)
+        .iter()
+        .map(|answer| answer.map(|word| word.to_string()).join(" ") + "\n")
+        .collect();
+    let printed = fs::read_to_string(program.join("stdout")).expect("the stored output");
+    assert_eq!(printed, lines);
 }

@@ -1,0 +1,107 @@
+-- What the entry hands to the check of a proof, and what it tells of it.
+use mathlib.Core.Path.{_≡_, refl, sym, ap, subst, _∙_}
+use mathlib.Core.List.{List, map}
+use Prim.Native.Nat.{ℕ, zero, suc, _<_, _^_}
+use native.Mathlib.Omega.{arith}
+use lib.ListN.{length, getD}
+use Rattle.model.specs.Term.{readTerm}
+use Rattle.model.specs.Program.{Proof}
+use Rattle.model.specs.Layout.{Tables, kindsOf, endsOf, poolOf}
+use Rattle.model.specs.Decode.{readJob}
+use Rattle.model.specs.Walk.{claimAt, checkProof}
+use Rattle.model.specs.Answer.{height, refusalWords, left, lentBy, entry}
+use Rattle.model.proofs.Store.{Extends, extends-same}
+use Rattle.decode.specs.declared.Proposition.{Proposition}
+use Rattle.cells.specs.declared.Fill.{Fill}
+use Rattle.termdag.specs.Store.{termsIn, roomOf}
+use Rattle.outcome.specs.Does.{refusalOf, Does}
+use Rattle.outcome.specs.declared.Refusal.{Refusal}
+use Rattle.answer.specs.Answers.{passedWords}
+use Rattle.load.specs.Held.{tablesFor}
+use Rattle.load.specs.declared.sizes.Sizes.{Sizes}
+use Rattle.program.specs.Ready.{Ready, programFor}
+use Rattle.program.specs.Read.{proofsFor, ClaimAt}
+use Rattle.context.proofs.Starting.{loads-few}
+use Rattle.prepare.specs.declared.Prepared.{Prepared}
+use Rattle.prepare.specs.Prepares.{arraysOf, Whole, Prepares}
+use Rattle.prepare.proofs.Jobs.{tables-for}
+use Rattle.prepare.proofs.Ending.{left-by, prepared-none, entry-refused, entry-passed, entry-stopped}
+use Rattle.check_proof.specs.Checking.{Given}
+use Rattle.entry.specs.Told.{toldBy, toldWords}
+
+-- the words of a refusal, and of a proof that passes
+pub told-refusal : {A : List ℕ} (r : Refusal) (terms : ℕ) (proofs : List Proof) (p : ℕ) → (r .number ≡ 0 → ⊥) → A ≡ refusalWords (refusalOf r) terms → A ≡ toldWords r terms proofs p
+unfolding toldWords
+told-refusal r terms proofs p h w = w ∙ go (r .number) h
+  where
+    go : (n : ℕ) → (n ≡ 0 → ⊥) → refusalWords (refusalOf r) terms ≡ toldBy n r terms proofs p
+    go zero l = absurd (l refl)
+    go (suc n) l = refl
+
+pub told-passed : {A K E P : List ℕ} {z : Sizes} {p : ℕ} {q : Proposition} (r : Refusal) (terms h : ℕ) → r .number ≡ 0 → ClaimAt K E P z p q → h ≡ height (proofsFor K E P z) p
+    → A ≡ passedWords terms (q .lhs) (q .rhs) h → A ≡ toldWords r terms (proofsFor K E P z) p
+unfolding toldWords
+told-passed {K = K} {E = E} {P = P} {z = z} {p = p} r terms h n C e w =
+    w ∙ (λ i. passedWords terms (C .is i .lhs) (C .is i .rhs) (e i)) ∙ ap (λ (m : ℕ). toldBy m r terms (proofsFor K E P z) p) (sym n)
+
+module _ {ws : List ℕ} {asked : ℕ} {K E P : List ℕ} {scratch : ℕ} {K₁ E₁ P₁ : List ℕ} {p : Prepared} (S : Prepares ws asked K E P scratch K₁ E₁ P₁ p) where
+  -- below 20
+  pub refuses : {x : ℕ} {A : List ℕ} (answer : List ℕ) → length answer ≡ 8 → (p .refusal .number ≡ 0 → ⊥) → A ≡ refusalWords (refusalOf (p .refusal)) 0 → x ≡ getD A 0 0
+      → record { number = x; answer = A; arrays = arraysOf K₁ E₁ P₁ } ≡ entry ws asked (arraysOf K E P) scratch answer
+  refuses answer eight h w f = left-by (arraysOf K₁ E₁ P₁) w f ∙ entry-refused S answer eight h
+
+  module _ (n : p .refusal .number ≡ 0) where
+    pub whole : Whole ws (p .z)
+    whole = S .started n .whole
+
+    terms-first : Extends (map readTerm (tablesFor (kindsOf ws) (endsOf ws) (poolOf ws) (p .z) .terms)) (termsIn K₁ E₁ P₁ (p .fill))
+    unfolding readJob
+    terms-first = subst (Extends (map readTerm (tablesFor (kindsOf ws) (endsOf ws) (poolOf ws) (p .z) .terms)))
+        (ap (λ (t : Tables). map readTerm (t .terms)) (tables-for ws (p .z) (whole .sizes)) ∙ sym (S .started n .terms)) extends-same
+
+    module _ {JK JE JP : List ℕ} (k : JK ≡ kindsOf ws) (e : JE ≡ endsOf ws) (l : JP ≡ poolOf ws) where
+      by-parts : (B : List ℕ → List ℕ → List ℕ → Type 0) → B (kindsOf ws) (endsOf ws) (poolOf ws) → B JK JE JP
+      by-parts B b = subst (λ (x : List ℕ × List ℕ × List ℕ). B (x .0) (x .1) (x .2)) (λ i. (sym k i, sym e i, sym l i)) b
+
+      pub job-ready : Ready JK JE JP (p .z)
+      job-ready = by-parts (λ a b c. Ready a b c (p .z)) (S .started n .ready)
+
+      -- what the check of the proof is handed
+      pub job-given : {W : List ℕ} → length W ≡ scratch → Given JK JE JP (p .z) K₁ E₁ P₁ (p .fill) W
+      job-given {W} long =
+          let T = S .started n in
+          by-parts (λ a b c. Given a b c (p .z) K₁ E₁ P₁ (p .fill) W) (record {
+            ready = T .ready;
+            few = loads-few ws asked (lentBy (arraysOf K E P) scratch) (prepared-none S n) (p .z) (T .whole .sizes);
+            stored = T .stored;
+            sane = T .sane;
+            terms = terms-first;
+            long = let h = S .enough n in let m = T .lenK in omega arith;
+          })
+
+      module _ {K₂ E₂ P₂ : List ℕ} {g : Fill} {r : Refusal}
+          (D : Does K₁ E₁ P₁ (p .fill) K₂ E₂ P₂ g r (claimAt (proofsFor JK JE JP (p .z)) asked) (checkProof (roomOf K₁ P₁) (programFor JK JE JP (p .z)) (proofsFor JK JE JP (p .z)) asked (termsIn K₁ E₁ P₁ (p .fill)))) where
+        -- the terms at the end are few
+        pub terms-word : g .cells < 2 ^ 32
+        terms-word = let F = D .grown .stored .formed in let a = F .kinds in let b = F .few in omega arith
+
+        abbrev jobProofs : List Proof
+        jobProofs = proofsFor (kindsOf ws) (endsOf ws) (poolOf ws) (p .z)
+
+        job-does : Does K₁ E₁ P₁ (p .fill) K₂ E₂ P₂ g r (claimAt jobProofs asked) (checkProof (roomOf K₁ P₁) (programFor (kindsOf ws) (endsOf ws) (poolOf ws) (p .z)) jobProofs asked (termsIn K₁ E₁ P₁ (p .fill)))
+        job-does = subst (λ (x : List ℕ × List ℕ × List ℕ). Does K₁ E₁ P₁ (p .fill) K₂ E₂ P₂ g r (claimAt (proofsFor (x .0) (x .1) (x .2) (p .z)) asked) (checkProof (roomOf K₁ P₁) (programFor (x .0) (x .1) (x .2) (p .z)) (proofsFor (x .0) (x .1) (x .2) (p .z)) asked (termsIn K₁ E₁ P₁ (p .fill))))
+            (λ i. (k i, e i, l i)) D
+
+        -- from 20 on, and what passes
+        told : (answer : List ℕ) → length answer ≡ 8 → left (toldWords r (g .cells) jobProofs asked) (arraysOf K₂ E₂ P₂) ≡ entry ws asked (arraysOf K E P) scratch answer
+        unfolding toldWords
+        told answer eight = go (r .number) refl
+          where
+            go : (m : ℕ) → r .number ≡ m → left (toldBy m r (g .cells) jobProofs asked) (arraysOf K₂ E₂ P₂) ≡ entry ws asked (arraysOf K E P) scratch answer
+            go zero h = entry-passed S answer eight n job-does h
+            go (suc m) h = entry-stopped S answer eight n job-does (λ o. let q : suc m ≡ 0 = sym h ∙ o in omega arith)
+
+        pub tells : {x d : ℕ} {A : List ℕ} (answer : List ℕ) → length answer ≡ 8 → d ≡ asked → A ≡ toldWords r (g .cells) (proofsFor JK JE JP (p .z)) d → x ≡ getD A 0 0
+            → record { number = x; answer = A; arrays = arraysOf K₂ E₂ P₂ } ≡ entry ws asked (arraysOf K E P) scratch answer
+        tells answer eight q w f =
+            left-by (arraysOf K₂ E₂ P₂) (w ∙ (λ i. toldWords r (g .cells) (proofsFor (k i) (e i) (l i) (p .z)) (q i))) f ∙ told answer eight
