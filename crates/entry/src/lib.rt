@@ -47,6 +47,7 @@ fn tell(
 }
 
 // The check of a job's words for an asked proof: the number returned, the answer and the lent arrays are as the definition says, for all inputs.
+// What a returned 0 means, demand 3, is stated and proved in proofs/Sound.
 pub fn check(
     words: &[u32],
     asked: u32,
