@@ -6,10 +6,10 @@ use Rattle.replay.proofs.replay.Statement.{statement}
 use Rattle.replay.proofs.replay.Tie as tie
 
 abbrev Inv-loop : tie.InvT-loop
-Inv-loop list admitted₀ refused₀ different₀ at₀ t8 t9 t10 admitted refused different at = (admitted ≤ at) × (refused ≤ at) × (different ≤ at)
+Inv-loop list accepted₀ refused₀ different₀ at₀ t8 t9 t10 accepted refused different at = (accepted ≤ at) × (refused ≤ at) × (different ≤ at)
 
 abbrev μ-loop : tie.MeasureT-loop
-μ-loop list admitted₀ refused₀ different₀ at₀ t8 t9 t10 admitted refused different at = length list - at
+μ-loop list accepted₀ refused₀ different₀ at₀ t8 t9 t10 accepted refused different at = length list - at
 
 loop-holds : tie.Need-loop-holds Inv-loop μ-loop
 loop-holds c = omega arith
@@ -35,8 +35,8 @@ replay-entry-requires c κs = search needs
 enum-told : tie.Need-enum-told Inv-loop μ-loop
 enum-told c = search needs
 
-add-admitted : tie.Need-add-admitted Inv-loop μ-loop
-add-admitted c = omega arith
+add-accepted : tie.Need-add-accepted Inv-loop μ-loop
+add-accepted c = omega arith
 
 loop-less : tie.Need-loop-less Inv-loop μ-loop
 loop-less c = omega arith
@@ -103,7 +103,7 @@ replay-spec =
     part-replay-entry-end
     replay-entry-requires
     enum-told
-    add-admitted
+    add-accepted
     loop-less
     loop-again
     enum-told-2
