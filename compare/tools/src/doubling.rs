@@ -45,26 +45,13 @@ fn in_head(levels: usize) -> Case {
     last_of(&tables)
 }
 
-fn in_fact(levels: usize) -> Case {
+/// A step by a rule whose only fact is made of the expression, behind a premise that proves the term equal to itself.
+fn in_body(levels: usize, fact: fn(&mut Tables, u32) -> u32) -> Case {
     let mut tables = Tables::default();
     let top = term(&mut tables, levels);
     let call = expression(&mut tables, levels);
     let premise = yields(&mut tables, PREMISE_RULE, call, (top, top));
-    let fact = tables.bare(call);
-    let one = tables.integer(1);
-    let action = tables.expression_action(one);
-    tables.rule(RULE, &[fact], &[action]);
-    tables.rule_step((0, 0), RULE, &[premise], &[]);
-    last_of(&tables)
-}
-
-/// Both sides of an equality are in normal form, to the last expression.
-fn in_normal_form(levels: usize) -> Case {
-    let mut tables = Tables::default();
-    let top = term(&mut tables, levels);
-    let call = expression(&mut tables, levels);
-    let premise = yields(&mut tables, PREMISE_RULE, call, (top, top));
-    let fact = tables.equality(call, call);
+    let fact = fact(&mut tables, call);
     let one = tables.integer(1);
     let action = tables.expression_action(one);
     tables.rule(RULE, &[fact], &[action]);
@@ -103,13 +90,13 @@ fn claimed(levels: usize, is_subterm: bool) -> Case {
     last_of(&tables)
 }
 
-/// A head, a fact, a merge, the normal form, a claimed subterm, and a claimed term that is none.
+/// A head, a fact, a merge, the normal form (both sides of an equality, to the last expression), a claimed subterm, and a claimed term that is none.
 pub fn cases(levels: usize) -> Vec<Case> {
     vec![
         in_head(levels),
-        in_fact(levels),
+        in_body(levels, |tables, call| tables.bare(call)),
         in_merge(levels),
-        in_normal_form(levels),
+        in_body(levels, |tables, call| tables.equality(call, call)),
         claimed(levels, true),
         claimed(levels, false),
     ]
