@@ -1,4 +1,4 @@
-// Words from standard input, for the programs.
+// Words from standard input and to standard output, for the programs.
 use load::bytes::words_of_bytes;
 ghost use mathlib.Core.Path.{_≡_};
 ghost use Prim.Native.Nat.{_≤_};
@@ -27,4 +27,22 @@ pub fn read_words(words: &mut [u32]) -> usize
         at += got;
     }
     at
+}
+
+// Writes a word, in decimal.
+fn write_word(x: u32) {
+    io::print_decimal(1, x as u64);
+}
+
+// Writes the words on a line, in decimal, a space between two.
+pub fn write_words(words: &[u32]) {
+    let mut i = 0;
+    while i < words.len() {
+        if 0 < i {
+            io::write_all(1, b" ");
+        }
+        write_word(words[i]);
+        i += 1;
+    }
+    io::write_all(1, b"\n");
 }

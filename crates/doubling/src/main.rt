@@ -2,27 +2,10 @@
 // are compare/tools/src/doubling.rs's: by paths they are 2^60 large, and each is answered at once.
 use cells::wide;
 use console::read_words;
+use console::write_words;
 use entry::check;
 ghost use Prim.Native.Nat.{_≤_, _<_};
 ghost use lib.ListN.{length};
-
-// Writes a word, in decimal.
-fn write_word(x: u32) {
-    io::print_decimal(1, x as u64);
-}
-
-// Writes the words on a line, in decimal, a space between two.
-fn write_words(words: &[u32]) {
-    let mut i = 0;
-    while i < words.len() {
-        if 0 < i {
-            io::write_all(1, b" ");
-        }
-        write_word(words[i]);
-        i += 1;
-    }
-    io::write_all(1, b"\n");
-}
 
 // Checks a job with a store and scratch of its own, and writes the answer.
 fn check_job(words: &[u32], asked: u32) {

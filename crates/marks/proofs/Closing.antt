@@ -45,10 +45,6 @@ append-zeros [] zs z t = z t
 append-zeros (w ∷ m) zs z zero = refl
 append-zeros (w ∷ m) zs z (suc t) = append-zeros m zs z t
 
--- zeros at the end change nothing that is marked
-pub marked-zeros : (m zs : List ℕ) → ((i : ℕ) → getD zs i 0 ≡ 0) → (t : ℕ) → Marked (m ++ zs) t ↔ Marked m t
-marked-zeros m zs z t = (λ h. rw (append-zeros m zs z t) at h, λ h. rw (append-zeros m zs z t) h)
-
 -- one term marked
 pub set-marked : (m : List ℕ) (t : ℕ) → t < length m → Marked (set m t 1) t
 set-marked m t h = rw (getD-set-same m t 1 0 h) (omega arith)
@@ -66,9 +62,6 @@ set-cases m x t h = go (eqb t x) refl
     go : (b : Bool) → eqb t x ≡ b → (t ≡ x) ⊎ Marked m t
     go true e = inl (eqb-true t x e)
     go false e = inr (rw (getD-set-other m x t 1 0 (eqb-false t x e)) at h)
-
-pub covered-set : (s : List Term) (m : List ℕ) (t x : ℕ) → Covered s m x → Covered s (set m t 1) x
-covered-set s m t x c = record { root = c .root; marked = set-keeps m t (c .root) (c .marked); under = c .under }
 
 -- several terms marked
 pub length-all : (xs m : List ℕ) → length (markAll xs m) ≡ length m

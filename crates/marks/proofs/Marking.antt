@@ -1,21 +1,21 @@
 -- Marks that stand for the reflexive pairs of an evaluation, step by step.
 use Prim.Native.Nat.{ℕ, _<_, _≤_}
 use native.Mathlib.Omega.{arith}
-use mathlib.Core.Path.{_≡_, refl, sym, subst, _∙_}
+use mathlib.Core.Path.{_≡_, refl, sym, _∙_}
 use mathlib.Core.Logic.{_⊎_, inl, inr, _↔_}
 use mathlib.Core.List.{List, [], _++_, List·Memᴰ, List·Memᴰ·not-nil, List·Memᴰ·append-cases, Memᴰ·append-left, Memᴰ·append-right}
 use mathlib.Core.Bool.{Bool, true, false}
-use lib.ListN.{length, getD, set}
+use lib.ListN.{length, getD}
 use lib.Dec.{ltb}
 use borrow.Author.Tests.{ltb-true, lt-ltb}
 use Rattle.model.specs.Term.{Term}
 use Rattle.model.specs.Program.{Proposition}
-use Rattle.model.specs.Evaluate.{same, reflexive}
+use Rattle.model.specs.Evaluate.{same}
 use Rattle.model.specs.Action.{among}
 use Rattle.model.proofs.Store.{Extends, extends-length, Ordered}
 use Rattle.marks.specs.Marks.{zeros, close}
-use Rattle.marks.proofs.Subterms.{Under, reflexive-under, under-reflexive, under-extends, under-back, among-member, member-among}
-use Rattle.marks.proofs.Closing.{Marked, Covered, zeros-at, marked-zeros, set-marked, set-cases, covered-set, close-is}
+use Rattle.marks.proofs.Subterms.{under-extends, under-back, among-member, member-among}
+use Rattle.marks.proofs.Closing.{Marked, Covered, zeros-at, close-is}
 
 -- marks that stand for the reflexive pairs ps
 pub record Marks (s : List Term) (m : List ℕ) (ps : List Proposition) : Type 0 where
@@ -57,68 +57,10 @@ marks-adds {s} {m} {m′} {ps} {qs} w a = record {
     pair-cases x (inl k) = a .keeps x (w .complete x k)
     pair-cases x (inr k) = a .pairs x k
 
-pub adds-then : {s : List Term} {m m₁ m₂ : List ℕ} {ps qs : List Proposition} → AddsMarks s m m₁ ps → AddsMarks s m₁ m₂ qs → AddsMarks s m m₂ (ps ++ qs)
-adds-then {s} {m} {m₁} {m₂} {ps} {qs} a b = record {
-  inside = b .inside;
-  keeps = λ x c. b .keeps x (a .keeps x c);
-  pairs = λ x k. pair-cases x (List·Memᴰ·append-cases ps k);
-  only = λ x c. only-cases x (b .only x c);
-}
-  where
-    pair-cases : (x : ℕ) → List·Memᴰ (same x) ps ⊎ List·Memᴰ (same x) qs → Covered s m₂ x
-    pair-cases x (inl k) = b .keeps x (a .pairs x k)
-    pair-cases x (inr k) = b .pairs x k
-
-    first : (x : ℕ) → Covered s m x ⊎ List·Memᴰ (same x) ps → Covered s m x ⊎ List·Memᴰ (same x) (ps ++ qs)
-    first x (inl c) = inl c
-    first x (inr k) = inr (Memᴰ·append-left qs k)
-
-    only-cases : (x : ℕ) → Covered s m₁ x ⊎ List·Memᴰ (same x) qs → Covered s m x ⊎ List·Memᴰ (same x) (ps ++ qs)
-    only-cases x (inl c) = first x (a .only x c)
-    only-cases x (inr k) = inr (Memᴰ·append-right ps k)
-
--- nothing new: pairs that are all there, or none
-pub adds-skip : {s : List Term} {m : List ℕ} {ps : List Proposition} → ((t : ℕ) → Marked m t → t < length s) → ((x : ℕ) → List·Memᴰ (same x) ps → Covered s m x) → AddsMarks s m m ps
-adds-skip i h = record { inside = i; keeps = λ x c. c; pairs = h; only = λ x c. inl c }
-
-pub adds-none : {s : List Term} {m : List ℕ} → ((t : ℕ) → Marked m t → t < length s) → AddsMarks s m m []
-adds-none i = adds-skip i (λ x k. absurd (List·Memᴰ·not-nil k))
-
-pub marks-skip : {s : List Term} {m : List ℕ} {ps qs : List Proposition} → Marks s m ps → ((x : ℕ) → List·Memᴰ (same x) qs → Covered s m x) → Marks s m (ps ++ qs)
-marks-skip w h = marks-adds w (adds-skip (w .inside) h)
-
--- a value is marked
-pub adds-node : (s : List Term) (m : List ℕ) (t : ℕ) → Ordered s → t < length s → t < length m → ((y : ℕ) → Marked m y → y < length s) → AddsMarks s m (set m t 1) (reflexive s t)
-adds-node s m t o h l i = record {
-  inside = λ y k. in-cases y (set-cases m t y k);
-  keeps = λ x c. covered-set s m t x c;
-  pairs = λ x k. record { root = t; marked = set-marked m t l; under = reflexive-under s t x k };
-  only = λ x c. under-cases x (c .root) (c .under) (set-cases m t (c .root) (c .marked));
-}
-  where
-    in-cases : (y : ℕ) → (y ≡ t) ⊎ Marked m y → y < length s
-    in-cases y (inl e) = rw e h
-    in-cases y (inr k) = i y k
-
-    under-cases : (x y : ℕ) → Under s x y → (y ≡ t) ⊎ Marked m y → Covered s m x ⊎ List·Memᴰ (same x) (reflexive s t)
-    under-cases x y u (inl e) = inr (under-reflexive s o t x (subst (Under s x) e u))
-    under-cases x y u (inr k) = inl (record { root = y; marked = k; under = u })
-
-pub marks-value : {s : List Term} {m : List ℕ} {ps : List Proposition} (t : ℕ) → Marks s m ps → Ordered s → t < length s → t < length m → Marks s (set m t 1) (ps ++ reflexive s t)
-marks-value {s} {m} t w o h l = marks-adds w (adds-node s m t o h l (w .inside))
-
 -- the same reflexive pairs
 pub marks-same : {s : List Term} {m : List ℕ} {ps qs : List Proposition} → ((x : ℕ) → List·Memᴰ (same x) ps → List·Memᴰ (same x) qs)
     → ((x : ℕ) → List·Memᴰ (same x) qs → List·Memᴰ (same x) ps) → Marks s m ps → Marks s m qs
 marks-same to back w = record { inside = w .inside; sound = λ x c. to x (w .sound x c); complete = λ x k. w .complete x (back x k) }
-
--- zeros at the end
-pub marks-zeros : {s : List Term} {m : List ℕ} {ps : List Proposition} (zs : List ℕ) → ((i : ℕ) → getD zs i 0 ≡ 0) → Marks s m ps → Marks s (m ++ zs) ps
-marks-zeros {s} {m} zs z w = record {
-  inside = λ t h. w .inside t (marked-zeros m zs z t .0 h);
-  sound = λ x c. w .sound x (record { root = c .root; marked = marked-zeros m zs z (c .root) .0 (c .marked); under = c .under });
-  complete = λ x k. let c = w .complete x k in record { root = c .root; marked = marked-zeros m zs z (c .root) .1 (c .marked); under = c .under };
-}
 
 -- the store may grow
 pub covered-extends : {s s′ : List Term} {m : List ℕ} → Ordered s → Extends s s′ → ((t : ℕ) → Marked m t → t < length s) → (x : ℕ) → Covered s m x → Covered s′ m x
@@ -133,18 +75,6 @@ marks-extends {s} {s′} o e w = let l : length s ≤ length s′ = extends-leng
   sound = λ x c. w .sound x (covered-back o e (w .inside) x c);
   complete = λ x k. covered-extends o e (w .inside) x (w .complete x k);
 }
-
-pub adds-extends : {s s′ : List Term} {m m′ : List ℕ} {ps : List Proposition} → Ordered s → Extends s s′ → ((t : ℕ) → Marked m t → t < length s) → AddsMarks s m m′ ps → AddsMarks s′ m m′ ps
-adds-extends {s} {s′} {m} {m′} {ps} o e i a = let l : length s ≤ length s′ = extends-length e in record {
-  inside = λ t k. let h = a .inside t k in omega arith;
-  keeps = λ x c. covered-extends o e (a .inside) x (a .keeps x (covered-back o e i x c));
-  pairs = λ x k. covered-extends o e (a .inside) x (a .pairs x k);
-  only = λ x c. go x (a .only x (covered-back o e (a .inside) x c));
-}
-  where
-    go : (x : ℕ) → Covered s m x ⊎ List·Memᴰ (same x) ps → Covered s′ m x ⊎ List·Memᴰ (same x) ps
-    go x (inl c) = inl (covered-extends o e i x c)
-    go x (inr k) = inr k
 
 -- the test of the code: once the marks are closed, a reflexive pair is among the pairs just when its term is marked
 pub marks-test : {s : List Term} {m : List ℕ} {ps : List Proposition} → Ordered s → length s ≤ length m → Marks s m ps

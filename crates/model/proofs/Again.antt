@@ -1,7 +1,7 @@
 -- A second evaluation of an expression finds every term in the store: it gives the same value and adds nothing.
 use Prim.Native.Nat.{ℕ, zero, suc, _<_, _≤_}
 use native.Mathlib.Omega.{arith}
-use mathlib.Core.Path.{_≡_, refl, sym, ap, ap₂, subst, _∙_}
+use mathlib.Core.Path.{_≡_, refl, ap, ap₂, _∙_}
 use mathlib.Core.Logic.{_⊎_, inl, inr}
 use mathlib.Core.List.{List, [], _∷_, _++_, map, List·Memᴰ, List·Memᴰ·head, List·Memᴰ·tail, List·Memᴰ·not-nil, List·Memᴰ·cases-cons}
 use mathlib.Core.Bool.{Bool, true, false, _&&_}
@@ -10,13 +10,12 @@ use lib.ListN.{length}
 use lib.Dec.{eqb}
 use Rattle.model.specs.Cell.{sameWords}
 use Rattle.model.specs.Term.{Term, lit, var, app, getTerm}
-use Rattle.model.specs.Program.{Head, literal, variable, constructor, custom, primitive, Expr, node, Exprs, nil, cons, Proposition, Binding, Row, Program, Job}
-use Rattle.model.specs.Check.{Outcome, ok, refused, Check, andThen, _>>=_, pure, orRefuse, Room, addNode}
+use Rattle.model.specs.Program.{Head, literal, variable, constructor, custom, primitive, Expr, node, Exprs, nil, cons, Proposition, Binding, Row, Program}
+use Rattle.model.specs.Check.{Outcome, ok, Check, andThen, _>>=_, pure, orRefuse, Room, addNode}
 use Rattle.model.specs.Evaluate.{lookup, primitiveAt, rowValue, validate, validatedBy, children, concatMap, subtermsIn, same, reflexive, Value, Values, valued, headValue, evalExpr, evalExprs}
 use Rattle.model.proofs.Post.{Nonzero, Post, post-ok, post-map, post-bind, post-result}
 use Rattle.model.proofs.Agree.{agree-post}
 use Rattle.model.proofs.Store.{Extends, extends-same, extends-then, extends-length, get-extends, get-inside, find-extends, Below, Ordered, Children, Added, add-agrees, add-found}
-use Rattle.model.proofs.Valid.{Valid}
 
 -- a check that, once it gave a value, gives the same one in every later store and adds nothing
 module _ {A : Type 0} where
@@ -192,8 +191,3 @@ module _ (prog : Program) (room : Room) (rule : ℕ) (σ : List Binding) where
   -- a second evaluation, pairs included
   pub again : (e : Expr) (s s′ s″ : List Term) (v : Value) → Sane s → evalExpr room prog rule σ e s ≡ ok v s′ → Extends s′ s″ → evalExpr room prog rule σ e s″ ≡ ok v s″
   again e s s′ s″ v w q x = post-result (eval-settled e s w) q .settled .again s″ x
-
--- what loading ensures is what is asked
-pub sane-start : (room : Room) (rule : ℕ) (job : Job) → Valid job → (σ : List Binding) → ((b : Binding) → List·Memᴰ b σ → b .term < length (job .terms))
-    → Sane (job .program) room rule σ (job .terms)
-sane-start room rule job v σ h = record { ordered = v .ordered; bound = h; rows = λ r m. v .rows r m .0 }

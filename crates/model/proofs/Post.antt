@@ -37,12 +37,6 @@ module _ {ℓ} {A : Type 0} where
   post-choose true x y s h k = h refl
   post-choose false x y s h k = k refl
 
-  pub post-or : (o : Option A) (n : ℕ) (fs : List ℕ) (s : List Term) {Q : A → List Term → Type ℓ}
-      → Nonzero {ℓ} n → ((a : A) → o ≡ some a → Q a s) → Post (orRefuse o n fs s) Q
-  unfolding orRefuse
-  post-or none n fs s z k = record { holds = z }
-  post-or (some a) n fs s z k = record { holds = k a refl }
-
 module _ {κ ℓ} {A : Type 0} where
   post-map′ : (o : Outcome A) {P : A → List Term → Type κ} {Q : A → List Term → Type ℓ} → Post o P → ((a : A) (s : List Term) → P a s → Q a s) → Post o Q
   post-map′ (ok a s) p k = record { holds = k a s (p .holds) }

@@ -5,19 +5,19 @@ use native.Mathlib.Nat.{not-suc-le-zero, le-of-suc-le-suc}
 use native.Mathlib.Decide.{decLt}
 use mathlib.Core.Path.{_≡_, refl, sym, ap, subst, _∙_}
 use mathlib.Core.Logic.{_⊎_, inl, inr}
-use mathlib.Core.List.{List, [], _∷_, _++_, map, List·Memᴰ, List·Memᴰ·head, List·Memᴰ·tail, List·Memᴰ·not-nil, List·Memᴰ·cases-cons, Memᴰ·append-left, Memᴰ·append-right, Memᴰ·map}
+use mathlib.Core.List.{List, [], _∷_, map, List·Memᴰ, List·Memᴰ·head, List·Memᴰ·tail, List·Memᴰ·not-nil, List·Memᴰ·cases-cons, Memᴰ·append-left, Memᴰ·append-right, Memᴰ·map}
 use mathlib.Core.Bool.{Bool, true, false, not, _&&_, _||_, true≢false}
 use mathlib.Core.Option.{Option, none, some, Option·none-ne-some, Option·some-injective}
 use lib.ListN.{length, getD, take, drop, length-append, length-take, length-map, List·getD-eq-default}
 use lib.Dec.{eqb, leb, ltb, lit<}
 use Rattle.model.specs.Cell.{Cell, noCell, sameCell, tabulate, cellsOf}
 use Rattle.model.specs.Term.{Term, lit, var, app, getTerm, termWords, cellOf, readLiteral, readTerm}
-use Rattle.model.specs.Program.{Proposition, Binding, Row, Program, Proof, references, substitution, Job}
-use Rattle.model.specs.Layout.{Sizes, sizesOf, cellCount, firstProof, kindsOf, endsOf, poolOf, Tables, part, tableList, tablesOf}
+use Rattle.model.specs.Program.{Binding, Row, Proof, references, substitution, Job}
+use Rattle.model.specs.Layout.{Sizes, sizesOf, cellCount, kindsOf, endsOf, poolOf, Tables, part, tableList, tablesOf}
 use Rattle.model.specs.Decode.{readHead, readArguments, readRow, readProof, readProgram, readJob, jobOf}
 use Rattle.model.specs.Check.{Refusal}
-use Rattle.model.specs.Load.{Lent, any, between, termFits, below, termRefers, headRefers, exprRefers, rowRefers, proofRefers, isFirst, failsFrom, marks, passed, fitTests, referTests, validTests, onceTests, firstMarked, firstRefusal, firstFailing, Admitted, loadTests, loadRefusal}
-use Rattle.model.specs.Tree.{Tree, leaf, named, apply, Trees, tnil, tcons, treesBy, treeOfTerm, treeIn, treeOf, TreeBinding, treeRows, TreeRow}
+use Rattle.model.specs.Load.{Lent, any, between, termFits, below, termRefers, headRefers, rowRefers, proofRefers, isFirst, failsFrom, marks, passed, fitTests, referTests, validTests, onceTests, firstMarked, firstRefusal, firstFailing, Admitted, loadTests, loadRefusal}
+use Rattle.model.specs.Tree.{Tree, treesBy, treeOfTerm, treeIn, treeOf, TreeBinding, treeRows}
 use Rattle.model.specs.Walk.{noProof, claimAt}
 use Rattle.model.proofs.Tests.{eq-of, eqb-same, lt-of, le-of, and-left, and-right, not-false, never, words-same}
 use Rattle.model.proofs.Represent.{Rep, Reps, Distinct}
@@ -275,14 +275,6 @@ expressions-lower z t a e = go (decLt e (length (t .expressions)))
     go : Dec (e < length (t .expressions)) → Below e (readArguments (getD (t .expressions) e noCell))
     go (yes l) x m = below-of e _ (and-right (headRefers (z .primitives) (readHead (getD (t .expressions) e noCell))) _ (a .refers 1 (lit< tt) e l)) x m
     go (no l) x m = absurd (List·Memᴰ·not-nil (subst (λ (c : Cell). List·Memᴰ x (readArguments c)) (List·getD-eq-default (t .expressions) noCell {n = e} (omega arith)) m))
-
--- a reference of a valid job's proof has a lower number
-pub references-lower : (job : Job) → Valid job → (p : ℕ) → Below p (references (getD (job .proofs) p noProof .justification))
-references-lower job valid p = go (decLt p (length (job .proofs)))
-  where
-    go : Dec (p < length (job .proofs)) → Below p (references (getD (job .proofs) p noProof .justification))
-    go (yes l) x m = valid .references p l x m
-    go (no l) x m = absurd (List·Memᴰ·not-nil (subst (λ (q : Proof). List·Memᴰ x (references (q .justification))) (List·getD-eq-default (job .proofs) noProof {n = p} (omega arith)) m))
 
 -- each number of a valid job has its tree
 pub trees-reps : (g : ℕ → Tree) (s : List Term) (xs : List ℕ) → ((x : ℕ) → List·Memᴰ x xs → Rep (g x) s x) → Reps (treesBy g xs) s xs

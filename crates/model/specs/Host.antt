@@ -2,7 +2,7 @@
 use Prim.Native.Nat.{ℕ, zero, suc, _+_, _*_, _-_, _%_}
 use mathlib.Core.List.{List, [], _∷_}
 use mathlib.Core.Bool.{Bool, true, false, not, _||_}
-use lib.ListN.{length, replicate}
+use lib.ListN.{length, getD, replicate}
 use lib.Dec.{eqb, ltb}
 use Rattle.model.specs.Check.{Refusal}
 use Rattle.model.specs.Layout.{Sizes, sizesOf}
@@ -29,6 +29,19 @@ hostAnswer bytes p =
     elim (ltb 65536 (length bytes) || not (eqb (length bytes % 4) 0)) [
       | true ↦ refusalWords (record { number = 1; fields = [] }) 0
       | false ↦ check (wordsOf bytes) p ownArrays ownScratch .answer
+    ]
+
+-- The number that the host entry returns and what it leaves in the answer's buffer.
+pub record Answered : Type 0 where
+  pub number : ℕ
+  pub answer : List ℕ
+
+-- THE HOST ENTRY: an answer's buffer of another length than 8 gives 10 at once, unwritten.
+unfoldable pub hostEntry : List ℕ → ℕ → List ℕ → Answered
+hostEntry bytes p answer =
+    elim (eqb (length answer) 8) [
+      | true ↦ record { number = getD (hostAnswer bytes p) 0 0; answer = hostAnswer bytes p }
+      | false ↦ record { number = 10; answer = answer }
     ]
 
 -- The program asks for the last proof; without proofs that is none, and 3.

@@ -2,7 +2,7 @@
 use Prim.Native.Nat.{ℕ, _<_, _≤_}
 use native.Mathlib.Omega.{arith}
 use mathlib.Core.Path.{_≡_, sym, ap, _∙_}
-use mathlib.Core.List.{List, _++_, List·Memᴰ}
+use mathlib.Core.List.{List, List·Memᴰ}
 use mathlib.Core.Bool.{false}
 use lib.ListN.{length}
 use Rattle.model.specs.Term.{Term}
@@ -17,7 +17,7 @@ use Rattle.termdag.specs.Store.{termsIn, roomOf}
 use Rattle.outcome.specs.declared.Checked.{Checked}
 use Rattle.outcome.proofs.Laws.{ok-of}
 use Rattle.marks.proofs.Closing.{Marked}
-use Rattle.marks.proofs.Marking.{Marks, AddsMarks, marks-adds, marks-extends}
+use Rattle.marks.proofs.Marking.{AddsMarks}
 use Rattle.load.specs.Held.{sizesIn, tablesFor}
 use Rattle.load.specs.declared.sizes.Sizes.{Sizes}
 use Rattle.program.specs.Ready.{Ready, programFor}
@@ -38,11 +38,6 @@ pub record Evaluated (room : Room) (prog : Program) (rule : ℕ) (σ : List Bind
   pub grows : Extends s s′
   pub sane : Sane prog σ s′
   pub sides : (q : Proposition) → List·Memᴰ q (value .pairs) → q .lhs ≡ q .rhs
-
--- the same, and the marks m stand for the pairs ps and the value's
-pub record EvaluatedMarks (room : Room) (prog : Program) (rule : ℕ) (σ : List Binding) (e : Expr) (s : List Term) (t : ℕ) (s′ : List Term) (m : List ℕ) (ps : List Proposition) : Type 0 where
-  pub evaluated : Evaluated room prog rule σ e s t s′
-  pub marks : Marks s′ m (ps ++ evaluated .value .pairs)
 
 -- what stands below an expression has no higher number
 reaches-most : {args : ℕ → List ℕ} → ((e : ℕ) → Below e (args e)) → {k e : ℕ} → Reaches args k e → k ≤ e
@@ -105,10 +100,3 @@ module _ {K E P : List ℕ} {z : Sizes} (R : Ready K E P z) (rule : ℕ) (σ : L
   pub root-adds : e < z .expressions → {m m′ : List ℕ} → ((t : ℕ) → Marked m t → t < length after) → length after ≤ length m → m′ ≡ markValues memo (z .expressions) m
       → AddsMarks after m m′ (root-evaluated .value .pairs)
   root-adds h i l q = rw q (values-adds (noted-below h) i l (pairs-values R room rule σ e sane (root-evaluated .is)))
-
-  -- the value that a caller is given, and the marks, which stood for the pairs ps before
-  pub root-marks : e < z .expressions → {m m′ : List ℕ} {ps : List Proposition} → Marks before m ps → length after ≤ length m → m′ ≡ markValues memo (z .expressions) m
-      → EvaluatedMarks room prog rule σ (exprFor K E P z e) before (r .value) after m′ ps
-  root-marks h w l q =
-      let x = marks-extends (sane .ordered) (root-evaluated .grows) w in
-      record { evaluated = root-evaluated; marks = marks-adds x (root-adds h (x .inside) l q) }

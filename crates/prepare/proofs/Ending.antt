@@ -54,7 +54,7 @@ entry-by : (ws : List ℕ) (asked : ℕ) (a : Arrays) (scratch : ℕ) (answer : 
 unfolding entry
 entry-by ws asked a scratch answer b h = ap (λ (t : Bool). elim t [ true ↦ check ws asked a scratch | false ↦ record { number = 10; answer = answer; arrays = a } ]) h
 
-entry-check : (ws : List ℕ) (asked : ℕ) (a : Arrays) (scratch : ℕ) (answer : List ℕ) → length answer ≡ 8 → entry ws asked a scratch answer ≡ check ws asked a scratch
+pub entry-check : (ws : List ℕ) (asked : ℕ) (a : Arrays) (scratch : ℕ) (answer : List ℕ) → length answer ≡ 8 → entry ws asked a scratch answer ≡ check ws asked a scratch
 entry-check ws asked a scratch answer h = entry-by ws asked a scratch answer true (eq-eqb (length answer) 8 h)
 
 pub entry-unwritten : (ws : List ℕ) (asked : ℕ) (a : Arrays) (scratch : ℕ) (answer : List ℕ) → (length answer ≡ 8 → ⊥)

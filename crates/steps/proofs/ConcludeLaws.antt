@@ -32,10 +32,9 @@ use Rattle.program.specs.Ready.{programFor}
 use Rattle.program.specs.Read.{proofsFor, premisesFor, pairsFor, ClaimAt, JustificationAt}
 use Rattle.evaluate.specs.Evaluation.{Sane, Checks}
 use Rattle.actions.specs.Acting.{Standing}
-use Rattle.context.specs.Contexts.{GlobalPairs}
 use Rattle.steps.specs.Concluding.{congrStep, mergeStep, concludes, isRule}
 use Rattle.steps.specs.Step.{isPlain, PlainStep, SecondPart, Prepared, Concludes}
-use Rattle.steps.proofs.JobLaws.{first-grows, first-long, claim-inside, second-long, part-same}
+use Rattle.steps.proofs.JobLaws.{first-long, claim-inside, second-long, part-same}
 use Rattle.steps.proofs.Keeping.{congr-keeps, merge-keeps}
 
 -- the arm of the steps that add no term
@@ -180,21 +179,3 @@ module _ (K E P : List ℕ) (z : Sizes) (U k e l : List ℕ) (f : Fill) (memo W 
         sane = λ u σ v. kept u σ v .1;
         scratch = part-same (length k) W;
       }
-
--- a step after another
-pub prepared-again : {K E P : List ℕ} {z : Sizes} {U k e l : List ℕ} {f : Fill} {memo W : List ℕ} {p : ℕ} {k₁ e₁ l₁ : List ℕ} (c : Checked) {memo₁ W₁ : List ℕ} (ps : List program.Proposition)
-    → Prepared K E P z k e l f memo W → Concludes K E P z U k e l f W p k₁ e₁ l₁ c memo₁ W₁ → GlobalPairs ps U (take (length k) W) → c .refusal .number ≡ 0 → length memo₁ ≡ length memo → length W₁ ≡ length W
-    → Prepared K E P z k₁ e₁ l₁ (c .fill) memo₁ W₁ × GlobalPairs ps U (take (length k₁) W₁)
-prepared-again {U = U} {k = k} c {memo₁} {W₁} ps S C g n lm lw =
-    let grown = C .does ps g .grown in (
-      record {
-        ready = S .ready;
-        stored = grown .stored;
-        sane = C .sane n [] (S .sane);
-        terms = first-grows (S .terms) (C .grows n);
-        fits = let h = S .fits in omega arith;
-        past = C .past n;
-        long = let h = S .long in let m = grown .lenK in omega arith;
-      },
-      subst (λ (i : ℕ). GlobalPairs ps U (take i W₁)) (sym (grown .lenK)) (subst (GlobalPairs ps U) (sym (C .scratch .before)) g),
-    )

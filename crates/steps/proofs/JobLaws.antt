@@ -7,11 +7,9 @@ use Prim.Native.Nat.{ℕ, zero, suc, _+_, _-_, _<_, _≤_}
 use native.Mathlib.Omega.{arith}
 use native.Mathlib.Nat.{not-suc-le-zero, le-of-suc-le-suc}
 use lib.Dec.{leb, lit<}
-use lib.ListN.{length, getD, take, drop, length-append, length-drop, length-map}
-use lib.Seq.{take-length, take-append-le}
+use lib.ListN.{length, getD, take, drop, length-drop, length-map}
 use borrow.Rule.Slice.PartMut.{putMid, mid-len, take-put, drop-put}
-use Rattle.model.specs.Cell.{Cell, noCell, tabulate, cellAt, cellsOf}
-use Rattle.model.specs.Layout.{cellCount}
+use Rattle.model.specs.Cell.{Cell, noCell}
 use Rattle.model.specs.Term.{Term, getTerm, readTerm}
 use Rattle.model.specs.Program as program
 use Rattle.model.specs.Program.{references}
@@ -19,14 +17,14 @@ use Rattle.model.specs.Load.{termFits}
 use Rattle.model.specs.Evaluate.{children}
 use Rattle.model.specs.Walk.{claimAt}
 use Rattle.model.proofs.Tests.{le-of, and-right, never}
-use Rattle.model.proofs.Store.{Extends, extends-same, extends-then, extends-length, get-extends}
+use Rattle.model.proofs.Store.{extends-length, get-extends}
 use Rattle.decode.specs.View.{cell, propositionOf, justificationOf}
 use Rattle.decode.specs.declared.Proposition.{Proposition}
 use Rattle.decode.specs.declared.Justification.{Justification}
 use Rattle.termdag.specs.Store.{termsIn}
 use Rattle.cells.specs.declared.Fill.{Fill}
 use Rattle.marks.proofs.Laws.{terms-length}
-use Rattle.load.specs.Held.{sizesIn, tablesFor}
+use Rattle.load.specs.Held.{tablesFor}
 use Rattle.load.specs.declared.sizes.Sizes.{Sizes}
 use Rattle.program.specs.Ready.{Ready}
 use Rattle.program.specs.Read.{proofsFor, proofCell, premisesFor, pairsFor, ClaimAt, JustificationAt}
@@ -51,30 +49,6 @@ get-read [] t h = absurd (not-suc-le-zero h)
 get-read (c ∷ cs) zero h = refl
 get-read (c ∷ cs) (suc t) h = get-read cs t (le-of-suc-le-suc h)
 
-module _ {A : Type 0} (f : ℕ → A) where
-  tabulate-long : (n : ℕ) → length (tabulate n f) ≡ n
-  unfolding tabulate
-  tabulate-long zero = refl
-  tabulate-long (suc n) = let h = tabulate-long n in rw (length-append (tabulate n f) (f n ∷ [])) (omega arith)
-
-  take-tabulate : (d n m : ℕ) → n ≡ d + m → take m (tabulate n f) ≡ tabulate m f
-  unfolding tabulate
-  take-tabulate zero n m e = let q : n ≡ m = omega arith in rw q (ap (λ (k : ℕ). take k (tabulate m f)) (sym (tabulate-long m)) ∙ take-length (tabulate m f))
-  take-tabulate (suc d) n m e =
-      let q : n ≡ suc (d + m) = omega arith in
-      let l = tabulate-long (d + m) in
-      ap (λ (k : ℕ). take m (tabulate k f)) q ∙ take-append-le m (tabulate (d + m) f) (f (d + m) ∷ []) (omega arith) ∙ take-tabulate d (d + m) m refl
-
-take-cells : (K E P : List ℕ) (m n : ℕ) → m ≤ n → take m (drop 0 (cellsOf K E P n)) ≡ cellsOf K E P m
-unfolding cellsOf
-take-cells K E P m n h = take-tabulate (cellAt K E P) (n - m) n m (omega arith)
-
-terms-within : (z : Sizes) → z .terms ≤ cellCount (sizesIn z)
-terms-within z = omega arith
-
-pub first-grows : {K E P : List ℕ} {z : Sizes} {s s′ : List Term} → TermsFirst K E P z s → Extends s s′ → TermsFirst K E P z s′
-first-grows F x = record { extends = extends-then (F .extends) x }
-
 module _ {K E P : List ℕ} {z : Sizes} (R : Ready K E P z) where
   terms-long : length (tablesFor K E P z .terms) ≡ z .terms
   terms-long = table-long K E P z 0 (lit< tt)
@@ -95,10 +69,6 @@ module _ {K E P : List ℕ} {z : Sizes} (R : Ready K E P z) where
             (sym (get-extends (map readTerm (tablesFor K E P z .terms)) s (F .extends) t (omega arith) ∙ get-read (tablesFor K E P z .terms) t (omega arith)))
             (cell-few (getD (tablesFor K E P z .terms) t noCell) (fits R 0 (lit< tt) t h));
       }
-
-  -- a store that the job's terms were loaded into, and one that grew
-  pub first-loaded : {s : List Term} → s ≡ map readTerm (cellsOf K E P (z .terms)) → TermsFirst K E P z s
-  first-loaded e = record { extends = subst (Extends (map readTerm (tablesFor K E P z .terms))) (ap (map readTerm) (take-cells K E P (z .terms) (cellCount (sizesIn z)) (let h = terms-within z in omega arith)) ∙ sym e) extends-same }
 
   -- what proof x claims
   pub claim-inside : (x : ℕ) → x < z .proofs → claimAt (proofsFor K E P z) x .rhs < z .terms

@@ -17,7 +17,6 @@ use Rattle.model.specs.Fact.{isContainerSideCondition}
 use Rattle.model.specs.Cell.{noCell}
 use native.Mathlib.Omega.{arith}
 use borrow.Author.Needs.{needs}
-use mathlib.Core.List.{[], _∷_}
 use mathlib.Core.Path.{_≡_, refl, sym, ap, _∙_}
 use Prim.Native.Nat.{ℕ, _<_}
 use borrow.Fn.Kinds.{In}

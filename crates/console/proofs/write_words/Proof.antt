@@ -2,8 +2,8 @@ use borrow.Author.Needs.{needs}
 use native.Mathlib.Omega.{arith}
 use Prim.Native.Nat.{ℕ, _≤_, _-_}
 use lib.ListN.{length}
-use Rattle.doubling.proofs.write_words.Statement.{statement}
-use Rattle.doubling.proofs.write_words.Tie as tie
+use Rattle.console.proofs.write_words.Statement.{statement}
+use Rattle.console.proofs.write_words.Tie as tie
 
 abbrev Inv-loop : tie.InvT-loop
 Inv-loop words i₀ t3 t4 i = i ≤ length words

@@ -1,0 +1,38 @@
+/* Sizercobalt: egglog's proof checker, proved. Link with libhost.a (README.md, "Calling it").
+
+   A job, its numbers and the eight words of an answer are document 01's (README.md has them as tables). Every pointer is to as many elements as the length behind
+   it says, or anything where that is 0. No two arrays of a call overlap, and nothing else writes to them until it returns. That is all a caller owes: whatever
+   the arrays hold and however long they are, the call returns with a number and writes to nothing but what is said here. */
+
+#ifndef SIZERCOBALT_H
+#define SIZERCOBALT_H
+
+#include <stddef.h>
+#include <stdint.h>
+
+#ifdef __cplusplus
+extern "C" {
+#endif
+
+/* The number of words of an answer. */
+#define SIZERCOBALT_ANSWER 8
+
+/* The store that sizercobalt_check_bytes has of its own, and the longest job that it takes. */
+#define SIZERCOBALT_CELLS 4096
+#define SIZERCOBALT_POOL 16384
+#define SIZERCOBALT_BYTES 65536
+
+/* Checks proof `asked` of a job given as bytes, with a store of its own, and returns the number: 0 accepted. `answer` is eight words; another length returns 10 and
+   leaves it as it is. */
+uint32_t sizercobalt_check_bytes(const uint8_t *job, size_t job_length, uint32_t asked, uint32_t *answer, size_t answer_length);
+
+/* Checks proof `asked` of a job given as words, with a lent store: `kinds` and `ends` of C words, `pool` of W words, `scratch` of at least 2 * (C + J) words. On 0
+   and from 20 up the store holds the job's terms and those that the check added; below 20 it is as it was. `scratch` is left with anything. */
+uint32_t sizercobalt_check(const uint32_t *job, size_t job_length, uint32_t asked, uint32_t *kinds, size_t kinds_length, uint32_t *ends, size_t ends_length,
+                           uint32_t *pool, size_t pool_length, uint32_t *scratch, size_t scratch_length, uint32_t *answer, size_t answer_length);
+
+#ifdef __cplusplus
+}
+#endif
+
+#endif
