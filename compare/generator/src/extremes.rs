@@ -5,13 +5,14 @@ use job::{Table, Tables};
 
 use crate::random::Random;
 
-const F: u32 = 4;
-const RULE: u32 = 5;
-const X: u32 = 6;
-const Y: u32 = 7;
+/// The names of an application, a rule and two variables.
+pub const F: u32 = 4;
+pub const RULE: u32 = 5;
+pub const X: u32 = 6;
+pub const Y: u32 = 7;
 
 /// Two literals that the globals unite, and the fiat of their pair.
-fn united() -> Tables {
+pub fn united() -> Tables {
     let mut tables = Tables::default();
     tables.term_integer(1);
     tables.term_integer(2);
@@ -38,7 +39,8 @@ pub fn deep_or_wide(random: &mut Random) -> Tables {
     }
 }
 
-fn deep_symmetry(length: usize) -> Tables {
+/// (2, 1), (1, 2), over and over.
+pub fn deep_symmetry(length: usize) -> Tables {
     let mut tables = united();
     for step in 0..length as u32 {
         let claimed = if step.is_multiple_of(2) {
@@ -52,7 +54,7 @@ fn deep_symmetry(length: usize) -> Tables {
 }
 
 /// X = Y gives F(X) = F(Y), over and over.
-fn deep_rules(length: usize) -> Tables {
+pub fn deep_rules(length: usize) -> Tables {
     let mut tables = united();
     let x = tables.variable(X);
     let y = tables.variable(Y);
@@ -72,7 +74,7 @@ fn deep_rules(length: usize) -> Tables {
 }
 
 /// X = Y gives Y = X, over and over: rule steps one under another, with small terms.
-fn deep_swaps(length: usize) -> Tables {
+pub fn deep_swaps(length: usize) -> Tables {
     let mut tables = united();
     let x = tables.variable(X);
     let y = tables.variable(Y);
@@ -91,10 +93,7 @@ fn deep_swaps(length: usize) -> Tables {
 /// A global F(F(.. F(1) ..)), and the fiat of one of its parts.
 fn deep_expression(length: usize) -> Tables {
     let mut tables = united();
-    let mut expression = 0;
-    for _ in 0..length {
-        expression = tables.constructor(F, &[expression]);
-    }
+    let expression = tables.tower(F, 0, length, 1);
     tables.expression_action(expression);
     tables.globals = 2;
     let f_one = tables.term_application(F, &[0]);
@@ -103,12 +102,9 @@ fn deep_expression(length: usize) -> Tables {
 }
 
 /// F(1) = F(2), then inside F, and so on, each by a congruence.
-fn deep_congruence(length: usize) -> Tables {
+pub fn deep_congruence(length: usize) -> Tables {
     let mut tables = united();
-    let mut expression = 0;
-    for _ in 0..length {
-        expression = tables.constructor(F, &[expression]);
-    }
+    let expression = tables.tower(F, 0, length, 1);
     tables.expression_action(expression);
     tables.globals = 2;
     let (mut left, mut right) = (0, 1);
@@ -171,10 +167,7 @@ fn shared_terms(length: usize) -> Tables {
     let call = tables.constructor(F, &[x, x]);
     let head = tables.expression_action(call);
     tables.rule(RULE, &[], &[head]);
-    let mut term = 0;
-    for _ in 0..length {
-        term = tables.term_application(F, &[term, term]);
-    }
+    let term = tables.term_tower(F, 0, length, 2);
     let terms = tables.count(Table::Terms);
     tables.rule_step((2, 2), RULE, &[], &[(X, term)]);
     tables.rule_step((terms - 1, terms - 1), RULE, &[], &[(X, term)]);
@@ -182,7 +175,7 @@ fn shared_terms(length: usize) -> Tables {
 }
 
 /// Each transitivity refers twice to the one below: checked once each.
-fn shared_proofs(length: usize) -> Tables {
+pub fn shared_proofs(length: usize) -> Tables {
     let mut tables = united();
     let mut proof = tables.fiat((0, 0));
     for _ in 0..length {

@@ -29,6 +29,13 @@ impl Tables {
         self.push(Table::Terms, 2, &joined(&[name], children))
     }
 
+    /// Applications of a name one over another, each to the one below as all its children; the last.
+    pub fn term_tower(&mut self, name: u32, bottom: u32, levels: usize, width: usize) -> u32 {
+        (0..levels).fold(bottom, |below, _| {
+            self.term_application(name, &vec![below; width])
+        })
+    }
+
     pub fn literal(&mut self, words: [u32; 3]) -> u32 {
         self.push(Table::Expressions, 0, &words)
     }
@@ -43,6 +50,13 @@ impl Tables {
 
     pub fn constructor(&mut self, name: u32, arguments: &[u32]) -> u32 {
         self.push(Table::Expressions, 2, &joined(&[name], arguments))
+    }
+
+    /// Constructor calls one over another, each of the one below as all its arguments; the last.
+    pub fn tower(&mut self, name: u32, bottom: u32, levels: usize, width: usize) -> u32 {
+        (0..levels).fold(bottom, |below, _| {
+            self.constructor(name, &vec![below; width])
+        })
     }
 
     pub fn custom(&mut self, name: u32, arguments: &[u32]) -> u32 {

@@ -1,6 +1,7 @@
 //! One function from a job to the eight words and the words of the store.
 
 use std::thread;
+use std::time::{Duration, Instant};
 
 use job::limits;
 use job::{Job, Lent, Table, refusal};
@@ -30,8 +31,26 @@ pub fn check(
     scratch: usize,
     answer: &mut [u32],
 ) -> Result<u32, TooManySteps> {
+    let mut run = || check_here(job, asked, kinds, ends, pool, scratch, answer);
+    let (number, _) = match is_shallow(job) {
+        true => run()?,
+        false => on_deep_stack(run)?,
+    };
+    Ok(number)
+}
+
+/// The same on the caller's stack, and what `check_proof` took of the time.
+pub fn check_here(
+    job: &[u32],
+    asked: u32,
+    kinds: &mut [u32],
+    ends: &mut [u32],
+    pool: &mut [u32],
+    scratch: usize,
+    answer: &mut [u32],
+) -> Result<(u32, Duration), TooManySteps> {
     if answer.len() != limits::ANSWER {
-        return Ok(10);
+        return Ok((10, Duration::ZERO));
     }
     let lent = Lent {
         kinds: kinds.len(),
@@ -39,15 +58,18 @@ pub fn check(
         pool: pool.len(),
         scratch,
     };
-    let words = match refusal(job, asked, &lent) {
-        Some(refusal) => answer::words(refusal.number, 0, &[refusal.cell]),
+    let (words, took) = match refusal(job, asked, &lent) {
+        Some(refusal) => {
+            let words = answer::words(refusal.number, 0, &[refusal.cell]);
+            (words, Duration::ZERO)
+        }
         None => {
             let job = Job::read(job).expect("a job that passed the load checks");
-            on_fitting_stack(&job, || judge(&job, asked, kinds, ends, pool))?
+            judge(&job, asked, kinds, ends, pool)?
         }
     };
     answer.copy_from_slice(&words);
-    Ok(words[0])
+    Ok((words[0], took))
 }
 
 /// The host entry: a job as bytes, with the program's own store.
@@ -72,14 +94,17 @@ pub fn check_bytes(bytes: &[u8], asked: u32, answer: &mut [u32]) -> Result<u32, 
     )
 }
 
-/// The text recurses as deep as proofs, expressions and terms go.
-fn on_fitting_stack<R: Send>(job: &Job, run: impl FnOnce() -> R + Send) -> R {
-    let shallow = job.count(Table::Proofs) <= SHALLOW
-        && job.count(Table::Expressions) <= SHALLOW
-        && job.count(Table::Terms) <= 8 * SHALLOW;
-    if shallow {
-        return run();
-    }
+/// The text recurses as deep as proofs, expressions and terms go: few enough for any stack.
+fn is_shallow(words: &[u32]) -> bool {
+    Job::read(words).is_none_or(|job| {
+        job.count(Table::Proofs) <= SHALLOW
+            && job.count(Table::Expressions) <= SHALLOW
+            && job.count(Table::Terms) <= 8 * SHALLOW
+    })
+}
+
+/// Runs on a thread whose stack is large enough for any job.
+pub fn on_deep_stack<R: Send>(run: impl FnOnce() -> R + Send) -> R {
     thread::scope(|scope| {
         thread::Builder::new()
             .stack_size(DEEP_STACK)
@@ -90,14 +115,14 @@ fn on_fitting_stack<R: Send>(job: &Job, run: impl FnOnce() -> R + Send) -> R {
     })
 }
 
-/// Runs `check_proof` on a job that passed the load checks.
+/// Runs `check_proof` on a job that passed the load checks; what it took.
 fn judge(
     job: &Job,
     asked: u32,
     kinds: &mut [u32],
     ends: &mut [u32],
     pool: &mut [u32],
-) -> Result<Answer, TooManySteps> {
+) -> Result<(Answer, Duration), TooManySteps> {
     let validators = program::validators(job);
     let commands = program::commands(job, &validators)?;
     let room = Room {
@@ -105,7 +130,9 @@ fn judge(
         pool: pool.len(),
     };
     let mut proofs: ProofStore = program::proof_store(job, &validators, room);
+    let started = Instant::now();
     let result = panics::catch(|| proofs.check_proof(program::proof_id(asked), &commands));
+    let took = started.elapsed();
     let terms = proofs.term_dag().size();
     let words = match result {
         Ok(Ok(proved)) => answer::accepted(job, asked, &proved, terms),
@@ -113,5 +140,5 @@ fn judge(
         Err(unwound) => answer::unwound(unwound, terms).ok_or(TooManySteps)?,
     };
     store::write(proofs.term_dag(), kinds, ends, pool);
-    Ok(words)
+    Ok((words, took))
 }

@@ -26,7 +26,7 @@ mod program;
 mod store;
 
 pub use crate::core::ResolvedCall;
-pub use check::{TooManySteps, check, check_bytes};
+pub use check::{TooManySteps, check, check_bytes, check_here, on_deep_stack};
 pub use generic_ast::Literal;
 pub use numeric_id::{DenseIdMap, NumericId};
 pub use termdag::{Term, TermDag, TermId};

@@ -12,12 +12,12 @@ const PREMISE_RULE: u32 = 8;
 /// 1, F(1, 1), F(F(1, 1), F(1, 1)), ..: the last term.
 fn term(tables: &mut Tables, levels: usize) -> u32 {
     let one = tables.term_integer(1);
-    (0..levels).fold(one, |below, _| tables.term_application(F, &[below, below]))
+    tables.term_tower(F, one, levels, 2)
 }
 
 fn expression(tables: &mut Tables, levels: usize) -> u32 {
     let one = tables.integer(1);
-    (0..levels).fold(one, |below, _| tables.constructor(F, &[below, below]))
+    tables.tower(F, one, levels, 2)
 }
 
 fn last_of(tables: &Tables) -> Case {

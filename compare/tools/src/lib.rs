@@ -1,9 +1,10 @@
-//! What the commands share: the bench jobs, the fixed list, and printing.
+//! What the commands share: the bench jobs, the fixed list, the program, and printing.
 
 pub mod bench_jobs;
 pub mod doubling;
 pub mod fixed_list;
 pub mod print;
+pub mod program;
 
 /// Words as bytes, little-endian.
 pub fn to_bytes(words: &[u32]) -> Vec<u8> {

@@ -1,27 +1,13 @@
 //! The command line program, and the bench jobs' answers in their order.
 
 use std::fs;
-use std::io::Write;
 use std::path::Path;
-use std::process::{Command, Stdio};
 
-use tools::{bench_jobs, doubling, to_bytes};
+use tools::{bench_jobs, doubling, program, to_bytes};
 
 /// What `checkproof` prints for a job.
 fn printed(bytes: &[u8]) -> String {
-    let mut child = Command::new(env!("CARGO_BIN_EXE_checkproof"))
-        .stdin(Stdio::piped())
-        .stdout(Stdio::piped())
-        .spawn()
-        .expect("the program");
-    child
-        .stdin
-        .take()
-        .expect("its input")
-        .write_all(bytes)
-        .expect("a written job");
-    let output = child.wait_with_output().expect("its output");
-    String::from_utf8(output.stdout).expect("text")
+    program::printed(env!("CARGO_BIN_EXE_checkproof"), bytes)
 }
 
 #[test]

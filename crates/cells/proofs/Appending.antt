@@ -1,6 +1,6 @@
 -- What appending does to the cells of a table, and the contracts of `append` and `add`, case by case.
 use mathlib.Core.Path.{_≡_, refl, sym, ap, ap₂, _∙_}
-use mathlib.Core.Logic.{_≢_}
+use mathlib.Core.Logic.{_≢_, inl, inr}
 use mathlib.Core.Bool.{Bool, true, false, _&&_}
 use mathlib.Core.List.{List, [], _∷_, _++_, append-assoc}
 use Prim.Native.Nat.{ℕ, zero, suc, _+_, _-_, _≤_, _<_}
@@ -12,11 +12,11 @@ use lib.Seq.{paste, take-append-le, take-take, take-at, drop-at, take-length, ta
 use borrow.Author.Tests.{lt-ltb, le-ltb, le-leb, lt-leb}
 use borrow.Author.Count.{below-more}
 use Rattle.model.specs.Cell.{Cell, noCell, tabulate, startOf, wordsAt, cellAt, cellsOf}
-use Rattle.cells.specs.Table.{Formed, findCell, put, total, tableOf, Table, Result, hasRoom, appendIf, appendCell, addFound, addCell, Ran}
+use Rattle.cells.specs.Table.{Formed, findCell, Once, put, total, tableOf, Table, Result, hasRoom, appendIf, appendCell, addFound, addCell, Ran}
 use Rattle.cells.specs.declared.Fill.{Fill}
 use Rattle.cells.specs.declared.Found.{Found}
 use Rattle.cells.specs.declared.Added.{Added}
-use Rattle.cells.proofs.Laws.{cells-length, words-length, tabulate-ext, tabulate-more}
+use Rattle.cells.proofs.Laws.{cells-length, words-length, tabulate-ext, tabulate-more, never-found, LastCases, last-cases}
 
 -- a part by its two ends
 pub part-ends : (s e : ℕ) (P : List ℕ) → take (e - s) (drop s P) ≡ drop s (take e P)
@@ -200,3 +200,28 @@ module _ {K E P : List ℕ} {f : Fill} (F : Formed K E P f) where
         → Ran K E P f K′ E′ P′ a (appendCell c (tableOf K E P f)) → Ran K E P f K′ E′ P′ a (addCell c (tableOf K E P f))
     unfolding addCell
     add-new e p = rw (e, addCell) p
+
+-- no two cells are equal after an addition
+once-append : (cs : List Cell) (c : Cell) → findCell cs c ≡ Found.Nothing → Once cs → Once (cs ++ (c ∷ []))
+once-append cs c e o = record { one = λ i j h k q. go i j (last-cases cs c i h) (last-cases cs c j k) q }
+  where
+    fresh : (i : ℕ) → i < length cs → getD cs i noCell ≡ c → ⊥
+    fresh i h q = never-found cs c i e h q
+
+    go : (i j : ℕ) → LastCases cs c i → LastCases cs c j → getD (cs ++ (c ∷ [])) i noCell ≡ getD (cs ++ (c ∷ [])) j noCell → i ≡ j
+    go i j (inl (h, a)) (inl (k, b)) q = o .one i j h k (sym a ∙ q ∙ b)
+    go i j (inl (h, a)) (inr (k, b)) q = absurd (fresh i h (sym a ∙ q ∙ b))
+    go i j (inr (h, a)) (inl (k, b)) q = absurd (fresh j k (sym b ∙ sym q ∙ a))
+    go i j (inr (h, a)) (inr (k, b)) q = h ∙ sym k
+
+pub add-once : (c : Cell) (t : Table) → Once (t .cells) → Once (addCell c t .cells)
+unfolding addCell appendCell
+add-once c t o = go (findCell (t .cells) c) refl
+  where
+    by-room : (b : Bool) → findCell (t .cells) c ≡ Found.Nothing → Once (appendIf b c t .cells)
+    by-room true e = once-append (t .cells) c e o
+    by-room false e = o
+
+    go : (x : Found) → findCell (t .cells) c ≡ x → Once (addFound x c t .cells)
+    go (Found.At i) e = o
+    go Found.Nothing e = by-room (hasRoom t c) e

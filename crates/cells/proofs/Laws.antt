@@ -1,6 +1,6 @@
 -- Laws of tables: reading a cell, comparing words, looking a cell up.
 use mathlib.Core.Path.{_≡_, refl, sym, ap, _∙_}
-use mathlib.Core.Logic.{⊎-elim}
+use mathlib.Core.Logic.{⊎-elim, _⊎_, inl, inr}
 use mathlib.Core.Bool.{Bool, true, false, _&&_}
 use mathlib.Core.List.{List, [], _∷_, _++_}
 use Prim.Native.Nat.{ℕ, zero, suc, _+_, _-_, _≤_, _<_}
@@ -12,9 +12,9 @@ use borrow.Author.Tests.{eq-eqb, ne-eqb, eqb-true}
 use lib.ListN.{length, getD, take, drop, length-take, length-drop, length-append, drop-of-length-le, List·getD-append}
 use lib.Seq.{drop-cons, getD-at, take-length}
 use Rattle.model.specs.Cell.{Cell, noCell, sameWords, sameCell, tabulate, startOf, wordsAt, cellAt, cellsOf}
-use Rattle.model.proofs.Tests.{and-false}
+use Rattle.model.proofs.Tests.{and-false, eqb-same, words-same}
 use Rattle.model.proofs.Valid.{length-tabulate}
-use Rattle.cells.specs.Table.{Formed, findFrom, findCell}
+use Rattle.cells.specs.Table.{Formed, findFrom, findCell, Once}
 use Rattle.cells.specs.declared.Fill.{Fill}
 use Rattle.cells.specs.declared.Found.{Found}
 
@@ -166,3 +166,51 @@ found-at cs c i e =
     let h = hit cs c 0 i e in
     let d : i - 0 ≡ i = omega arith in
     (omega arith, rw d at (h .2))
+
+-- where an equal cell stands one is found, and where no two are equal it is that one
+SomeFound : (k : ℕ) (cs : List Cell) (c : Cell) → Type 0
+SomeFound k cs c = (i : ℕ) × (findFrom k cs c ≡ Found.At i)
+
+some-found : (cs : List Cell) (c : Cell) (k n : ℕ) → n < length cs → sameCell (getD cs n noCell) c ≡ true → SomeFound k cs c
+unfolding findFrom SomeFound
+some-found [] c k n h e = absurd (not-suc-le-zero h)
+some-found (x ∷ cs) c k n h e = go (sameCell x c) refl (λ m l q. some-found cs c (k + 1) m l q) n h e
+  where
+    go : (t : Bool) → sameCell x c ≡ t → ((m : ℕ) → m < length cs → sameCell (getD cs m noCell) c ≡ true → SomeFound (k + 1) cs c)
+        → (n : ℕ) → n < suc (length cs) → sameCell (getD (x ∷ cs) n noCell) c ≡ true → (i : ℕ) × (elim t [ true ↦ Found.At k | false ↦ findFrom (k + 1) cs c ] ≡ Found.At i)
+    go true s ih n h e = (k, refl)
+    go false s ih zero h e = let z : false ≡ true = sym s ∙ e in (k, cc)
+    go false s ih (suc n) h e = ih n (le-of-suc-le-suc h) e
+
+pub near-found : (cs : List Cell) (c : Cell) (n : ℕ) → Once cs → n < length cs → sameCell (getD cs n noCell) c ≡ true → findCell cs c ≡ Found.At n
+unfolding SomeFound
+near-found cs c n once h e =
+    let (i, q) = some-found cs c 0 n h e in
+    let g = found-at cs c i q in
+    q ∙ ap Found.At (once .one i n (g .0) h (g .1 ∙ sym (same-cell-eq (getD cs n noCell) c e)))
+
+-- where none is found, none is equal
+same-cell-self : (c : Cell) → sameCell c c ≡ true
+same-cell-self c = λ i. eqb-same (c .kind) i && words-same (c .words) i
+
+pub never-found : (cs : List Cell) (c : Cell) (i : ℕ) → findCell cs c ≡ Found.Nothing → i < length cs → getD cs i noCell ≡ c → ⊥
+unfolding SomeFound
+never-found cs c i e h q =
+    let (n, g) = some-found cs c 0 i h (ap (λ (x : Cell). sameCell x c) q ∙ same-cell-self c) in
+    let z : _≡_ {A = Found} Found.Nothing (Found.At n) = sym e ∙ g in
+    let y : _≡_ {A = ℕ} 0 1 = cc in
+    omega arith
+
+-- a cell of a longer list: one of the first, or the last
+abbrev pub LastCases : (cs : List Cell) (c : Cell) (i : ℕ) → Type 0
+LastCases cs c i = ((i < length cs) × (getD (cs ++ (c ∷ [])) i noCell ≡ getD cs i noCell)) ⊎ ((i ≡ length cs) × (getD (cs ++ (c ∷ [])) i noCell ≡ c))
+
+pub last-cases : (cs : List Cell) (c : Cell) (i : ℕ) → i < length (cs ++ (c ∷ [])) → LastCases cs c i
+last-cases [] c zero h = inr (refl, refl)
+last-cases [] c (suc i) h = absurd (not-suc-le-zero (le-of-suc-le-suc h))
+last-cases (x ∷ cs) c zero h = inl (omega arith, refl)
+last-cases (x ∷ cs) c (suc i) h = go (last-cases cs c i (le-of-suc-le-suc h))
+  where
+    go : LastCases cs c i → LastCases (x ∷ cs) c (suc i)
+    go (inl (l, q)) = inl (omega arith, q)
+    go (inr (l, q)) = inr (omega arith, q)

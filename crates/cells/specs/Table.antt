@@ -5,7 +5,7 @@ use mathlib.Core.List.{List, [], _∷_, _++_}
 use Prim.Native.Nat.{ℕ, zero, suc, _+_, _-_, _≤_, _<_, _^_}
 use lib.Dec.{ltb, leb}
 use lib.ListN.{length, getD, take, drop}
-use Rattle.model.specs.Cell.{Cell, sameCell, startOf, cellsOf}
+use Rattle.model.specs.Cell.{Cell, noCell, sameCell, startOf, cellsOf}
 use Rattle.cells.specs.declared.Fill.{Fill}
 use Rattle.cells.specs.declared.Found.{Found}
 use Rattle.cells.specs.declared.Added.{Added}
@@ -28,6 +28,10 @@ findFrom k (x ∷ cs) c = elim (sameCell x c) [ true ↦ Found.At k | false ↦ 
 
 abbrev pub findCell : List Cell → Cell → Found
 findCell cs c = findFrom 0 cs c
+
+-- No two cells are equal.
+pub record Once (cs : List Cell) : Type 0 where
+  pub one : (i j : ℕ) → i < length cs → j < length cs → getD cs i noCell ≡ getD cs j noCell → i ≡ j
 
 -- A list with s written over it from the index at.
 unfoldable pub put : List ℕ → ℕ → List ℕ → List ℕ

@@ -5,7 +5,7 @@ ghost use mathlib.Core.List.{List};
 ghost use Prim.Native.Nat.{ℕ, _+_, _-_, _≤_, _<_};
 ghost use lib.ListN.{length, getD};
 ghost use Rattle.model.specs.Cell.{Cell, noCell, sameWords, sameCell, startOf, cellsOf};
-ghost use Rattle.cells.specs.Table.{Formed, findCell, put, Ran, addCell, appendCell, tableOf};
+ghost use Rattle.cells.specs.Table.{Formed, findCell, Once, put, Ran, addCell, appendCell, tableOf};
 
 // How much of a table is in use: the number of cells, and of pool words.
 pub struct Fill {
@@ -115,6 +115,29 @@ pub fn find(
     Found::Nothing
 }
 
+// The cell that has this kind and these words, where no two are equal: the one near is looked at first.
+fn find_near(
+    kinds: &[u32],
+    ends: &[u32],
+    pool: &[u32],
+    fill: Fill,
+    near: usize,
+    kind: u32,
+    ws: &[u32],
+) -> Found
+    requires { ⌜ Formed (now kinds) (now ends) (now pool) fill ⌝ }
+    requires { ⌜ Once (cellsOf (now kinds) (now ends) (now pool) (fill .cells)) ⌝ }
+    ensures { λ r. ⌜ r ≡ findCell (cellsOf (now (kinds .entry)) (now (ends .entry)) (now (pool .entry)) (fill .cells)) (record { kind = kind; words = now (ws .entry) }) ⌝ }
+{
+    let n = fill.cells;
+    if near < n {
+        if same(kinds, ends, pool, fill, near, kind, ws) {
+            return Found::At(near);
+        }
+    }
+    find(kinds, ends, pool, fill, n, kind, ws)
+}
+
 // Writes src over dst from the index at.
 pub fn copy(dst: &mut [u32], at: usize, src: &[u32])
     requires { ⌜ at + length (now src) ≤ length (now dst) ⌝ }
@@ -169,20 +192,21 @@ pub fn append(
     }
 }
 
-// The number of an equal cell, else of the cell appended.
+// The number of an equal cell, else of the cell appended. The cell near is looked at first, whichever that is.
 pub fn add(
     kinds: &mut [u32],
     ends: &mut [u32],
     pool: &mut [u32],
     fill: Fill,
+    near: u32,
     kind: u32,
     ws: &[u32],
 ) -> Added
     requires { ⌜ Formed (now kinds) (now ends) (now pool) fill ⌝ }
+    requires { ⌜ Once (cellsOf (now kinds) (now ends) (now pool) (fill .cells)) ⌝ }
     ensures { λ r. ⌜ Ran (now (kinds .entry)) (now (ends .entry)) (now (pool .entry)) fill (now (kinds .exit)) (now (ends .exit)) (now (pool .exit)) r (addCell (record { kind = kind; words = now (ws .entry) }) (tableOf (now (kinds .entry)) (now (ends .entry)) (now (pool .entry)) fill)) ⌝ }
 {
-    let n = fill.cells;
-    let f = find(kinds, ends, pool, fill, n, kind, ws);
+    let f = find_near(kinds, ends, pool, fill, wide(near), kind, ws);
     match f {
         Found::At(i) => Added {
             number: i as u32,

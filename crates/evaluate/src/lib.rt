@@ -140,6 +140,7 @@ fn custom_value(
     sends: &mut [u32],
     spool: &mut [u32],
     fill: Fill,
+    near: u32,
     f: u32,
     args: &[u32],
 ) -> Checked
@@ -150,10 +151,10 @@ fn custom_value(
     if fact {
         return refuse1(52, f, fill);
     }
-    add_app(skinds, sends, spool, fill, f, args)
+    add_app(skinds, sends, spool, fill, near, f, args)
 }
 
-// The value of an expression from its head and its arguments' values.
+// The value of an expression from its head and its arguments' values. The term near is looked at first.
 pub fn head_value(
     kinds: &[u32],
     ends: &[u32],
@@ -168,6 +169,7 @@ pub fn head_value(
     sends: &mut [u32],
     spool: &mut [u32],
     fill: Fill,
+    near: u32,
     head: Head,
     args: &[u32],
 ) -> Checked
@@ -178,10 +180,10 @@ pub fn head_value(
     ensures { λ r. ⌜ Does (now (skinds .entry)) (now (sends .entry)) (now (spool .entry)) fill (now (skinds .exit)) (now (sends .exit)) (now (spool .exit)) (r .fill) (r .refusal) (r .value) (headTerm fact (roomOf (now (skinds .entry)) (now (spool .entry))) (programFor (now (kinds .entry)) (now (ends .entry)) (now (pool .entry)) z) rule (bindingsIn (now (bound .entry)) (now (pairs .entry)) (now (globals .entry))) (headOf head) (now (args .entry)) (termsIn (now (skinds .entry)) (now (sends .entry)) (now (spool .entry)) fill)) ⌝ }
 {
     match head {
-        Head::Lit(l) => add_lit(skinds, sends, spool, fill, l),
+        Head::Lit(l) => add_lit(skinds, sends, spool, fill, near, l),
         Head::Var(x) => variable(bound, pairs, globals, rule, x, fill),
-        Head::Constructor(f) => add_app(skinds, sends, spool, fill, f, args),
-        Head::Custom(f) => custom_value(fact, skinds, sends, spool, fill, f, args),
+        Head::Constructor(f) => add_app(skinds, sends, spool, fill, near, f, args),
+        Head::Custom(f) => custom_value(fact, skinds, sends, spool, fill, near, f, args),
         Head::Primitive(p) => {
             let n = no_validator(fact);
             validated(kinds, ends, pool, z, n, skinds, sends, spool, fill, p, args)
@@ -189,7 +191,7 @@ pub fn head_value(
     }
 }
 
-// The value of expression e, noted. One that is noted is not evaluated again.
+// The value of expression e, noted. One that is noted is not evaluated again; the term that it was in an earlier round is looked at first.
 fn eval(
     kinds: &[u32],
     ends: &[u32],
@@ -248,6 +250,7 @@ fn eval(
         i += 1;
     }
     let head = head_at(kinds, ends, pool, z, at);
+    let near = memo::value_of(memo, at);
     let r = head_value(
         kinds,
         ends,
@@ -262,6 +265,7 @@ fn eval(
         sends,
         spool,
         have,
+        near,
         head,
         &vals[..count],
     );

@@ -564,7 +564,7 @@ fn wanted_call(
     let count = arguments_at(kinds, ends, pool, z, wide(e)).len();
     values[count] = v.value;
     let end = count + 1;
-    let t = add_app(skinds, sends, spool, r.fill, function, &values[..end]);
+    let t = add_app(skinds, sends, spool, r.fill, 0, function, &values[..end]);
     asks(t, t.value, t.value)
 }
 

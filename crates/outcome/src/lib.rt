@@ -89,12 +89,13 @@ pub fn add_lit(
     ends: &mut [u32],
     pool: &mut [u32],
     fill: Fill,
+    near: u32,
     l: Literal,
 ) -> Checked
     requires { ⌜ Stored (now kinds) (now ends) (now pool) fill ⌝ }
     ensures { λ r. ⌜ Does (now (kinds .entry)) (now (ends .entry)) (now (pool .entry)) fill (now (kinds .exit)) (now (ends .exit)) (now (pool .exit)) (r .fill) (r .refusal) (r .value) (addNode (roomOf (now (kinds .entry)) (now (pool .entry))) (lit (literalOf l)) (termsIn (now (kinds .entry)) (now (ends .entry)) (now (pool .entry)) fill)) ⌝ }
 {
-    let a = termdag::lit(kinds, ends, pool, fill, l);
+    let a = termdag::lit(kinds, ends, pool, fill, near, l);
     added(a)
 }
 
@@ -104,6 +105,7 @@ pub fn add_app(
     ends: &mut [u32],
     pool: &mut [u32],
     fill: Fill,
+    near: u32,
     f: u32,
     args: &[u32],
 ) -> Checked
@@ -111,6 +113,6 @@ pub fn add_app(
     requires { ⌜ length (now args) ≤ 17 ⌝ }
     ensures { λ r. ⌜ Does (now (kinds .entry)) (now (ends .entry)) (now (pool .entry)) fill (now (kinds .exit)) (now (ends .exit)) (now (pool .exit)) (r .fill) (r .refusal) (r .value) (addNode (roomOf (now (kinds .entry)) (now (pool .entry))) (app f (now (args .entry))) (termsIn (now (kinds .entry)) (now (ends .entry)) (now (pool .entry)) fill)) ⌝ }
 {
-    let a = termdag::app(kinds, ends, pool, fill, f, args);
+    let a = termdag::app(kinds, ends, pool, fill, near, f, args);
     added(a)
 }

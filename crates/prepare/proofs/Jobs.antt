@@ -19,9 +19,11 @@ use Rattle.model.specs.Check.{Refusal}
 use Rattle.model.specs.Load.{Lent, tooLarge, noRoom, refusedIf, termFits, firstRefusal, loadTests, loadRefusal}
 use Rattle.model.specs.Answer.{lentBy}
 use Rattle.model.proofs.Tests.{eq-of, or-left, or-right, not-false}
+use Rattle.model.proofs.Represent.{Distinct}
 use Rattle.model.proofs.Valid.{term-cell, pass, loads-valid, length-tabulate}
 use Rattle.cells.specs.declared.Fill.{Fill}
 use Rattle.termdag.specs.Store.{termsIn, Loadable, Loaded}
+use Rattle.termdag.proofs.Laws.{once-of}
 use Rattle.load.specs.declared.sizes.Sizes.{Sizes as SizesHeld}
 use Rattle.load.specs.Held.{sizesIn, fillOf, tablesFor, writerTests, roomLacks}
 use Rattle.load.proofs.Loading.{limits-of, sizes-words, inside, kinds-cut, ends-cut, pool-cut, room-is, right-length, loads-held, loads-pass}
@@ -190,6 +192,7 @@ module _ {ws K E P : List ℕ} (L : Loads ws K E P) (z : SizesHeld) (s : sizesIn
   start-loadable = record {
     formed = ready .held .formed;
     within = omega arith;
+    once = once-of (cellsOf (kindsOf ws) (endsOf ws) (poolOf ws) (z .terms)) (subst Distinct (sym (job-terms ws z s)) (loads-valid ws (L .asked) lent (L .passes) .distinct));
     terms = subst (λ (cs : List Cell). map cellOf (map readTerm cs) ≡ cs) (terms-are ws z s) (fits-cells (tablesFor (kindsOf ws) (endsOf ws) (poolOf ws) z .terms) (ready .admitted .fits 0 (lit< tt)));
     cells = room .terms;
     words = room .words-fit;

@@ -22,6 +22,7 @@ use Rattle.decode.specs.View.{cell, propositionOf, justificationOf}
 use Rattle.decode.specs.declared.Proposition.{Proposition}
 use Rattle.decode.specs.declared.Justification.{Justification}
 use Rattle.termdag.specs.Store.{termsIn}
+use Rattle.termdag.proofs.Laws.{get-read}
 use Rattle.cells.specs.declared.Fill.{Fill}
 use Rattle.marks.proofs.Laws.{terms-length}
 use Rattle.load.specs.Held.{tablesFor}
@@ -42,12 +43,6 @@ cell-few c e = go (c .kind) (c .words) e
     go (suc zero) ws q = omega arith
     go (suc (suc zero)) ws q = let b = le-of (length ws) 17 (and-right (leb 1 (length ws)) _ q) in omega (arith, length-drop 1 ws)
     go (suc (suc (suc k))) ws q = never q
-
-get-read : (cs : List Cell) (t : ℕ) → t < length cs → getTerm (map readTerm cs) t ≡ some (readTerm (getD cs t noCell))
-unfolding getTerm
-get-read [] t h = absurd (not-suc-le-zero h)
-get-read (c ∷ cs) zero h = refl
-get-read (c ∷ cs) (suc t) h = get-read cs t (le-of-suc-le-suc h)
 
 module _ {K E P : List ℕ} {z : Sizes} (R : Ready K E P z) where
   terms-long : length (tablesFor K E P z .terms) ≡ z .terms

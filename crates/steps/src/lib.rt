@@ -252,7 +252,7 @@ fn congr_claims(p: u32, q: Proposition, lhs: u32, t: u32) -> Refusal
     )
 }
 
-// The application of a head to the children of t, of which child i is replaced by x.
+// The application of a head to the children of t, of which child i is replaced by x. The term near is looked at first.
 fn replace_child(
     kinds: &mut [u32],
     ends: &mut [u32],
@@ -262,6 +262,7 @@ fn replace_child(
     head: u32,
     i: usize,
     x: u32,
+    near: u32,
 ) -> Checked
     requires { ⌜ Stored (now kinds) (now ends) (now pool) fill ⌝ }
     requires { ⌜ Small (termsIn (now kinds) (now ends) (now pool) fill) t ⌝ }
@@ -273,7 +274,7 @@ fn replace_child(
     let n = xs.len();
     cells::copy(&mut args, 0, xs);
     args[i] = x;
-    add_app(kinds, ends, pool, fill, head, &args[..n])
+    add_app(kinds, ends, pool, fill, near, head, &args[..n])
 }
 
 // `Congr`: child i of the right side of a is replaced, by b.
@@ -306,7 +307,7 @@ fn congr_step(
             fill,
         };
     }
-    let r = replace_child(kinds, ends, pool, fill, t, f, wide(i), b.rhs);
+    let r = replace_child(kinds, ends, pool, fill, t, f, wide(i), b.rhs, q.rhs);
     if r.refusal.number != 0 {
         return r;
     }
@@ -483,7 +484,7 @@ fn add_view(
     ensures { λ r. ⌜ AddsView p (propositionOf q) t head value (now (kinds .entry)) (now (ends .entry)) (now (pool .entry)) fill (now (marks .entry)) (now (kinds .exit)) (now (ends .exit)) (now (pool .exit)) r ⌝ }
 {
     let n = children(kinds, ends, pool, fill, wide(t)).len();
-    let r = replace_child(kinds, ends, pool, fill, t, head, n - 1, value);
+    let r = replace_child(kinds, ends, pool, fill, t, head, n - 1, value, q.rhs);
     if r.refusal.number != 0 {
         return r;
     }

@@ -15,13 +15,14 @@ use Rattle.model.specs.Cell.{Cell, noCell, sameCell, cellsOf}
 use Rattle.model.specs.Term.{Term, lit, var, app, termKind, termWords, cellOf, readTerm, sameTerm, width, widths, findTerm, getTerm}
 use Rattle.model.specs.Check.{Outcome, ok, refused, refuse, addNode}
 use Rattle.model.specs.Evaluate.{children}
+use Rattle.model.proofs.Represent.{Distinct}
 use Rattle.model.specs.Decode.{readArguments}
-use Rattle.cells.specs.Table.{findFrom, put, total, Table, tableOf, Result, appendIf, appendCell, addFound, addCell, Ran}
+use Rattle.cells.specs.Table.{findFrom, Once, put, total, Table, tableOf, Result, appendIf, appendCell, addFound, addCell, Ran}
 use Rattle.cells.specs.declared.Fill.{Fill}
 use Rattle.cells.specs.declared.Found.{Found}
 use Rattle.cells.specs.declared.Added.{Added}
 use Rattle.cells.proofs.Laws.{cells-length, cell-at}
-use Rattle.cells.proofs.Appending.{held-total}
+use Rattle.cells.proofs.Appending.{held-total, add-once}
 use Rattle.decode.specs.View.{cell, termOf}
 use Rattle.decode.specs.declared.Term as decoded
 use Rattle.decode.proofs.Laws.{arguments-none, arguments-some}
@@ -116,15 +117,15 @@ module _ (C W : ℕ) (t : Term) (s : List Term) where
       (by-find (findTerm s t 0))
 
 module _ {K E P : List ℕ} {f : Fill} {K′ E′ P′ : List ℕ} {a : Added} where
-  adds-same : {x : Result} {o : Outcome ℕ} → Same x o → Ran K E P f K′ E′ P′ a x → Adds K E P f K′ E′ P′ a o
+  adds-same : {x : Result} {o : Outcome ℕ} → Same x o → Once (x .cells) → Ran K E P f K′ E′ P′ a x → Adds K E P f K′ E′ P′ a o
   unfolding termsIn
-  adds-same q R =
+  adds-same q once R =
       let ts = ap (map readTerm) (R .cells) in
       let w = sym (held-total (R .formed)) ∙ ap total (R .cells) in
       record {
         outcome = (λ i. answer (R .full i) (R .number i) (w i) (ts i)) ∙ q .outcome;
         full = λ e. R .number ∙ q .full (sym (R .full) ∙ e);
-        stored = record { formed = R .formed; terms = ap (map cellOf) ts ∙ q .terms ∙ sym (R .cells) };
+        stored = record { formed = R .formed; once = subst Once (sym (R .cells)) once; terms = ap (map cellOf) ts ∙ q .terms ∙ sym (R .cells) };
         lenK = R .lenK;
         lenE = R .lenE;
         lenP = R .lenP;
@@ -141,6 +142,7 @@ module _ {K E P : List ℕ} {f : Fill} {K′ E′ P′ : List ℕ} {a : Added} w
       adds-same (subst (λ (cs : List Cell). Same (addCell (cellOf t) (record { cells = cs; cellRoom = length K; wordRoom = length P })) (addNode (roomOf K P) t (termsIn K E P f)))
       (S .terms)
       (add-term (length K) (length P) t (termsIn K E P f)))
+      (add-once (cellOf t) (tableOf K E P f) (S .once))
 
 -- the words of an application, written one part after the other
 pub put-first : (f : ℕ) (zs xs : List ℕ) → take (length xs + 1) (put (f ∷ zs) 1 xs) ≡ f ∷ xs
@@ -148,6 +150,16 @@ unfolding put
 put-first f zs xs = rw (add-one (length xs)) (ap (λ (l : List ℕ). f ∷ l) (take-at xs (drop (1 + length xs) (f ∷ zs)) (length xs) refl))
 
 -- reading a term
+pub get-read : (cs : List Cell) (t : ℕ) → t < length cs → getTerm (map readTerm cs) t ≡ some (readTerm (getD cs t noCell))
+unfolding getTerm
+get-read [] t h = absurd (not-suc-le-zero h)
+get-read (c ∷ cs) zero h = refl
+get-read (c ∷ cs) (suc t) h = get-read cs t (le-of-suc-le-suc h)
+
+-- cells whose terms are all different
+pub once-of : (cs : List Cell) → Distinct (map readTerm cs) → Once cs
+once-of cs d = record { one = λ i j h k q. d .one i j (readTerm (getD cs i noCell)) (get-read cs i h) (get-read cs j k ∙ ap (λ (c : Cell). some (readTerm c)) (sym q)) }
+
 get-map : (cs : List Cell) (t : ℕ) → t < length cs → getTerm (map readTerm cs) t ≡ some (readTerm (getD cs t noCell))
 unfolding getTerm
 get-map [] t h = absurd (not-suc-le-zero h)

@@ -1,5 +1,5 @@
 -- Copying the first cells of a table into lent arrays, cell by cell.
-use mathlib.Core.Path.{_≡_, refl, sym, ap, ap₂, _∙_}
+use mathlib.Core.Path.{_≡_, refl, sym, ap, ap₂, subst, _∙_}
 use mathlib.Core.Logic.{⊎-elim}
 use mathlib.Core.Bool.{true}
 use mathlib.Core.List.{List, [], _∷_, _++_, map}
@@ -11,7 +11,7 @@ use lib.Seq.{drop-drop}
 use borrow.Author.Tests.{lt-ltb, le-leb}
 use Rattle.model.specs.Cell.{Cell, noCell, tabulate, startOf, cellAt, cellsOf}
 use Rattle.model.specs.Term.{cellOf, readTerm}
-use Rattle.cells.specs.Table.{Formed, total, tableOf, hasRoom, appendCell, Ran}
+use Rattle.cells.specs.Table.{Formed, Once, total, tableOf, hasRoom, appendCell, Ran}
 use Rattle.cells.specs.declared.Fill.{Fill}
 use Rattle.cells.specs.declared.Added.{Added}
 use Rattle.cells.proofs.Laws.{cells-length, words-length, tabulate-more, cell-words, rising, within}
@@ -100,7 +100,7 @@ module _ {JK JE JP : List ℕ} {jf : Fill} {n : ℕ} {K₀ E₀ P₀ : List ℕ}
         record {
           cells = C .count ∙ e;
           words = copied-words (omega arith) ∙ ap (startOf JE) e;
-          stored = record { formed = C .formed; terms = ap (λ (cs : List Cell). map cellOf (map readTerm cs)) s ∙ L .terms ∙ sym s };
+          stored = record { formed = C .formed; once = subst Once (sym s) (L .once); terms = ap (λ (cs : List Cell). map cellOf (map readTerm cs)) s ∙ L .terms ∙ sym s };
           terms = ap (map readTerm) s;
           lenK = C .lenK;
           lenE = C .lenE;

@@ -7,7 +7,7 @@ use lib.ListN.{length, drop}
 use Rattle.model.specs.Cell.{startOf, cellsOf}
 use Rattle.model.specs.Term.{Term, cellOf, readTerm}
 use Rattle.model.specs.Check.{Outcome, ok, refused, Room}
-use Rattle.cells.specs.Table.{Formed}
+use Rattle.cells.specs.Table.{Formed, Once}
 use Rattle.cells.specs.declared.Fill.{Fill}
 use Rattle.cells.specs.declared.Added.{Added}
 
@@ -15,9 +15,10 @@ use Rattle.cells.specs.declared.Added.{Added}
 unfoldable pub termsIn : List ℕ → List ℕ → List ℕ → Fill → List Term
 termsIn K E P f = map readTerm (cellsOf K E P (f .cells))
 
--- The arrays are well formed, and each cell is a term's.
+-- The arrays are well formed, each cell is a term's, and no two are equal.
 pub record Stored (K E P : List ℕ) (f : Fill) : Type 0 where
   pub formed : Formed K E P f
+  pub once : Once (cellsOf K E P (f .cells))
   pub terms : map cellOf (termsIn K E P f) ≡ cellsOf K E P (f .cells)
 
 -- The room of lent arrays.
@@ -42,10 +43,11 @@ pub record Adds (K E P : List ℕ) (f : Fill) (K′ E′ P′ : List ℕ) (a : A
   pub ends : drop (a .fill .cells) E′ ≡ drop (a .fill .cells) E
   pub pool : drop (a .fill .words) P′ ≡ drop (a .fill .words) P
 
--- The first n cells of a table are terms' cells, and the lent arrays K, E, P have room for them.
+-- The first n cells of a table are terms' cells, no two equal, and the lent arrays K, E, P have room for them.
 pub record Loadable (JK JE JP : List ℕ) (f : Fill) (n : ℕ) (K E P : List ℕ) : Type 0 where
   pub formed : Formed JK JE JP f
   pub within : n ≤ f .cells
+  pub once : Once (cellsOf JK JE JP n)
   pub terms : map cellOf (map readTerm (cellsOf JK JE JP n)) ≡ cellsOf JK JE JP n
   pub cells : n ≤ length K
   pub words : startOf JE n ≤ length P

@@ -33,13 +33,20 @@ pub fn children<'a>(kinds: &[u32], ends: &[u32], pool: &'a [u32], fill: Fill, t:
     decode::read_arguments(kinds[t], ws)
 }
 
-// The number of a literal, added if there is none equal.
-pub fn lit(kinds: &mut [u32], ends: &mut [u32], pool: &mut [u32], fill: Fill, l: Literal) -> Added
+// The number of a literal, added if there is none equal. The term near is looked at first, here and below, whichever that is.
+pub fn lit(
+    kinds: &mut [u32],
+    ends: &mut [u32],
+    pool: &mut [u32],
+    fill: Fill,
+    near: u32,
+    l: Literal,
+) -> Added
     requires { ⌜ Stored (now kinds) (now ends) (now pool) fill ⌝ }
     ensures { λ r. ⌜ Adds (now (kinds .entry)) (now (ends .entry)) (now (pool .entry)) fill (now (kinds .exit)) (now (ends .exit)) (now (pool .exit)) r (addNode (roomOf (now (kinds .entry)) (now (pool .entry))) (lit (literalOf l)) (termsIn (now (kinds .entry)) (now (ends .entry)) (now (pool .entry)) fill)) ⌝ }
 {
     let ws = [l.kind, l.low, l.high];
-    cells::add(kinds, ends, pool, fill, 0, &ws)
+    cells::add(kinds, ends, pool, fill, near, 0, &ws)
 }
 
 // The number of an application, added if there is none equal.
@@ -48,6 +55,7 @@ pub fn app(
     ends: &mut [u32],
     pool: &mut [u32],
     fill: Fill,
+    near: u32,
     f: u32,
     args: &[u32],
 ) -> Added
@@ -59,7 +67,7 @@ pub fn app(
     ws[0] = f;
     cells::copy(&mut ws, 1, args);
     let e = args.len() + 1;
-    cells::add(kinds, ends, pool, fill, 2, &ws[..e])
+    cells::add(kinds, ends, pool, fill, near, 2, &ws[..e])
 }
 
 // Copies the first terms cells of the job into the lent arrays.

@@ -112,32 +112,35 @@ eval-loop-again t c = let a = c .before .before .before .before .before .before 
 eval-head-at-requires : (t : ℕ) → eval-lts.Need-head-at-requires (R-eval t) (eval-at t) eval.Post eval-Inv-loop eval-μ-loop
 eval-head-at-requires t c κs = let pre = c .before .before .before .before .before .before .before .before .before .before .before .before .before .before .before .before .before .pre .1 in let h = pre .1 .1 .0 in let w = c .before .before .before .before .before .before .wide .ensures in (pre .0, omega arith)
 
+eval-value-of-requires-2 : (t : ℕ) → eval-lts.Need-value-of-requires-2 (R-eval t) (eval-at t) eval.Post eval-Inv-loop eval-μ-loop
+eval-value-of-requires-2 t c κs = let pre = c .before .before .before .before .before .before .before .before .before .before .before .before .before .before .before .before .before .before .before .pre .1 in let l = c .before .before .before .loop .inv .memo .long in let h = pre .1 .1 .0 in let w = c .before .before .before .before .before .before .before .before .wide .ensures in omega arith
+
 eval-array-share-prefix-vals : (t : ℕ) → eval-lts.Need-array-share-prefix-vals (R-eval t) (eval-at t) eval.Post eval-Inv-loop eval-μ-loop
-eval-array-share-prefix-vals t c = let f = c .before .before .before .before .before .before .arguments-at .ensures .few in let h = c .before .before .before .before .before .loop .inv .full in omega arith
+eval-array-share-prefix-vals t c = let f = c .before .before .before .before .before .before .before .before .arguments-at .ensures .few in let h = c .before .before .before .before .before .before .before .loop .inv .full in omega arith
 
 eval-slice-aggregate-head-value : (t : ℕ) → eval-lts.Need-slice-aggregate-head-value (R-eval t) (eval-at t) eval.Post eval-Inv-loop eval-μ-loop
-eval-slice-aggregate-head-value t c = let f = c .before .before .before .before .before .before .before .arguments-at .ensures .few in let h = c .before .before .before .before .before .before .loop .inv .full in simp length-take (omega arith)
+eval-slice-aggregate-head-value t c = let f = c .before .before .before .before .before .before .before .before .before .arguments-at .ensures .few in let h = c .before .before .before .before .before .before .before .before .loop .inv .full in simp length-take (omega arith)
 
 eval-head-value-requires : (t : ℕ) → eval-lts.Need-head-value-requires (R-eval t) (eval-at t) eval.Post eval-Inv-loop eval-μ-loop
-eval-head-value-requires t c κs = let pre = c .before .before .before .before .before .before .before .before .before .before .before .before .before .before .before .before .before .before .before .before .before .before .pre .1 in (pre .0, (c .before .before .before .before .before .before .loop .inv .run .grown .stored, (let f = c .before .before .before .before .before .before .before .arguments-at .ensures .few in simp length-take (omega arith), c .before .before .before .before .head-at .ensures .primitive)))
+eval-head-value-requires t c κs = let pre = c .before .before .before .before .before .before .before .before .before .before .before .before .before .before .before .before .before .before .before .before .before .before .before .before .pre .1 in (pre .0, (c .before .before .before .before .before .before .before .before .loop .inv .run .grown .stored, (let f = c .before .before .before .before .before .before .before .before .before .arguments-at .ensures .few in simp length-take (omega arith), c .before .before .before .before .before .before .head-at .ensures .primitive)))
 
 eval-note-requires : (t : ℕ) → eval-lts.Need-note-requires (R-eval t) (eval-at t) eval.Post eval-Inv-loop eval-μ-loop
-eval-note-requires t c κs = let pre = c .before .before .before .before .before .before .before .before .before .before .before .before .before .before .before .before .before .before .before .before .before .before .before .before .before .before .before .before .before .before .pre .1 in let l = c .before .before .before .before .before .before .before .before .before .before .before .before .before .before .loop .inv .memo .long in let h = pre .1 .1 .0 in let w = c .before .before .before .before .before .before .before .before .before .before .before .before .before .before .before .before .before .before .before .wide .ensures in omega arith
+eval-note-requires t c κs = let pre = c .before .before .before .before .before .before .before .before .before .before .before .before .before .before .before .before .before .before .before .before .before .before .before .before .before .before .before .before .before .before .before .before .pre .1 in let l = c .before .before .before .before .before .before .before .before .before .before .before .before .before .before .before .before .loop .inv .memo .long in let h = pre .1 .1 .0 in let w = c .before .before .before .before .before .before .before .before .before .before .before .before .before .before .before .before .before .before .before .before .before .wide .ensures in omega arith
 
 eval-same-length-6 : (t : ℕ) → eval-lts.Need-same-length-6 (R-eval t) (eval-at t) eval.Post eval-Inv-loop eval-μ-loop
-eval-same-length-6 t c = c .before .before .before .before .before .before .before .before .before .before .head-value .ensures .grown .lenK ∙ c .before .before .before .before .before .before .before .before .before .before .before .before .before .before .before .before .before .loop .inv .run .grown .lenK
+eval-same-length-6 t c = c .before .before .before .before .before .before .before .before .before .before .head-value .ensures .grown .lenK ∙ c .before .before .before .before .before .before .before .before .before .before .before .before .before .before .before .before .before .before .before .loop .inv .run .grown .lenK
 
 eval-same-length-7 : (t : ℕ) → eval-lts.Need-same-length-7 (R-eval t) (eval-at t) eval.Post eval-Inv-loop eval-μ-loop
-eval-same-length-7 t c = c .before .before .before .before .before .before .before .before .before .before .head-value .ensures .grown .lenE ∙ c .before .before .before .before .before .before .before .before .before .before .before .before .before .before .before .before .before .loop .inv .run .grown .lenE
+eval-same-length-7 t c = c .before .before .before .before .before .before .before .before .before .before .head-value .ensures .grown .lenE ∙ c .before .before .before .before .before .before .before .before .before .before .before .before .before .before .before .before .before .before .before .loop .inv .run .grown .lenE
 
 eval-same-length-8 : (t : ℕ) → eval-lts.Need-same-length-8 (R-eval t) (eval-at t) eval.Post eval-Inv-loop eval-μ-loop
-eval-same-length-8 t c = c .before .before .before .before .before .before .before .before .before .before .head-value .ensures .grown .lenP ∙ c .before .before .before .before .before .before .before .before .before .before .before .before .before .before .before .before .before .loop .inv .run .grown .lenP
+eval-same-length-8 t c = c .before .before .before .before .before .before .before .before .before .before .head-value .ensures .grown .lenP ∙ c .before .before .before .before .before .before .before .before .before .before .before .before .before .before .before .before .before .before .before .loop .inv .run .grown .lenP
 
 eval-same-length-9 : (t : ℕ) → eval-lts.Need-same-length-9 (R-eval t) (eval-at t) eval.Post eval-Inv-loop eval-μ-loop
-eval-same-length-9 t c = search needs
+eval-same-length-9 t c = c .before .before .note .kept .0 ∙ c .before .before .before .before .before .before .before .before .before .before .before .before .before .before .before .before .before .before .before .loop .inv .lenM
 
 eval-returns-3 : (t : ℕ) → eval-lts.Need-returns-3 (R-eval t) (eval-at t) eval.Post eval-Inv-loop eval-μ-loop
-eval-returns-3 t c = let a = c .before .before .before .before .before .before .before .before .before .before .before .before .before .before .before .before .before .before .before .before .before .before .before .before .before .before .before .before .before .before .before .before .before .args in let pre = c .before .before .before .before .before .before .before .before .before .before .before .before .before .before .before .before .before .before .before .before .before .before .before .before .before .before .before .before .before .before .before .before .before .pre .1 in let prog = programFor (a .kinds .now) (a .ends .now) (a .pool .now) (a .z) in let σ = bindingsIn (a .bound .now) (a .pairs .now) (a .globals .now) in let args = argumentsFor (a .kinds .now) (a .ends .now) (a .pool .now) (a .z) in let head = headFor (a .kinds .now) (a .ends .now) (a .pool .now) (a .z) in let expr = exprFor (a .kinds .now) (a .ends .now) (a .pool .now) (a .z) in finishes (a .fact) prog (a .rule) σ (a .z .expressions) args head expr (c .before .before .before .before .before .before .before .before .before .before .before .before .before .before .before .before .before .loop .inv) (search needs) (c .before .before .before .before .before .before .before .before .before .before .before .before .before .before .before .before .before .before .arguments-at .ensures .is ∙ ap args (c .before .before .before .before .before .before .before .before .before .before .before .before .before .before .before .before .before .before .before .before .before .before .wide .ensures)) (pre .1 .1 .0) (at-head (a .fact) _ prog (a .rule) σ _ _ (c .before .before .before .before .before .before .before .before .before .before .before .before .before .before .before .head-at .ensures .is ∙ ap head (c .before .before .before .before .before .before .before .before .before .before .before .before .before .before .before .before .before .before .before .before .before .before .wide .ensures)) (c .before .before .before .before .before .before .before .before .before .before .head-value .ensures)) (c .before .before .note .ensures ∙ ap (λ (k : ℕ). noteAt (c .before .before .before .before .before .before .before .before .before .before .before .before .before .before .before .before .before .loop .memo) k (c .before .before .before .before .before .before .before .before .before .before .head-value .result .value)) (c .before .before .before .before .before .before .before .before .before .before .before .before .before .before .before .before .before .before .before .before .before .before .wide .ensures))
+eval-returns-3 t c = let a = c .before .before .before .before .before .before .before .before .before .before .before .before .before .before .before .before .before .before .before .before .before .before .before .before .before .before .before .before .before .before .before .before .before .before .before .args in let pre = c .before .before .before .before .before .before .before .before .before .before .before .before .before .before .before .before .before .before .before .before .before .before .before .before .before .before .before .before .before .before .before .before .before .before .before .pre .1 in let prog = programFor (a .kinds .now) (a .ends .now) (a .pool .now) (a .z) in let σ = bindingsIn (a .bound .now) (a .pairs .now) (a .globals .now) in let args = argumentsFor (a .kinds .now) (a .ends .now) (a .pool .now) (a .z) in let head = headFor (a .kinds .now) (a .ends .now) (a .pool .now) (a .z) in let expr = exprFor (a .kinds .now) (a .ends .now) (a .pool .now) (a .z) in finishes (a .fact) prog (a .rule) σ (a .z .expressions) args head expr (c .before .before .before .before .before .before .before .before .before .before .before .before .before .before .before .before .before .before .before .loop .inv) (c .before .before .before .before .before .before .before .before .before .before .before .before .before .before .before .before .before .before .loop-test .left) (c .before .before .before .before .before .before .before .before .before .before .before .before .before .before .before .before .before .before .before .before .arguments-at .ensures .is ∙ ap args (c .before .before .before .before .before .before .before .before .before .before .before .before .before .before .before .before .before .before .before .before .before .before .before .before .wide .ensures)) (pre .1 .1 .0) (at-head (a .fact) _ prog (a .rule) σ _ _ (c .before .before .before .before .before .before .before .before .before .before .before .before .before .before .before .before .before .head-at .ensures .is ∙ ap head (c .before .before .before .before .before .before .before .before .before .before .before .before .before .before .before .before .before .before .before .before .before .before .before .before .wide .ensures)) (c .before .before .before .before .before .before .before .before .before .before .head-value .ensures)) (c .before .before .note .ensures ∙ ap (λ (k : ℕ). noteAt (c .before .before .before .before .before .before .before .before .before .before .before .before .before .before .before .before .before .before .before .loop .memo) k (c .before .before .before .before .before .before .before .before .before .before .head-value .result .value)) (c .before .before .before .before .before .before .before .before .before .before .before .before .before .before .before .before .before .before .before .before .before .before .before .before .wide .ensures))
 
 pub +eval-spec : {M : Type 1} → statement M
 +eval-spec = close μ-eval λ t. eval-lts.spec (R-eval t)
@@ -167,6 +170,7 @@ pub +eval-spec : {M : Type 1} → statement M
     (eval-loop-less t)
     (eval-loop-again t)
     (eval-head-at-requires t)
+    (eval-value-of-requires-2 t)
     (eval-array-share-prefix-vals t)
     (eval-slice-aggregate-head-value t)
     (eval-head-value-requires t)

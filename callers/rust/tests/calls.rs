@@ -1,0 +1,210 @@
+//! Both entries, called as a host calls them: jobs A and B of document 01, and arrays of any length.
+
+use std::fs;
+use std::path::Path;
+
+use sizercobalt::{ANSWER, BYTES, check, check_bytes};
+
+/// Job B's terms as a store holds them: 7, 8, name 4 of the first, name 4 of the second.
+const TERMS_B: [&[u32]; 3] = [
+    &[0, 0, 2, 2],
+    &[3, 6, 8, 10],
+    &[2, 7, 0, 2, 8, 0, 4, 0, 4, 1],
+];
+
+/// What document 01 says of job B's proofs in examples/job_b.bin, in their order.
+const ANSWERS_B: [[u32; ANSWER]; 13] = [
+    [0, 4, 0, 1, 1, 0, 0, 0],
+    [0, 4, 0, 0, 1, 0, 0, 0],
+    [0, 4, 2, 2, 1, 0, 0, 0],
+    [33, 4, 3, 3, 3, 0, 0, 0],
+    [0, 4, 1, 0, 1, 0, 0, 0],
+    [0, 4, 0, 0, 2, 0, 0, 0],
+    [21, 4, 6, 1, 0, 0, 0, 0],
+    [20, 4, 7, 0, 1, 1, 0, 0],
+    [0, 4, 2, 3, 2, 0, 0, 0],
+    [23, 4, 9, 1, 1, 0, 0, 0],
+    [24, 4, 10, 1, 0, 0, 0, 0],
+    [25, 4, 11, 2, 3, 0, 0, 0],
+    [26, 4, 12, 0, 0, 0, 0, 0],
+];
+
+fn bytes(file: &str) -> Vec<u8> {
+    let examples = Path::new(env!("CARGO_MANIFEST_DIR")).join("../../examples");
+    fs::read(examples.join(file)).expect("an example")
+}
+
+fn words(file: &str) -> Vec<u32> {
+    let bytes = bytes(file);
+    let (words, rest) = bytes.as_chunks();
+    assert!(rest.is_empty());
+    words.iter().copied().map(u32::from_le_bytes).collect()
+}
+
+/// A word of a lent array before the call; each place has its own.
+fn dirt(array: usize, place: usize) -> u32 {
+    (0xd000_0000 + (array << 24) + place) as u32
+}
+
+/// What is lent for a call: kinds, ends, pool, scratch and the answer's buffer.
+struct Lent([Vec<u32>; 5]);
+
+impl Lent {
+    fn of(lengths: [usize; 5]) -> Lent {
+        let mut array = 0;
+        Lent(lengths.map(|length| {
+            array += 1;
+            (0..length).map(|place| dirt(array, place)).collect()
+        }))
+    }
+
+    fn check(&mut self, job: &[u32], asked: u32) -> u32 {
+        let [kinds, ends, pool, scratch, answer] = &mut self.0;
+        check(job, asked, kinds, ends, pool, scratch, answer)
+    }
+
+    fn answer(&self) -> &[u32] {
+        &self.0[4]
+    }
+
+    /// The three arrays begin with these words, and hold what was lent past them.
+    #[track_caller]
+    fn holds(&self, store: [&[u32]; 3]) {
+        for (array, (lent, written)) in self.0.iter().zip(store).enumerate() {
+            assert_eq!(lent[..written.len()], *written);
+            for (place, &word) in lent.iter().enumerate().skip(written.len()) {
+                assert_eq!(word, dirt(array + 1, place));
+            }
+        }
+    }
+
+    /// Neither the three arrays nor the answer have changed.
+    #[track_caller]
+    fn is_unwritten(&self) {
+        self.holds([&[]; 3]);
+        for (place, &word) in self.answer().iter().enumerate() {
+            assert_eq!(word, dirt(5, place));
+        }
+    }
+}
+
+/// The answer of a number below 20 without a field.
+fn refused(number: u32) -> [u32; ANSWER] {
+    [number, 0, 0, 0, 0, 0, 0, 0]
+}
+
+#[track_caller]
+fn bytes_give(job: &[u8], asked: u32, expected: [u32; ANSWER]) {
+    let mut answer = [dirt(5, 0); ANSWER];
+    assert_eq!(check_bytes(job, asked, &mut answer), expected[0]);
+    assert_eq!(answer, expected);
+}
+
+#[track_caller]
+fn words_give(job: &[u32], asked: u32, lengths: [usize; 4], expected: [u32; ANSWER]) -> Lent {
+    let [kinds, ends, pool, scratch] = lengths;
+    let mut lent = Lent::of([kinds, ends, pool, scratch, ANSWER]);
+    assert_eq!(lent.check(job, asked), expected[0]);
+    assert_eq!(lent.answer(), expected);
+    lent
+}
+
+#[test]
+fn job_a_as_bytes() {
+    bytes_give(&bytes("job_a.bin"), 1, [0, 1, 0, 0, 2, 0, 0, 0]);
+    bytes_give(&bytes("job_a.bin"), 0, [0, 1, 0, 0, 1, 0, 0, 0]);
+    bytes_give(&bytes("job_a.bin"), 2, refused(3));
+}
+
+#[test]
+fn job_a_as_words() {
+    let lengths = [5, 5, 20, 14];
+    let lent = words_give(&words("job_a.bin"), 1, lengths, [0, 1, 0, 0, 2, 0, 0, 0]);
+    lent.holds([&[0], &[3], &[2, 7, 0]]);
+    let lent = words_give(&words("job_a.bin"), 2, lengths, refused(3));
+    lent.holds([&[]; 3]);
+}
+
+#[test]
+fn job_b_as_bytes() {
+    for (asked, expected) in ANSWERS_B.into_iter().enumerate() {
+        bytes_give(&bytes("job_b.bin"), asked as u32, expected);
+    }
+}
+
+#[test]
+fn job_b_as_words() {
+    for (asked, expected) in ANSWERS_B.into_iter().enumerate() {
+        let lent = words_give(&words("job_b.bin"), asked as u32, [9, 9, 30, 50], expected);
+        lent.holds(TERMS_B);
+    }
+}
+
+/// C and W of just the terms' size, and scratch of just 2 x (C + J) words, are enough; one word less is 10.
+#[test]
+fn just_enough_is_lent() {
+    let job = words("job_b.bin");
+    let lent = words_give(&job, 8, [4, 4, 10, 34], ANSWERS_B[8]);
+    lent.holds(TERMS_B);
+    for short in 0..4 {
+        let mut lengths = [4, 4, 10, 34];
+        lengths[short] -= 1;
+        words_give(&job, 8, lengths, refused(10)).holds([&[]; 3]);
+    }
+}
+
+#[test]
+fn answer_of_another_length() {
+    for length in [0, 1, 7, 9, 16] {
+        let mut lent = Lent::of([9, 9, 30, 50, length]);
+        assert_eq!(lent.check(&words("job_b.bin"), 0), 10);
+        lent.is_unwritten();
+        assert_eq!(lent.check(&[], 0), 10);
+        lent.is_unwritten();
+        for job in [bytes("job_b.bin"), Vec::new(), vec![0; BYTES + 1]] {
+            assert_eq!(check_bytes(&job, 0, &mut lent.0[4]), 10);
+            lent.is_unwritten();
+        }
+    }
+}
+
+#[test]
+fn no_job_and_one_too_long() {
+    bytes_give(&[], 0, refused(1));
+    bytes_give(&[0; 47], 0, refused(1));
+    bytes_give(&[0; 48], 0, refused(3));
+    bytes_give(&[0; BYTES + 1], 0, refused(1));
+    bytes_give(&[0; BYTES + 4], 0, refused(1));
+    words_give(&[], 0, [9, 9, 30, 50], refused(1)).holds([&[]; 3]);
+}
+
+/// A pool of unused words makes a job of just the longest length; four bytes more are 1.
+#[test]
+fn the_longest_job() {
+    let mut job = vec![0; BYTES];
+    let pool = (BYTES / 4 - 12) as u32;
+    job[44..48].copy_from_slice(&pool.to_le_bytes());
+    bytes_give(&job, 0, refused(3));
+    job.extend([0; 4]);
+    job[44..48].copy_from_slice(&(pool + 1).to_le_bytes());
+    bytes_give(&job, 0, refused(1));
+}
+
+/// Nothing lent is 10 for a job that has terms or proofs, and comes after what is wrong with the job.
+#[test]
+fn empty_arrays() {
+    let job = words("job_b.bin");
+    for array in 0..4 {
+        let mut lengths = [9, 9, 30, 50];
+        lengths[array] = 0;
+        words_give(&job, 0, lengths, refused(10)).holds([&[]; 3]);
+    }
+    words_give(&job, 0, [0; 4], refused(10));
+    words_give(&job, 13, [0; 4], refused(3));
+    words_give(&[], 0, [0; 4], refused(1));
+    words_give(&[0; 12], 0, [0; 4], refused(3));
+    let mut lent = Lent::of([0; 5]);
+    assert_eq!(lent.check(&job, 0), 10);
+    assert_eq!(lent.check(&[], 0), 10);
+    assert_eq!(check_bytes(&[], 0, &mut []), 10);
+}

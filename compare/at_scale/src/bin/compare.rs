@@ -1,0 +1,34 @@
+//! Holds the proved library against the Rust: compare [FIRST [COUNT]], seeds 0 to 199,999 unless told otherwise.
+//! One line if there is no difference; else the first one found, and status 1.
+//! compare FIRST COUNT details: after the line, how often each number and each variant came up.
+
+use std::env;
+use std::process::ExitCode;
+use std::time::Instant;
+
+use at_scale::{Call, compare_range};
+
+const SEEDS: u64 = 200_000;
+
+fn main() -> ExitCode {
+    let arguments: Vec<String> = env::args().skip(1).collect();
+    let number = |place: usize, default| match arguments.get(place) {
+        Some(text) => text.parse().expect("a number of seeds"),
+        None => default,
+    };
+    let started = Instant::now();
+    match compare_range(number(0, 0), number(1, SEEDS), Call::by_library) {
+        Ok(tally) => {
+            let seconds = started.elapsed().as_secs_f64();
+            println!("{}; {seconds:.1} s", tally.summary());
+            if arguments.get(2).is_some_and(|text| text == "details") {
+                print!("{}", tally.details());
+            }
+            ExitCode::SUCCESS
+        }
+        Err(report) => {
+            print!("{report}");
+            ExitCode::FAILURE
+        }
+    }
+}

@@ -1,0 +1,102 @@
+//! A call of an entry, and what the Rust and the library make of it.
+
+use generator::Case;
+use oracle::TooManySteps;
+
+use crate::variants::Variant;
+
+/// What an entry is handed to read, and the lengths of what is lent.
+#[derive(Clone, Debug)]
+pub enum Input {
+    Words(Case),
+    Bytes { job: Vec<u8>, asked: u32 },
+}
+
+/// A call of an entry.
+#[derive(Clone, Debug)]
+pub struct Call {
+    pub variant: Variant,
+    pub input: Input,
+    /// The length of the answer's buffer.
+    pub answer: usize,
+    /// Each decides what scratch holds before; the library is called once for each.
+    pub scratches: Vec<u32>,
+}
+
+/// What a call returns and leaves.
+#[derive(Clone, PartialEq, Eq, Debug)]
+pub struct Left {
+    pub number: u32,
+    pub answer: Vec<u32>,
+    pub kinds: Vec<u32>,
+    pub ends: Vec<u32>,
+    pub pool: Vec<u32>,
+}
+
+impl Call {
+    /// What is lent, before the call.
+    fn lent(&self) -> Left {
+        let store = match &self.input {
+            Input::Words(case) => [case.lent_kinds(), case.lent_ends(), case.lent_pool()],
+            Input::Bytes { .. } => [const { Vec::new() }; 3],
+        };
+        let [kinds, ends, pool] = store;
+        Left {
+            number: 0,
+            answer: dirty(self.scratches[0], self.answer),
+            kinds,
+            ends,
+            pool,
+        }
+    }
+
+    /// What the Rust says.
+    pub fn by_rust(&self) -> Result<Left, TooManySteps> {
+        let mut left = self.lent();
+        left.number = match &self.input {
+            Input::Words(case) => oracle::check(
+                &case.job,
+                case.asked,
+                &mut left.kinds,
+                &mut left.ends,
+                &mut left.pool,
+                case.scratch,
+                &mut left.answer,
+            )?,
+            Input::Bytes { job, asked } => oracle::check_bytes(job, *asked, &mut left.answer)?,
+        };
+        Ok(left)
+    }
+
+    /// What the proved library says, with scratch as the number decides.
+    pub fn by_library(&self, scratch: u32) -> Left {
+        let mut left = self.lent();
+        left.number = match &self.input {
+            Input::Words(case) => sizercobalt::check(
+                &case.job,
+                case.asked,
+                &mut left.kinds,
+                &mut left.ends,
+                &mut left.pool,
+                &mut dirty(scratch, case.scratch),
+                &mut left.answer,
+            ),
+            Input::Bytes { job, asked } => sizercobalt::check_bytes(job, *asked, &mut left.answer),
+        };
+        left
+    }
+}
+
+/// Words to begin with, as the number decides, the next number otherwise: all alike, small ones that
+/// could pass for numbers of cells, or any.
+fn dirty(number: u32, length: usize) -> Vec<u32> {
+    let word = |place: u32| number.wrapping_add(place).wrapping_mul(0x9e37_79b1);
+    let words = 0..length as u32;
+    match number % 5 {
+        0 => vec![0; length],
+        1 => vec![u32::MAX; length],
+        2 => words.map(|place| word(place) >> 29).collect(),
+        3 => words.map(|place| word(place) >> 22).collect(),
+        _ => words.map(word).collect(),
+    }
+}

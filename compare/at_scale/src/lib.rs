@@ -1,0 +1,13 @@
+//! The proved library against the Rust, call by call: the number returned, the answer and every lent word.
+
+mod call;
+mod difference;
+mod run;
+mod tally;
+mod variants;
+
+pub use call::{Call, Input, Left};
+pub use difference::{Difference, Part, difference};
+pub use run::{Report, compare_range};
+pub use tally::Tally;
+pub use variants::{Variant, calls};

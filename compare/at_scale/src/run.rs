@@ -1,0 +1,141 @@
+//! Compares the calls of a seed, and of a range of seeds on all cores.
+
+use std::fmt;
+use std::sync::atomic::{AtomicU64, Ordering};
+use std::thread;
+
+use crate::call::{Call, Left};
+use crate::difference::{Difference, difference};
+use crate::tally::Tally;
+use crate::variants::{Variant, calls};
+
+/// Seeds that a thread takes at a time.
+const CHUNK: u64 = 64;
+/// More than the deepest job takes: 4,096 rule steps one under another.
+const STACK: usize = 32 << 20;
+
+/// A difference and how to come by it.
+#[derive(Clone, PartialEq, Eq, Debug)]
+pub struct Report {
+    pub seed: u64,
+    pub variant: Variant,
+    /// What decided the contents of scratch.
+    pub scratch: u32,
+    pub difference: Difference,
+    /// Number and answer by the Rust.
+    pub expected: (u32, Vec<u32>),
+    /// Number and answer by the library.
+    pub found: (u32, Vec<u32>),
+}
+
+impl fmt::Display for Report {
+    fn fmt(&self, out: &mut fmt::Formatter) -> fmt::Result {
+        let Difference { part, place, .. } = self.difference;
+        writeln!(
+            out,
+            "seed {}, {:?}, scratch by {}",
+            self.seed, self.variant, self.scratch
+        )?;
+        let difference = &self.difference;
+        let sides = [
+            ("Rust", &self.expected, difference.expected),
+            ("library", &self.found, difference.found),
+        ];
+        for (side, (number, answer), word) in sides {
+            writeln!(
+                out,
+                "the {side}: number {number}, answer {answer:?}, {part:?} {place}: {word:?}"
+            )?;
+        }
+        Ok(())
+    }
+}
+
+/// Compares the seeds of a range on all cores, until there is a difference; that of the least seed is
+/// given. The library is what is held against the Rust: `Call::by_library`, or one with a mistake.
+pub fn compare_range<L>(first: u64, count: u64, library: L) -> Result<Tally, Box<Report>>
+where
+    L: Fn(&Call, u32) -> Left + Sync,
+{
+    let next = AtomicU64::new(first);
+    let end = first + count;
+    let threads = thread::available_parallelism().map_or(1, usize::from);
+    thread::scope(|scope| {
+        let spawn = |_| {
+            thread::Builder::new()
+                .stack_size(STACK)
+                .spawn_scoped(scope, || compare_chunks(&next, end, &library))
+                .expect("a thread")
+        };
+        let workers: Vec<_> = (0..threads).map(spawn).collect();
+        let done = workers
+            .into_iter()
+            .map(|worker| worker.join().expect("a thread that returns"));
+        done.fold(Ok(Tally::default()), both)
+    })
+}
+
+/// The tallies of two threads together, or the difference of the least seed.
+fn both(
+    one: Result<Tally, Box<Report>>,
+    other: Result<Tally, Box<Report>>,
+) -> Result<Tally, Box<Report>> {
+    match (one, other) {
+        (Ok(one), Ok(other)) => Ok(one.and(&other)),
+        (Err(one), Err(other)) if other.seed < one.seed => Err(other),
+        (Err(report), _) | (_, Err(report)) => Err(report),
+    }
+}
+
+/// Compares one chunk of seeds after another, until none is left or there is a difference; then no
+/// thread takes another, and all lower ones are taken already.
+fn compare_chunks(
+    next: &AtomicU64,
+    end: u64,
+    library: impl Fn(&Call, u32) -> Left,
+) -> Result<Tally, Box<Report>> {
+    let mut tally = Tally::default();
+    loop {
+        let chunk = next.fetch_add(CHUNK, Ordering::Relaxed);
+        if chunk >= end {
+            return Ok(tally);
+        }
+        for seed in chunk..end.min(chunk + CHUNK) {
+            for call in calls(seed) {
+                compare_call(seed, &call, &library, &mut tally)
+                    .inspect_err(|_| next.store(end, Ordering::Relaxed))?;
+            }
+            tally.seeds += 1;
+        }
+    }
+}
+
+/// Calls the library also where the Rust has no answer: it must return.
+fn compare_call(
+    seed: u64,
+    call: &Call,
+    library: impl Fn(&Call, u32) -> Left,
+    tally: &mut Tally,
+) -> Result<(), Box<Report>> {
+    let expected = call.by_rust();
+    for &scratch in &call.scratches {
+        let found = library(call, scratch);
+        let Ok(expected) = &expected else {
+            tally.too_many_steps += 1;
+            continue;
+        };
+        if let Some(difference) = difference(expected, &found) {
+            let said = |left: &Left| (left.number, left.answer.clone());
+            return Err(Box::new(Report {
+                seed,
+                variant: call.variant,
+                scratch,
+                difference,
+                expected: said(expected),
+                found: said(&found),
+            }));
+        }
+        tally.count(call.variant, found.number);
+    }
+    Ok(())
+}

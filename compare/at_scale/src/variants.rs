@@ -1,0 +1,183 @@
+//! The calls that are made for a seed: the generator's case, and variants that the seed chooses.
+
+use generator::{Case, Random, room};
+use job::limits::ANSWER;
+use tools::to_bytes;
+
+use crate::call::{Call, Input};
+
+/// Lengths of an answer's buffer that are 10 at once.
+const OTHER_LENGTHS: [usize; 5] = [0, 1, 7, 9, 16];
+/// More than arrays are made longer by, so that scratch is not what is refused.
+const SPARE_SCRATCH: usize = 100;
+
+/// Why a call is made.
+#[derive(Clone, Copy, PartialEq, Eq, PartialOrd, Ord, Debug)]
+pub enum Variant {
+    AsMade,
+    AnswerLength,
+    Tight,
+    UnequalArrays,
+    ScratchLength,
+    OtherProof,
+    Host,
+    HostAnswerLength,
+    HostOtherProof,
+    HostCut,
+    HostAdded,
+    HostPrefix,
+}
+
+impl Variant {
+    pub const ALL: [Variant; 12] = [
+        Variant::AsMade,
+        Variant::AnswerLength,
+        Variant::Tight,
+        Variant::UnequalArrays,
+        Variant::ScratchLength,
+        Variant::OtherProof,
+        Variant::Host,
+        Variant::HostAnswerLength,
+        Variant::HostOtherProof,
+        Variant::HostCut,
+        Variant::HostAdded,
+        Variant::HostPrefix,
+    ];
+}
+
+/// The calls of a seed; the same on every machine.
+pub fn calls(seed: u64) -> Vec<Call> {
+    let case = generator::job(seed);
+    let mut random = Random::new(!seed);
+    let random = &mut random;
+    vec![
+        with_other_scratch(lent(Variant::AsMade, case.clone(), random)),
+        answer_length(case.clone(), random),
+        with_other_scratch(tight(&case, random)),
+        match random.once_in(2) {
+            true => unequal_arrays(case.clone(), random),
+            false => scratch_length(case.clone(), random),
+        },
+        other_proof(case.clone(), random),
+        host(&case, random),
+        host_damaged(&case, random),
+    ]
+}
+
+/// A call with a lent store.
+fn lent(variant: Variant, case: Case, random: &mut Random) -> Call {
+    Call {
+        variant,
+        input: Input::Words(case),
+        answer: ANSWER,
+        scratches: vec![random.word() as u32],
+    }
+}
+
+/// The call once more, with scratch of other contents.
+fn with_other_scratch(mut call: Call) -> Call {
+    call.scratches.push(call.scratches[0].wrapping_add(1));
+    call
+}
+
+fn answer_length(case: Case, random: &mut Random) -> Call {
+    Call {
+        answer: random.pick(&OTHER_LENGTHS),
+        ..lent(Variant::AnswerLength, case, random)
+    }
+}
+
+/// C or W is what the check takes, one short, or in between.
+fn tight(case: &Case, random: &mut Random) -> Call {
+    let mut tight = room::chosen(case.job.clone(), case.asked, random);
+    tight.fill = case.fill;
+    lent(Variant::Tight, tight, random)
+}
+
+fn unequal_arrays(mut case: Case, random: &mut Random) -> Call {
+    let cells = case.kinds;
+    let other = match random.below(4) {
+        0 => cells + 1,
+        1 => cells.saturating_sub(1),
+        2 => cells + random.between(2, SPARE_SCRATCH / 2),
+        _ => random.below(cells + 1),
+    };
+    match random.once_in(2) {
+        true => case.kinds = other,
+        false => case.ends = other,
+    }
+    case.scratch += SPARE_SCRATCH;
+    lent(Variant::UnequalArrays, case, random)
+}
+
+fn scratch_length(mut case: Case, random: &mut Random) -> Call {
+    case.scratch = match random.below(4) {
+        0 => case.scratch.saturating_sub(1),
+        1 => random.below(case.scratch + 1),
+        2 => case.scratch + 1,
+        _ => case.scratch + random.between(2, 5_000),
+    };
+    lent(Variant::ScratchLength, case, random)
+}
+
+/// One of the job's proofs, the first one, or one that the job has not.
+fn any_proof(case: &Case, random: &mut Random) -> u32 {
+    let proofs = case.job.get(10).copied().unwrap_or(0);
+    match random.below(8) {
+        0..=3 => random.below(proofs.max(1) as usize) as u32,
+        4 | 5 => 0,
+        6 => proofs,
+        _ => u32::MAX,
+    }
+}
+
+fn other_proof(mut case: Case, random: &mut Random) -> Call {
+    case.asked = any_proof(&case, random);
+    lent(Variant::OtherProof, case, random)
+}
+
+/// A call of the host entry.
+fn bytes(variant: Variant, job: Vec<u8>, asked: u32, random: &mut Random) -> Call {
+    Call {
+        variant,
+        input: Input::Bytes { job, asked },
+        answer: ANSWER,
+        scratches: vec![random.word() as u32],
+    }
+}
+
+fn host(case: &Case, random: &mut Random) -> Call {
+    let job = to_bytes(&case.job);
+    match random.below(8) {
+        0 => Call {
+            answer: random.pick(&OTHER_LENGTHS),
+            ..bytes(Variant::HostAnswerLength, job, case.asked, random)
+        },
+        1 | 2 => {
+            let asked = any_proof(case, random);
+            bytes(Variant::HostOtherProof, job, asked, random)
+        }
+        _ => bytes(Variant::Host, job, case.asked, random),
+    }
+}
+
+/// The host entry on bytes with one to three cut off or added, or cut anywhere.
+fn host_damaged(case: &Case, random: &mut Random) -> Call {
+    let mut job = to_bytes(&case.job);
+    let few = random.between(1, 3);
+    let variant = match random.below(3) {
+        0 => {
+            job.truncate(job.len().saturating_sub(few));
+            Variant::HostCut
+        }
+        1 => {
+            job.extend((0..few).map(|_| random.word() as u8));
+            Variant::HostAdded
+        }
+        _ => {
+            job.truncate(random.below(job.len() + 1));
+            Variant::HostPrefix
+        }
+    };
+    bytes(variant, job, case.asked, random)
+}

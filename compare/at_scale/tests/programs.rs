@@ -1,0 +1,215 @@
+//! The callers in C and in Rust, built and run as a newcomer would, and the proved program.
+
+use std::fs;
+use std::path::{Path, PathBuf};
+use std::process::{Command, Output};
+
+use generator::{holding_job, job};
+use job::Tables;
+use job::limits::PROGRAM_BYTES;
+use tools::{print, program, to_bytes};
+
+fn root() -> PathBuf {
+    Path::new(env!("CARGO_MANIFEST_DIR")).join("../..")
+}
+
+fn temporary(file: &str) -> PathBuf {
+    Path::new(env!("CARGO_TARGET_TMPDIR")).join(file)
+}
+
+/// Builds a C program over the header and the library.
+fn built_c(source: &str, program: &str) -> PathBuf {
+    let program = temporary(program);
+    let status = Command::new("cc")
+        .args(["-std=c11", "-Wall", "-Wextra", "-Werror", "-pedantic"])
+        .arg("-I")
+        .arg(root().join("include"))
+        .arg(root().join(source))
+        .arg(root().join("target/staticlib/libhost.a"))
+        .arg("-o")
+        .arg(&program)
+        .status()
+        .expect("cc");
+    assert!(status.success(), "{source} is not built");
+    program
+}
+
+/// Builds the caller in Rust.
+fn built_rust() -> PathBuf {
+    let target = temporary("callers");
+    let status = Command::new(env!("CARGO"))
+        .args(["build", "--offline", "--quiet", "--bin", "check_job"])
+        .arg("--manifest-path")
+        .arg(root().join("callers/rust/Cargo.toml"))
+        .arg("--target-dir")
+        .arg(&target)
+        .status()
+        .expect("cargo");
+    assert!(status.success(), "callers/rust is not built");
+    target.join("debug/check_job")
+}
+
+fn run(program: &Path, arguments: &[&str]) -> Output {
+    let mut command = Command::new(program);
+    command.env_clear().current_dir(root().join("examples"));
+    command.args(arguments).output().expect("the program")
+}
+
+#[track_caller]
+fn prints(program: &Path, arguments: &[&str], line: &str) {
+    let output = run(program, arguments);
+    assert_eq!(String::from_utf8_lossy(&output.stdout), line);
+    assert_eq!(String::from_utf8_lossy(&output.stderr), "");
+    assert_eq!(output.status.code(), Some(0));
+}
+
+/// Status 1, a message, and no answer.
+#[track_caller]
+fn fails(program: &Path, arguments: &[&str]) {
+    let output = run(program, arguments);
+    assert_eq!(String::from_utf8_lossy(&output.stdout), "");
+    assert!(output.stderr.starts_with(b"check_job: "));
+    assert_eq!(output.status.code(), Some(1));
+}
+
+/// Accepted, refused from 20 up and below 20, no job, and what cannot be asked.
+fn behaves(program: &Path, name: &str) {
+    prints(program, &["job_a.bin"], "0 1 0 0 2 0 0 0\n");
+    prints(program, &["job_a.bin", "0"], "0 1 0 0 1 0 0 0\n");
+    prints(program, &["job_b.bin"], "26 4 12 0 0 0 0 0\n");
+    prints(program, &["job_b.bin", "7"], "20 4 7 0 1 1 0 0\n");
+    prints(program, &["job_b.bin", "4294967295"], "3 0 0 0 0 0 0 0\n");
+    let whole = filled(PROGRAM_BYTES);
+    let longer = filled(PROGRAM_BYTES + 4);
+    let inputs = [
+        (&deepest()[..], "0 1 0 0 2336 0 0 0\n"),
+        (&whole, "0 3274 0 0 1 0 0 0\n"),
+        (&longer, "1 0 0 0 0 0 0 0\n"),
+        (&whole[1..], "1 0 0 0 0 0 0 0\n"),
+        (&[0; 48], "3 0 0 0 0 0 0 0\n"),
+        (&[0; 49], "1 0 0 0 0 0 0 0\n"),
+        (&[], "1 0 0 0 0 0 0 0\n"),
+    ];
+    for (place, (bytes, line)) in inputs.into_iter().enumerate() {
+        let file = temporary(&format!("{name}_{place}.bin"));
+        fs::write(&file, bytes).expect("a file");
+        prints(program, &[file.to_str().expect("a name")], line);
+    }
+    fails(program, &["missing.bin"]);
+    fails(program, &["."]);
+    fails(program, &[]);
+    for asked in ["", "x", "-1", "4294967296", "1x"] {
+        fails(program, &["job_a.bin", asked]);
+    }
+}
+
+#[test]
+fn the_caller_in_c() {
+    behaves(&built_c("callers/c/check_job.c", "check_job"), "c");
+}
+
+#[test]
+fn the_caller_in_rust() {
+    behaves(&built_rust(), "rust");
+}
+
+#[test]
+fn null_pointers() {
+    let program = built_c("compare/at_scale/tests/nothing_lent.c", "nothing_lent");
+    prints(&program, &[], "10 1 10 1 10 10 ");
+}
+
+/// A job of so many bytes that is accepted where it is not too long: literals, variables, one fiat.
+fn filled(bytes: usize) -> Vec<u8> {
+    let words = bytes / 4 - 16;
+    let fits = |variables: &usize| (words - 3 * variables).is_multiple_of(5);
+    let variables = (0..5).find(fits).expect("a number of variables");
+    let mut tables = Tables::default();
+    for value in 0..(words - 3 * variables) / 5 {
+        tables.term_integer(value as i64);
+    }
+    for name in 0..variables {
+        tables.term_variable(name as u32);
+    }
+    tables.fiat((0, 0));
+    let job = to_bytes(&tables.words());
+    assert_eq!(job.len(), bytes);
+    job
+}
+
+/// The most rule steps one under another that 65,536 bytes hold, seven words each. They take nearly
+/// all of the 8 MiB of stack that a program usually has.
+fn deepest() -> Vec<u8> {
+    let mut tables = Tables::default();
+    let term = tables.term_integer(1);
+    let expression = tables.integer(1);
+    let fact = tables.bare(expression);
+    let head = tables.expression_action(expression);
+    tables.rule(4, &[fact], &[head]);
+    let mut proof = tables.fiat((term, term));
+    while 4 * (tables.words().len() + 7) <= PROGRAM_BYTES {
+        proof = tables.rule_step((term, term), 4, &[proof], &[]);
+    }
+    to_bytes(&tables.words())
+}
+
+/// The proved program prints what the Rust says.
+#[track_caller]
+fn program_agrees(input: &[u8]) {
+    let path = root().join("target/bin/checkproof");
+    assert!(
+        path.exists(),
+        "there is no target/bin/checkproof: run `rt check` first"
+    );
+    let expected = program::answer(input).expect("few steps");
+    let printed = program::printed(path.to_str().expect("a name"), input);
+    assert_eq!(printed, print::answer(&expected) + "\n");
+}
+
+#[test]
+fn the_program_on_jobs_a_and_b_and_no_job() {
+    for file in ["job_a.bin", "job_b.bin"] {
+        program_agrees(&fs::read(root().join("examples").join(file)).expect("an example"));
+    }
+    program_agrees(&[]);
+    program_agrees(&[0; 47]);
+    program_agrees(&[0; 48]);
+}
+
+#[test]
+fn the_program_on_long_inputs() {
+    for bytes in [PROGRAM_BYTES, PROGRAM_BYTES + 4] {
+        program_agrees(&filled(bytes));
+    }
+    let mut longer = filled(PROGRAM_BYTES);
+    longer.push(0);
+    program_agrees(&longer);
+    program_agrees(&vec![0; 200_000]);
+}
+
+#[test]
+fn the_program_on_the_deepest_job() {
+    program_agrees(&deepest());
+}
+
+#[test]
+fn the_program_on_a_job_cut_off() {
+    let jobs = (0..).map(|seed| to_bytes(&holding_job(seed).job));
+    let job = jobs
+        .into_iter()
+        .find(|job| job.len() > 5_000)
+        .expect("a job");
+    for length in (0..job.len()).step_by(97) {
+        program_agrees(&job[..length]);
+    }
+    program_agrees(&job);
+}
+
+#[test]
+fn the_program_on_generated_jobs() {
+    let jobs = (0..).map(|seed| to_bytes(&job(seed).job));
+    let short = jobs.filter(|job| job.len() <= PROGRAM_BYTES);
+    for job in short.take(300) {
+        program_agrees(&job);
+    }
+}

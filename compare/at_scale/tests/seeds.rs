@@ -1,0 +1,21 @@
+//! The first seeds: no difference, and every variant and every number comes up.
+
+use at_scale::{Call, Variant, compare_range};
+use tools::fixed_list::numbers;
+
+const SEEDS: u64 = 2_000;
+
+#[test]
+fn no_difference_in_the_first_seeds() {
+    let tally = match compare_range(0, SEEDS, Call::by_library) {
+        Ok(tally) => tally,
+        Err(report) => panic!("{report}"),
+    };
+    assert_eq!((tally.seeds, tally.too_many_steps), (SEEDS, 0));
+    let seen: Vec<u32> = tally.numbers.keys().copied().collect();
+    assert_eq!(seen, numbers());
+    for variant in Variant::ALL {
+        let calls = tally.variants.get(&variant).copied().unwrap_or(0);
+        assert!(calls >= SEEDS / 10, "{variant:?}: {calls}");
+    }
+}

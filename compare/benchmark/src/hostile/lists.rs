@@ -1,0 +1,176 @@
+//! Jobs with long tables, and look-ups that go to their end.
+
+use generator::extremes::{F, RULE, X, united};
+use job::limits::{CELLS, FACTS, GLOBALS, OPERANDS, PAIRS, POOL, PREMISES, TERMS};
+use job::{Table, Tables};
+
+use super::ground::{ONE, climb, literal};
+
+const BOX: u32 = 11;
+/// The first of many names.
+const MANY: u32 = 1_000;
+
+/// As many terms as there may be, in all pool words that there may be, alike but for the last child.
+pub fn terms(_: usize) -> Tables {
+    let mut tables = united();
+    let pool = POOL - tables.words()[11];
+    let count = TERMS - tables.count(Table::Terms);
+    let children = (pool / count - 1) as usize;
+    for last in 1..=count {
+        let mut alike = vec![ONE; children];
+        alike[children - 1] = last;
+        tables.term_application(F, &alike);
+    }
+    tables
+}
+
+/// As many rows as there may be, alike but for the last argument, which the given term never is.
+fn rows_alike(tables: &mut Tables, primitive: u32, width: usize) {
+    for name in 0..CELLS {
+        let mut arguments = vec![ONE; width];
+        arguments[width - 1] = tables.term_variable(name);
+        tables.row(primitive, ONE, &arguments);
+    }
+}
+
+/// Rows of 16 arguments.
+pub fn rows(_: usize) -> Tables {
+    let mut tables = literal();
+    let primitive = tables.primitive(1, BOX);
+    rows_alike(&mut tables, primitive, OPERANDS);
+    tables.fiat((ONE, ONE));
+    tables
+}
+
+/// As many cells as there may be of each table, and as many terms, alike but for the last child.
+pub fn every_table(_: usize) -> Tables {
+    let mut tables = literal();
+    for number in 0..CELLS {
+        tables.bare(ONE);
+        tables.panic_action();
+        tables.function_without_merge(number);
+        let primitive = tables.primitive(1, number);
+        tables.row(primitive, ONE, &[]);
+        tables.normaliser(number, primitive);
+        tables.rule(number, &[], &[]);
+        tables.fiat((ONE, ONE));
+    }
+    for number in 1..CELLS {
+        tables.variable(number);
+    }
+    for last in 0..TERMS - 1 {
+        tables.term_application(F, &[ONE, ONE, ONE, last]);
+    }
+    tables
+}
+
+/// All steps are by the last rule.
+pub fn rules(steps: usize) -> Tables {
+    let mut tables = literal();
+    let fact = tables.bare(ONE);
+    let head = tables.expression_action(ONE);
+    for place in 1..CELLS {
+        tables.rule(MANY + place, &[fact], &[head]);
+    }
+    climb(&mut tables, (ONE, ONE), &[fact], &[head], &[], steps);
+    tables
+}
+
+/// All merges are by the last function.
+pub fn functions(steps: usize) -> Tables {
+    let mut tables = literal();
+    let view = tables.term_application(F, &[ONE, ONE]);
+    let call = tables.custom(F, &[ONE, ONE]);
+    tables.set_action(call);
+    tables.globals = 1;
+    for place in 0..CELLS {
+        tables.function(MANY + place, ONE);
+    }
+    let first = tables.fiat((view, view));
+    let mut proof = first;
+    for _ in 0..steps {
+        proof = tables.merge_step((view, view), MANY + CELLS - 1, proof, first);
+    }
+    tables
+}
+
+/// Normalisations by the last normaliser, of whose primitive no row fits.
+pub fn misses(steps: usize) -> Tables {
+    let mut tables = literal();
+    let children = [ONE; 8];
+    let term = tables.term_application(F, &children);
+    let call = tables.constructor(F, &children);
+    tables.expression_action(call);
+    tables.globals = 1;
+    let primitive = tables.primitive(1, BOX);
+    rows_alike(&mut tables, primitive, children.len());
+    for place in 1..CELLS {
+        tables.normaliser(MANY + place, primitive);
+    }
+    tables.normaliser(F, primitive);
+    let mut proof = tables.fiat((term, term));
+    for _ in 0..steps {
+        proof = tables.normalisation((term, term), proof);
+    }
+    tables
+}
+
+/// Fiats of the last global union, joined by transitivity.
+pub fn unions(steps: usize) -> Tables {
+    let mut tables = literal();
+    for value in 0..i64::from(GLOBALS) {
+        let other = tables.integer(2 + value);
+        tables.union_action(ONE, other);
+    }
+    tables.globals = GLOBALS;
+    let last = tables.term_integer(1 + i64::from(GLOBALS));
+    let mut proof = tables.fiat((ONE, ONE));
+    for step in 0..steps / 2 {
+        let (claimed, end) = match step % 2 {
+            0 => ((ONE, last), last),
+            _ => ((last, ONE), ONE),
+        };
+        let fiat = tables.fiat(claimed);
+        proof = tables.transitivity((ONE, end), proof, fiat);
+    }
+    tables
+}
+
+/// As many premises as there may be, for a rule with fewer facts.
+pub fn premises(_: usize) -> Tables {
+    let mut tables = literal();
+    let fact = tables.bare(ONE);
+    tables.rule(RULE, &[fact; FACTS], &[]);
+    tables.fiat((ONE, ONE));
+    tables.rule_step((ONE, ONE), RULE, &[0; PREMISES], &[]);
+    tables
+}
+
+/// Steps with as many premises as there may be, which the asked proof does not refer to.
+pub fn heights(_: usize) -> Tables {
+    let mut tables = literal();
+    tables.fiat((ONE, ONE));
+    while tables.words()[11] + 2 * (PREMISES as u32) < POOL {
+        tables.rule_step((ONE, ONE), RULE, &[0; PREMISES], &[]);
+    }
+    tables.fiat((ONE, ONE));
+    tables
+}
+
+/// Substitutions of as many pairs as there may be; the last one is looked up.
+pub fn pairs(steps: usize) -> Tables {
+    let mut tables = literal();
+    let last = tables.variable(X + PAIRS as u32 - 1);
+    let fact = tables.bare(last);
+    let head = tables.expression_action(last);
+    let pairs: Vec<(u32, u32)> = (0..PAIRS as u32).map(|place| (X + place, ONE)).collect();
+    climb(
+        &mut tables,
+        (ONE, ONE),
+        &[fact; FACTS],
+        &[head],
+        &pairs,
+        steps,
+    );
+    tables
+}

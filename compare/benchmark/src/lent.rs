@@ -1,0 +1,85 @@
+//! What is lent for a case, and its check by ours and by the Rust.
+
+use std::time::Duration;
+
+use generator::Case;
+use job::limits::ANSWER;
+
+/// The two entries.
+#[derive(Clone, Copy, PartialEq, Eq, Debug)]
+pub enum Entry {
+    /// A job as words, with a lent store.
+    Words,
+    /// A job as bytes, with the entry's own store.
+    Bytes,
+}
+
+/// A case's arrays, lent to one check after another, and the answer.
+pub struct Lent<'a> {
+    case: &'a Case,
+    bytes: Vec<u8>,
+    kinds: Vec<u32>,
+    ends: Vec<u32>,
+    pool: Vec<u32>,
+    scratch: Vec<u32>,
+    pub answer: [u32; ANSWER],
+}
+
+impl<'a> Lent<'a> {
+    pub fn new(case: &'a Case) -> Lent<'a> {
+        Lent {
+            case,
+            bytes: tools::to_bytes(&case.job),
+            kinds: case.lent_kinds(),
+            ends: case.lent_ends(),
+            pool: case.lent_pool(),
+            scratch: vec![0; case.scratch],
+            answer: [0; ANSWER],
+        }
+    }
+
+    /// From the words to the answer, by ours.
+    pub fn ours(&mut self, entry: Entry) {
+        match entry {
+            Entry::Words => sizercobalt::check(
+                &self.case.job,
+                self.case.asked,
+                &mut self.kinds,
+                &mut self.ends,
+                &mut self.pool,
+                &mut self.scratch,
+                &mut self.answer,
+            ),
+            Entry::Bytes => {
+                sizercobalt::check_bytes(&self.bytes, self.case.asked, &mut self.answer)
+            }
+        };
+    }
+
+    /// From the words to the answer, by the Rust.
+    pub fn rust(&mut self, entry: Entry) {
+        match entry {
+            Entry::Words => {
+                self.check_proof();
+            }
+            Entry::Bytes => {
+                oracle::check_bytes(&self.bytes, self.case.asked, &mut self.answer)
+                    .expect("few steps");
+            }
+        }
+    }
+
+    /// The same from words, on this stack: what `check_proof` took of the time.
+    pub fn check_proof(&mut self) -> Duration {
+        let checked = oracle::check_here(
+            &self.case.job,
+            self.case.asked,
+            &mut self.kinds,
+            &mut self.ends,
+            &mut self.pool,
+            self.case.scratch,
+            &mut self.answer,
+        );
+        checked.expect("few steps").1
+    }
+}
