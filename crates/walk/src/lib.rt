@@ -401,7 +401,7 @@ fn rule_check(
     )
 }
 
-// The step of proof p: the proofs that it needs, in order, then what it does itself.
+// The step of proof p: the proofs that it needs, in order, then what it does itself; at once where it needs none.
 fn justify(
     kinds: &[u32],
     ends: &[u32],
@@ -433,6 +433,22 @@ fn justify(
             globals,
             unions,
             ops.name,
+            skinds,
+            sends,
+            spool,
+            fill,
+            memo,
+            scratch,
+            p,
+        );
+    }
+    if ops.count == 0 {
+        return conclude(
+            kinds,
+            ends,
+            pool,
+            z,
+            unions,
             skinds,
             sends,
             spool,

@@ -132,7 +132,7 @@ abbrev R-check-premises : ℕ → check-premises-lts.Claims
 R-check-premises t = (rule-facts-at-reads.Asked, rule-facts-at-reads.Learnt, wide-reads.Asked, wide-reads.Learnt, premises-at-reads.Asked, premises-at-reads.Learnt, substitution-at-reads.Asked, substitution-at-reads.Learnt, check-premise-below t, check-premise.Post, effect-of-reads.Asked, effect-of-reads.Learnt, push-binding-reads.Asked, push-binding-reads.Learnt, claim-at-reads.Asked, claim-at-reads.Learnt, check-rule-produces-equality-reads.Asked, check-rule-produces-equality-reads.Learnt)
 
 abbrev R-justify : ℕ → justify-lts.Claims
-R-justify t = (operands-reads.Asked, operands-reads.Learnt, rule-check-below t, rule-check.Post, walk-below t, walk.Post, conclude-reads.Asked, conclude-reads.Learnt)
+R-justify t = (operands-reads.Asked, operands-reads.Learnt, rule-check-below t, rule-check.Post, conclude-reads.Asked, conclude-reads.Learnt, walk-below t, walk.Post)
 
 abbrev R-rule-check : ℕ → rule-check-lts.Claims
 R-rule-check t = (rule-of-reads.Asked, rule-of-reads.Learnt, refuse1-reads.Asked, refuse1-reads.Learnt, rule-facts-at-reads.Asked, rule-facts-at-reads.Learnt, wide-reads.Asked, wide-reads.Learnt, premises-at-reads.Asked, premises-at-reads.Learnt, check-premises-below t, check-premises.Post)
@@ -737,65 +737,86 @@ justify-same-length-5 t c = c .before .before .before .before .before .before .b
 justify-returns : (t : ℕ) → justify-lts.Need-returns (R-justify t) (justify-at t) justify.Post justify-Inv-loop justify-μ-loop
 justify-returns t c = let a = c .before .before .before .before .before .before .before .before .before .before .before .before .before .before .before .before .before .before .before .before .before .before .before .before .before .before .before .before .before .args in let pre = c .before .before .before .before .before .before .before .before .before .before .before .before .before .before .before .before .before .before .before .before .before .before .before .before .before .before .before .before .before .pre .1 in step-rule (a .kinds .now) (a .ends .now) (a .pool .now) (a .z) (a .found .now) (a .globals .now) (a .unions .now) (a .p) _ _ _ (c .before .before .before .before .before .before .before .before .before .before .before .before .before .before .before .before .before .operands .ensures .rule (c .before .before .before .before .before .before .before .before .before .before .before .before .before .before .before .before .if1 .taken) .1) (c .before .before .before .before .before .before .before .before .before .before .rule-check .ensures)
 
-justify-loop-holds : (t : ℕ) → justify-lts.Need-loop-holds (R-justify t) (justify-at t) justify.Post justify-Inv-loop justify-μ-loop
-justify-loop-holds t c = let a = c .before .before .before .before .before .before .before .before .before .before .before .before .before .args in let pre = c .before .before .before .before .before .before .before .before .before .before .before .before .before .pre .1 in (omega arith, refl, refl, refl, refs-start (a .kinds .now) (a .ends .now) (a .pool .now) (a .z) (a .found .now) (a .globals .now) (a .unions .now) (a .p) (pre .0))
-
-justify-mul-walk : (t : ℕ) → justify-lts.Need-mul-walk (R-justify t) (justify-at t) justify.Post justify-Inv-loop justify-μ-loop
-justify-mul-walk t c = let x = c .before .before .before .before .before .loop-test .taken in let y = c .before .before .before .before .before .before .before .before .operands .ensures .few in omega arith
-
-justify-array-read-walk : (t : ℕ) → justify-lts.Need-array-read-walk (R-justify t) (justify-at t) justify.Post justify-Inv-loop justify-μ-loop
-justify-array-read-walk t c = let x = c .before .before .before .before .before .loop-test .taken in let y = c .before .before .before .before .before .before .before .before .operands .ensures .few in let l = c .before .before .before .before .before .before .loop .inv .3 in omega arith
-
-justify-walk-requires : (t : ℕ) → justify-lts.Need-walk-requires (R-justify t) (justify-at t) justify.Post justify-Inv-loop justify-μ-loop
-justify-walk-requires t c κs = let a = c .before .before .before .before .before .before .before .before .before .before .before .before .before .before .before .before .before .before .before .before .args in let pre = c .before .before .before .before .before .before .before .before .before .before .before .before .before .before .before .before .before .before .before .before .pre .1 in let l = c .before .before .before .before .before .before .before .before .operands .ensures .lower (c .before .before .before .before .before .before .loop .i) (c .before .before .before .before .before .loop-test .taken) in let h = pre .1 in (let m = c .before .before .before .before .before .before .before .before .before .before .before .before .before .before .before .before .before .before .before .before .pre .0 in omega arith, (c .before .before .before .before .before .before .loop .inv .4 .after refl .ground, omega arith))
+justify-conclude-requires : (t : ℕ) → justify-lts.Need-conclude-requires (R-justify t) (justify-at t) justify.Post justify-Inv-loop justify-μ-loop
+justify-conclude-requires t c κs = let pre = c .before .before .before .before .before .before .before .before .before .before .before .before .before .before .before .before .before .before .before .before .pre .1 in (step-prepared (pre .0), pre .1)
 
 justify-same-length-6 : (t : ℕ) → justify-lts.Need-same-length-6 (R-justify t) (justify-at t) justify.Post justify-Inv-loop justify-μ-loop
-justify-same-length-6 t c = c .before .before .before .before .before .before .before .before .before .before .before .before .walk .ensures .grown .lenK ∙ c .before .before .before .before .before .before .before .before .before .before .before .before .before .before .before .before .before .before .before .loop .inv .4 .grown .lenK
+justify-same-length-6 t c = conclude-grown (c .before .before .before .before .before .before .before .before .before .before .conclude .ensures) .lenK
 
 justify-same-length-7 : (t : ℕ) → justify-lts.Need-same-length-7 (R-justify t) (justify-at t) justify.Post justify-Inv-loop justify-μ-loop
-justify-same-length-7 t c = c .before .before .before .before .before .before .before .before .before .before .before .before .walk .ensures .grown .lenE ∙ c .before .before .before .before .before .before .before .before .before .before .before .before .before .before .before .before .before .before .before .loop .inv .4 .grown .lenE
+justify-same-length-7 t c = conclude-grown (c .before .before .before .before .before .before .before .before .before .before .conclude .ensures) .lenE
 
 justify-same-length-8 : (t : ℕ) → justify-lts.Need-same-length-8 (R-justify t) (justify-at t) justify.Post justify-Inv-loop justify-μ-loop
-justify-same-length-8 t c = c .before .before .before .before .before .before .before .before .before .before .before .before .walk .ensures .grown .lenP ∙ c .before .before .before .before .before .before .before .before .before .before .before .before .before .before .before .before .before .before .before .loop .inv .4 .grown .lenP
+justify-same-length-8 t c = conclude-grown (c .before .before .before .before .before .before .before .before .before .before .conclude .ensures) .lenP
 
 justify-same-length-9 : (t : ℕ) → justify-lts.Need-same-length-9 (R-justify t) (justify-at t) justify.Post justify-Inv-loop justify-μ-loop
-justify-same-length-9 t c = c .before .before .before .before .before .before .before .before .before .before .before .before .walk .kept .1 .1 .1 .1 .1 .1 .1 .1 .1 .1 .1 .0 ∙ c .before .before .before .before .before .before .before .before .before .before .before .before .before .before .before .before .before .before .before .loop .inv .1
+justify-same-length-9 t c = c .before .before .before .before .before .before .before .before .before .before .conclude .kept .1 .1 .1 .1 .1 .1 .1 .1 .1 .0
 
 justify-same-length-10 : (t : ℕ) → justify-lts.Need-same-length-10 (R-justify t) (justify-at t) justify.Post justify-Inv-loop justify-μ-loop
-justify-same-length-10 t c = c .before .before .before .before .before .before .before .before .before .before .before .before .walk .kept .1 .1 .1 .1 .1 .1 .1 .1 .1 .1 .1 .1 .0 ∙ c .before .before .before .before .before .before .before .before .before .before .before .before .before .before .before .before .before .before .before .loop .inv .2
+justify-same-length-10 t c = c .before .before .before .before .before .before .before .before .before .before .conclude .kept .1 .1 .1 .1 .1 .1 .1 .1 .1 .1 .0
 
 justify-returns-2 : (t : ℕ) → justify-lts.Need-returns-2 (R-justify t) (justify-at t) justify.Post justify-Inv-loop justify-μ-loop
-justify-returns-2 t c = let a = c .before .before .before .before .before .before .before .before .before .before .before .before .before .before .before .before .before .before .before .before .before .before .before .before .before .before .before .before .before .before .before .before .before .args in let pre = c .before .before .before .before .before .before .before .before .before .before .before .before .before .before .before .before .before .before .before .before .before .before .before .before .before .before .before .before .before .before .before .before .before .pre .1 in let o = c .before .before .before .before .before .before .before .before .before .before .before .before .before .before .before .before .before .before .before .before .before .operands .ensures .other (c .before .before .before .before .before .before .before .before .before .before .before .before .before .before .before .before .before .before .before .before .if1 .left) in refs-stop (a .kinds .now) (a .ends .now) (a .pool .now) (a .z) (a .found .now) (a .globals .now) (a .unions .now) (a .p) (o .0) _ _ (refs-cut (c .before .before .before .before .before .before .before .before .before .before .before .before .before .before .before .before .before .before .before .before .before .operands .result .first) (c .before .before .before .before .before .before .before .before .before .before .before .before .before .before .before .before .before .before .before .before .before .operands .result .second) (c .before .before .before .before .before .before .before .before .before .before .before .before .before .before .before .before .before .before .before .loop .i) (c .before .before .before .before .before .before .before .before .before .before .before .before .before .before .before .before .before .before .loop-test .taken) (c .before .before .before .before .before .before .before .before .before .before .before .before .before .before .before .before .before .before .before .before .before .operands .ensures .few) (o .1)) (c .if2 .taken) (refs-more (a .kinds .now) (a .ends .now) (a .pool .now) (a .z) (a .found .now) (a .globals .now) (a .unions .now) (a .p) (λ room ps x h. fuel-for (pre .0 .ready) (contextOf (a .globals .now) ps) room x (a .p) h) _ _ (c .before .before .before .before .before .before .before .before .before .before .before .before .before .before .before .before .before .before .before .before .before .operands .ensures .lower (c .before .before .before .before .before .before .before .before .before .before .before .before .before .before .before .before .before .before .before .loop .i) (c .before .before .before .before .before .before .before .before .before .before .before .before .before .before .before .before .before .before .loop-test .taken)) (c .before .before .before .before .before .before .before .before .before .before .before .before .before .before .before .before .before .before .before .loop .inv .4) (c .before .before .before .before .before .before .before .before .before .before .before .before .walk .ensures))
+justify-returns-2 t c = let a = c .before .before .before .before .before .before .before .before .before .before .before .before .before .before .before .before .before .before .before .before .before .before .before .before .before .before .before .before .before .before .before .args in let pre = c .before .before .before .before .before .before .before .before .before .before .before .before .before .before .before .before .before .before .before .before .before .before .before .before .before .before .before .before .before .before .before .pre .1 in let o = c .before .before .before .before .before .before .before .before .before .before .before .before .before .before .before .before .before .before .before .operands .ensures .other (c .before .before .before .before .before .before .before .before .before .before .before .before .before .before .before .before .before .before .if1 .left) in let e = c .before .before .before .before .before .before .before .before .before .before .before .before .before .before .before .before .if2 .taken in let l : 0 ≤ c .before .before .before .before .before .before .before .before .before .before .before .before .before .before .before .before .before .before .before .operands .result .count = omega arith in let m : 0 < c .before .before .before .before .before .before .before .before .before .before .before .before .before .before .before .before .before .before .before .operands .result .count → ⊥ = λ h. omega arith in step-ends (a .kinds .now) (a .ends .now) (a .pool .now) (a .z) (a .found .now) (a .globals .now) (a .unions .now) (a .p) (o .0) (refs-all (a .kinds .now) (a .ends .now) (a .pool .now) (a .z) (a .found .now) (a .globals .now) (a .unions .now) (a .p) (c .before .before .before .before .before .before .before .before .before .before .before .before .before .before .before .before .before .before .before .operands .result .first) (c .before .before .before .before .before .before .before .before .before .before .before .before .before .before .before .before .before .before .before .operands .result .second) l m (o .1) (refs-start (a .kinds .now) (a .ends .now) (a .pool .now) (a .z) (a .found .now) (a .globals .now) (a .unions .now) (a .p) (pre .0))) (c .before .before .before .before .before .before .before .before .before .before .conclude .ensures) (conclude-grown (c .before .before .before .before .before .before .before .before .before .before .conclude .ensures)) (c .before .before .before .before .before .before .before .before .before .before .conclude .kept .1 .1 .1 .1 .1 .1 .1 .1 .1 .0) (c .before .before .before .before .before .before .before .before .before .before .conclude .kept .1 .1 .1 .1 .1 .1 .1 .1 .1 .1 .0)
+
+justify-loop-holds : (t : ℕ) → justify-lts.Need-loop-holds (R-justify t) (justify-at t) justify.Post justify-Inv-loop justify-μ-loop
+justify-loop-holds t c = let a = c .before .before .before .before .before .before .before .before .before .before .before .before .before .before .before .args in let pre = c .before .before .before .before .before .before .before .before .before .before .before .before .before .before .before .pre .1 in (omega arith, refl, refl, refl, refs-start (a .kinds .now) (a .ends .now) (a .pool .now) (a .z) (a .found .now) (a .globals .now) (a .unions .now) (a .p) (pre .0))
+
+justify-mul-walk : (t : ℕ) → justify-lts.Need-mul-walk (R-justify t) (justify-at t) justify.Post justify-Inv-loop justify-μ-loop
+justify-mul-walk t c = let x = c .before .before .before .before .before .loop-test .taken in let y = c .before .before .before .before .before .before .before .before .before .before .operands .ensures .few in omega arith
+
+justify-array-read-walk : (t : ℕ) → justify-lts.Need-array-read-walk (R-justify t) (justify-at t) justify.Post justify-Inv-loop justify-μ-loop
+justify-array-read-walk t c = let x = c .before .before .before .before .before .loop-test .taken in let y = c .before .before .before .before .before .before .before .before .before .before .operands .ensures .few in let l = c .before .before .before .before .before .before .loop .inv .3 in omega arith
+
+justify-walk-requires : (t : ℕ) → justify-lts.Need-walk-requires (R-justify t) (justify-at t) justify.Post justify-Inv-loop justify-μ-loop
+justify-walk-requires t c κs = let a = c .before .before .before .before .before .before .before .before .before .before .before .before .before .before .before .before .before .before .before .before .before .before .args in let pre = c .before .before .before .before .before .before .before .before .before .before .before .before .before .before .before .before .before .before .before .before .before .before .pre .1 in let l = c .before .before .before .before .before .before .before .before .before .before .operands .ensures .lower (c .before .before .before .before .before .before .loop .i) (c .before .before .before .before .before .loop-test .taken) in let h = pre .1 in (let m = c .before .before .before .before .before .before .before .before .before .before .before .before .before .before .before .before .before .before .before .before .before .before .pre .0 in omega arith, (c .before .before .before .before .before .before .loop .inv .4 .after refl .ground, omega arith))
+
+justify-same-length-11 : (t : ℕ) → justify-lts.Need-same-length-11 (R-justify t) (justify-at t) justify.Post justify-Inv-loop justify-μ-loop
+justify-same-length-11 t c = c .before .before .before .before .before .before .before .before .before .before .before .before .walk .ensures .grown .lenK ∙ c .before .before .before .before .before .before .before .before .before .before .before .before .before .before .before .before .before .before .before .loop .inv .4 .grown .lenK
+
+justify-same-length-12 : (t : ℕ) → justify-lts.Need-same-length-12 (R-justify t) (justify-at t) justify.Post justify-Inv-loop justify-μ-loop
+justify-same-length-12 t c = c .before .before .before .before .before .before .before .before .before .before .before .before .walk .ensures .grown .lenE ∙ c .before .before .before .before .before .before .before .before .before .before .before .before .before .before .before .before .before .before .before .loop .inv .4 .grown .lenE
+
+justify-same-length-13 : (t : ℕ) → justify-lts.Need-same-length-13 (R-justify t) (justify-at t) justify.Post justify-Inv-loop justify-μ-loop
+justify-same-length-13 t c = c .before .before .before .before .before .before .before .before .before .before .before .before .walk .ensures .grown .lenP ∙ c .before .before .before .before .before .before .before .before .before .before .before .before .before .before .before .before .before .before .before .loop .inv .4 .grown .lenP
+
+justify-same-length-14 : (t : ℕ) → justify-lts.Need-same-length-14 (R-justify t) (justify-at t) justify.Post justify-Inv-loop justify-μ-loop
+justify-same-length-14 t c = c .before .before .before .before .before .before .before .before .before .before .before .before .walk .kept .1 .1 .1 .1 .1 .1 .1 .1 .1 .1 .1 .0 ∙ c .before .before .before .before .before .before .before .before .before .before .before .before .before .before .before .before .before .before .before .loop .inv .1
+
+justify-same-length-15 : (t : ℕ) → justify-lts.Need-same-length-15 (R-justify t) (justify-at t) justify.Post justify-Inv-loop justify-μ-loop
+justify-same-length-15 t c = c .before .before .before .before .before .before .before .before .before .before .before .before .walk .kept .1 .1 .1 .1 .1 .1 .1 .1 .1 .1 .1 .1 .0 ∙ c .before .before .before .before .before .before .before .before .before .before .before .before .before .before .before .before .before .before .before .loop .inv .2
+
+justify-returns-3 : (t : ℕ) → justify-lts.Need-returns-3 (R-justify t) (justify-at t) justify.Post justify-Inv-loop justify-μ-loop
+justify-returns-3 t c = let a = c .before .before .before .before .before .before .before .before .before .before .before .before .before .before .before .before .before .before .before .before .before .before .before .before .before .before .before .before .before .before .before .before .before .before .before .args in let pre = c .before .before .before .before .before .before .before .before .before .before .before .before .before .before .before .before .before .before .before .before .before .before .before .before .before .before .before .before .before .before .before .before .before .before .before .pre .1 in let o = c .before .before .before .before .before .before .before .before .before .before .before .before .before .before .before .before .before .before .before .before .before .before .before .operands .ensures .other (c .before .before .before .before .before .before .before .before .before .before .before .before .before .before .before .before .before .before .before .before .before .before .if1 .left) in refs-stop (a .kinds .now) (a .ends .now) (a .pool .now) (a .z) (a .found .now) (a .globals .now) (a .unions .now) (a .p) (o .0) _ _ (refs-cut (c .before .before .before .before .before .before .before .before .before .before .before .before .before .before .before .before .before .before .before .before .before .before .before .operands .result .first) (c .before .before .before .before .before .before .before .before .before .before .before .before .before .before .before .before .before .before .before .before .before .before .before .operands .result .second) (c .before .before .before .before .before .before .before .before .before .before .before .before .before .before .before .before .before .before .before .loop .i) (c .before .before .before .before .before .before .before .before .before .before .before .before .before .before .before .before .before .before .loop-test .taken) (c .before .before .before .before .before .before .before .before .before .before .before .before .before .before .before .before .before .before .before .before .before .before .before .operands .ensures .few) (o .1)) (c .if3 .taken) (refs-more (a .kinds .now) (a .ends .now) (a .pool .now) (a .z) (a .found .now) (a .globals .now) (a .unions .now) (a .p) (λ room ps x h. fuel-for (pre .0 .ready) (contextOf (a .globals .now) ps) room x (a .p) h) _ _ (c .before .before .before .before .before .before .before .before .before .before .before .before .before .before .before .before .before .before .before .before .before .before .before .operands .ensures .lower (c .before .before .before .before .before .before .before .before .before .before .before .before .before .before .before .before .before .before .before .loop .i) (c .before .before .before .before .before .before .before .before .before .before .before .before .before .before .before .before .before .before .loop-test .taken)) (c .before .before .before .before .before .before .before .before .before .before .before .before .before .before .before .before .before .before .before .loop .inv .4) (c .before .before .before .before .before .before .before .before .before .before .before .before .walk .ensures))
 
 justify-add-i : (t : ℕ) → justify-lts.Need-add-i (R-justify t) (justify-at t) justify.Post justify-Inv-loop justify-μ-loop
-justify-add-i t c = let x = c .before .before .before .before .before .before .before .before .before .before .before .before .before .before .before .before .before .before .before .loop-test .taken in let y = c .before .before .before .before .before .before .before .before .before .before .before .before .before .before .before .before .before .before .before .before .before .before .operands .ensures .few in omega arith
+justify-add-i t c = let x = c .before .before .before .before .before .before .before .before .before .before .before .before .before .before .before .before .before .before .before .loop-test .taken in let y = c .before .before .before .before .before .before .before .before .before .before .before .before .before .before .before .before .before .before .before .before .before .before .before .before .operands .ensures .few in omega arith
 
 justify-loop-less : (t : ℕ) → justify-lts.Need-loop-less (R-justify t) (justify-at t) justify.Post justify-Inv-loop justify-μ-loop
 justify-loop-less t c = let x = c .before .before .before .before .before .before .before .before .before .before .before .before .before .before .before .before .before .before .before .loop-test .taken in omega arith
 
 justify-loop-again : (t : ℕ) → justify-lts.Need-loop-again (R-justify t) (justify-at t) justify.Post justify-Inv-loop justify-μ-loop
-justify-loop-again t c = let a = c .before .before .before .before .before .before .before .before .before .before .before .before .before .before .before .before .before .before .before .before .before .before .before .before .before .before .before .before .before .before .before .before .before .before .args in let pre = c .before .before .before .before .before .before .before .before .before .before .before .before .before .before .before .before .before .before .before .before .before .before .before .before .before .before .before .before .before .before .before .before .before .before .pre .1 in let v = c .before .before .before .before .before .before .before .before .before .before .before .before .before .before .before .before .before .before .before .before .loop .inv in (let x = c .before .before .before .before .before .before .before .before .before .before .before .before .before .before .before .before .before .before .before .loop-test .taken in omega arith, c .before .before .before .before .before .before .before .before .before .before .before .before .before .walk .kept .1 .1 .1 .1 .1 .1 .1 .1 .1 .1 .1 .0 ∙ v .1, c .before .before .before .before .before .before .before .before .before .before .before .before .before .walk .kept .1 .1 .1 .1 .1 .1 .1 .1 .1 .1 .1 .1 .0 ∙ v .2, v .3, refs-turn (a .kinds .now) (a .ends .now) (a .pool .now) (a .z) (a .found .now) (a .globals .now) (a .unions .now) (a .p) (c .before .before .before .before .before .before .before .before .before .before .before .before .before .before .before .before .before .before .before .before .before .before .operands .result .first) (c .before .before .before .before .before .before .before .before .before .before .before .before .before .before .before .before .before .before .before .before .before .before .operands .result .second) (c .before .before .before .before .before .before .before .before .before .before .before .before .before .before .before .before .before .before .before .before .loop .i) (c .before .before .before .before .before .before .before .before .before .before .before .before .before .before .before .before .before .before .before .loop-test .taken) (c .before .before .before .before .before .before .before .before .before .before .before .before .before .before .before .before .before .before .before .before .before .before .operands .ensures .few) (c .before .if2 .left) (refs-more (a .kinds .now) (a .ends .now) (a .pool .now) (a .z) (a .found .now) (a .globals .now) (a .unions .now) (a .p) (λ room ps x h. fuel-for (pre .0 .ready) (contextOf (a .globals .now) ps) room x (a .p) h) _ _ (c .before .before .before .before .before .before .before .before .before .before .before .before .before .before .before .before .before .before .before .before .before .before .operands .ensures .lower (c .before .before .before .before .before .before .before .before .before .before .before .before .before .before .before .before .before .before .before .before .loop .i) (c .before .before .before .before .before .before .before .before .before .before .before .before .before .before .before .before .before .before .before .loop-test .taken)) (v .4) (c .before .before .before .before .before .before .before .before .before .before .before .before .before .walk .ensures)))
+justify-loop-again t c = let a = c .before .before .before .before .before .before .before .before .before .before .before .before .before .before .before .before .before .before .before .before .before .before .before .before .before .before .before .before .before .before .before .before .before .before .before .before .args in let pre = c .before .before .before .before .before .before .before .before .before .before .before .before .before .before .before .before .before .before .before .before .before .before .before .before .before .before .before .before .before .before .before .before .before .before .before .before .pre .1 in let v = c .before .before .before .before .before .before .before .before .before .before .before .before .before .before .before .before .before .before .before .before .loop .inv in (let x = c .before .before .before .before .before .before .before .before .before .before .before .before .before .before .before .before .before .before .before .loop-test .taken in omega arith, c .before .before .before .before .before .before .before .before .before .before .before .before .before .walk .kept .1 .1 .1 .1 .1 .1 .1 .1 .1 .1 .1 .0 ∙ v .1, c .before .before .before .before .before .before .before .before .before .before .before .before .before .walk .kept .1 .1 .1 .1 .1 .1 .1 .1 .1 .1 .1 .1 .0 ∙ v .2, v .3, refs-turn (a .kinds .now) (a .ends .now) (a .pool .now) (a .z) (a .found .now) (a .globals .now) (a .unions .now) (a .p) (c .before .before .before .before .before .before .before .before .before .before .before .before .before .before .before .before .before .before .before .before .before .before .before .before .operands .result .first) (c .before .before .before .before .before .before .before .before .before .before .before .before .before .before .before .before .before .before .before .before .before .before .before .before .operands .result .second) (c .before .before .before .before .before .before .before .before .before .before .before .before .before .before .before .before .before .before .before .before .loop .i) (c .before .before .before .before .before .before .before .before .before .before .before .before .before .before .before .before .before .before .before .loop-test .taken) (c .before .before .before .before .before .before .before .before .before .before .before .before .before .before .before .before .before .before .before .before .before .before .before .before .operands .ensures .few) (c .before .if3 .left) (refs-more (a .kinds .now) (a .ends .now) (a .pool .now) (a .z) (a .found .now) (a .globals .now) (a .unions .now) (a .p) (λ room ps x h. fuel-for (pre .0 .ready) (contextOf (a .globals .now) ps) room x (a .p) h) _ _ (c .before .before .before .before .before .before .before .before .before .before .before .before .before .before .before .before .before .before .before .before .before .before .before .before .operands .ensures .lower (c .before .before .before .before .before .before .before .before .before .before .before .before .before .before .before .before .before .before .before .before .loop .i) (c .before .before .before .before .before .before .before .before .before .before .before .before .before .before .before .before .before .before .before .loop-test .taken)) (v .4) (c .before .before .before .before .before .before .before .before .before .before .before .before .before .walk .ensures)))
 
-justify-conclude-requires : (t : ℕ) → justify-lts.Need-conclude-requires (R-justify t) (justify-at t) justify.Post justify-Inv-loop justify-μ-loop
-justify-conclude-requires t c κs = let a = c .before .before .before .before .before .before .before .before .before .before .before .before .before .before .before .before .before .before .before .before .args in let pre = c .before .before .before .before .before .before .before .before .before .before .before .before .before .before .before .before .before .before .before .before .pre .1 in (step-prepared (c .before .before .before .before .before .before .loop .inv .4 .after refl .ground), pre .1)
+justify-conclude-requires-2 : (t : ℕ) → justify-lts.Need-conclude-requires-2 (R-justify t) (justify-at t) justify.Post justify-Inv-loop justify-μ-loop
+justify-conclude-requires-2 t c κs = let a = c .before .before .before .before .before .before .before .before .before .before .before .before .before .before .before .before .before .before .before .before .before .before .args in let pre = c .before .before .before .before .before .before .before .before .before .before .before .before .before .before .before .before .before .before .before .before .before .before .pre .1 in (step-prepared (c .before .before .before .before .before .before .loop .inv .4 .after refl .ground), pre .1)
 
-justify-same-length-11 : (t : ℕ) → justify-lts.Need-same-length-11 (R-justify t) (justify-at t) justify.Post justify-Inv-loop justify-μ-loop
-justify-same-length-11 t c = conclude-grown (c .before .before .before .before .before .before .before .before .before .before .conclude .ensures) .lenK ∙ c .before .before .before .before .before .before .before .before .before .before .before .before .before .before .before .before .before .loop .inv .4 .grown .lenK
+justify-same-length-16 : (t : ℕ) → justify-lts.Need-same-length-16 (R-justify t) (justify-at t) justify.Post justify-Inv-loop justify-μ-loop
+justify-same-length-16 t c = conclude-grown (c .before .before .before .before .before .before .before .before .before .before .conclude2 .ensures) .lenK ∙ c .before .before .before .before .before .before .before .before .before .before .before .before .before .before .before .before .before .loop .inv .4 .grown .lenK
 
-justify-same-length-12 : (t : ℕ) → justify-lts.Need-same-length-12 (R-justify t) (justify-at t) justify.Post justify-Inv-loop justify-μ-loop
-justify-same-length-12 t c = conclude-grown (c .before .before .before .before .before .before .before .before .before .before .conclude .ensures) .lenE ∙ c .before .before .before .before .before .before .before .before .before .before .before .before .before .before .before .before .before .loop .inv .4 .grown .lenE
+justify-same-length-17 : (t : ℕ) → justify-lts.Need-same-length-17 (R-justify t) (justify-at t) justify.Post justify-Inv-loop justify-μ-loop
+justify-same-length-17 t c = conclude-grown (c .before .before .before .before .before .before .before .before .before .before .conclude2 .ensures) .lenE ∙ c .before .before .before .before .before .before .before .before .before .before .before .before .before .before .before .before .before .loop .inv .4 .grown .lenE
 
-justify-same-length-13 : (t : ℕ) → justify-lts.Need-same-length-13 (R-justify t) (justify-at t) justify.Post justify-Inv-loop justify-μ-loop
-justify-same-length-13 t c = conclude-grown (c .before .before .before .before .before .before .before .before .before .before .conclude .ensures) .lenP ∙ c .before .before .before .before .before .before .before .before .before .before .before .before .before .before .before .before .before .loop .inv .4 .grown .lenP
+justify-same-length-18 : (t : ℕ) → justify-lts.Need-same-length-18 (R-justify t) (justify-at t) justify.Post justify-Inv-loop justify-μ-loop
+justify-same-length-18 t c = conclude-grown (c .before .before .before .before .before .before .before .before .before .before .conclude2 .ensures) .lenP ∙ c .before .before .before .before .before .before .before .before .before .before .before .before .before .before .before .before .before .loop .inv .4 .grown .lenP
 
-justify-same-length-14 : (t : ℕ) → justify-lts.Need-same-length-14 (R-justify t) (justify-at t) justify.Post justify-Inv-loop justify-μ-loop
-justify-same-length-14 t c = c .before .before .before .before .before .before .before .before .before .before .conclude .kept .1 .1 .1 .1 .1 .1 .1 .1 .1 .0 ∙ c .before .before .before .before .before .before .before .before .before .before .before .before .before .before .before .before .before .loop .inv .1
+justify-same-length-19 : (t : ℕ) → justify-lts.Need-same-length-19 (R-justify t) (justify-at t) justify.Post justify-Inv-loop justify-μ-loop
+justify-same-length-19 t c = c .before .before .before .before .before .before .before .before .before .before .conclude2 .kept .1 .1 .1 .1 .1 .1 .1 .1 .1 .0 ∙ c .before .before .before .before .before .before .before .before .before .before .before .before .before .before .before .before .before .loop .inv .1
 
-justify-same-length-15 : (t : ℕ) → justify-lts.Need-same-length-15 (R-justify t) (justify-at t) justify.Post justify-Inv-loop justify-μ-loop
-justify-same-length-15 t c = c .before .before .before .before .before .before .before .before .before .before .conclude .kept .1 .1 .1 .1 .1 .1 .1 .1 .1 .1 .0 ∙ c .before .before .before .before .before .before .before .before .before .before .before .before .before .before .before .before .before .loop .inv .2
+justify-same-length-20 : (t : ℕ) → justify-lts.Need-same-length-20 (R-justify t) (justify-at t) justify.Post justify-Inv-loop justify-μ-loop
+justify-same-length-20 t c = c .before .before .before .before .before .before .before .before .before .before .conclude2 .kept .1 .1 .1 .1 .1 .1 .1 .1 .1 .1 .0 ∙ c .before .before .before .before .before .before .before .before .before .before .before .before .before .before .before .before .before .loop .inv .2
 
-justify-returns-3 : (t : ℕ) → justify-lts.Need-returns-3 (R-justify t) (justify-at t) justify.Post justify-Inv-loop justify-μ-loop
-justify-returns-3 t c = let a = c .before .before .before .before .before .before .before .before .before .before .before .before .before .before .before .before .before .before .before .before .before .before .before .before .before .before .before .before .before .before .before .args in let pre = c .before .before .before .before .before .before .before .before .before .before .before .before .before .before .before .before .before .before .before .before .before .before .before .before .before .before .before .before .before .before .before .pre .1 in let o = c .before .before .before .before .before .before .before .before .before .before .before .before .before .before .before .before .before .before .before .operands .ensures .other (c .before .before .before .before .before .before .before .before .before .before .before .before .before .before .before .before .before .before .if1 .left) in let v = c .before .before .before .before .before .before .before .before .before .before .before .before .before .before .before .before .before .loop .inv in step-ends (a .kinds .now) (a .ends .now) (a .pool .now) (a .z) (a .found .now) (a .globals .now) (a .unions .now) (a .p) (o .0) (refs-all (a .kinds .now) (a .ends .now) (a .pool .now) (a .z) (a .found .now) (a .globals .now) (a .unions .now) (a .p) (c .before .before .before .before .before .before .before .before .before .before .before .before .before .before .before .before .before .before .before .operands .result .first) (c .before .before .before .before .before .before .before .before .before .before .before .before .before .before .before .before .before .before .before .operands .result .second) (v .0) (not-below (c .before .before .before .before .before .before .before .before .before .before .before .before .before .before .before .before .loop-test .left)) (o .1) (v .4)) (c .before .before .before .before .before .before .before .before .before .before .conclude .ensures) (conclude-grown (c .before .before .before .before .before .before .before .before .before .before .conclude .ensures)) (c .before .before .before .before .before .before .before .before .before .before .conclude .kept .1 .1 .1 .1 .1 .1 .1 .1 .1 .0) (c .before .before .before .before .before .before .before .before .before .before .conclude .kept .1 .1 .1 .1 .1 .1 .1 .1 .1 .1 .0)
+justify-returns-4 : (t : ℕ) → justify-lts.Need-returns-4 (R-justify t) (justify-at t) justify.Post justify-Inv-loop justify-μ-loop
+justify-returns-4 t c = let a = c .before .before .before .before .before .before .before .before .before .before .before .before .before .before .before .before .before .before .before .before .before .before .before .before .before .before .before .before .before .before .before .before .before .args in let pre = c .before .before .before .before .before .before .before .before .before .before .before .before .before .before .before .before .before .before .before .before .before .before .before .before .before .before .before .before .before .before .before .before .before .pre .1 in let o = c .before .before .before .before .before .before .before .before .before .before .before .before .before .before .before .before .before .before .before .before .before .operands .ensures .other (c .before .before .before .before .before .before .before .before .before .before .before .before .before .before .before .before .before .before .before .before .if1 .left) in let v = c .before .before .before .before .before .before .before .before .before .before .before .before .before .before .before .before .before .loop .inv in step-ends (a .kinds .now) (a .ends .now) (a .pool .now) (a .z) (a .found .now) (a .globals .now) (a .unions .now) (a .p) (o .0) (refs-all (a .kinds .now) (a .ends .now) (a .pool .now) (a .z) (a .found .now) (a .globals .now) (a .unions .now) (a .p) (c .before .before .before .before .before .before .before .before .before .before .before .before .before .before .before .before .before .before .before .before .before .operands .result .first) (c .before .before .before .before .before .before .before .before .before .before .before .before .before .before .before .before .before .before .before .before .before .operands .result .second) (v .0) (not-below (c .before .before .before .before .before .before .before .before .before .before .before .before .before .before .before .before .loop-test .left)) (o .1) (v .4)) (c .before .before .before .before .before .before .before .before .before .before .conclude2 .ensures) (conclude-grown (c .before .before .before .before .before .before .before .before .before .before .conclude2 .ensures)) (c .before .before .before .before .before .before .before .before .before .before .conclude2 .kept .1 .1 .1 .1 .1 .1 .1 .1 .1 .0) (c .before .before .before .before .before .before .before .before .before .before .conclude2 .kept .1 .1 .1 .1 .1 .1 .1 .1 .1 .1 .0)
 
 rule-check-rule-of-requires : (t : ℕ) → rule-check-lts.Need-rule-of-requires (R-rule-check t) (rule-check-at t) rule-check.Post
 rule-check-rule-of-requires t c κs = let a = c .before .before .before .before .before .before .before .before .before .before .before .args in let pre = c .before .before .before .before .before .before .before .before .before .before .before .pre .1 in pre .0 .ready
@@ -1043,10 +1064,10 @@ pub +check-premise+check-premises+justify+rule-check+walk-spec : {M : Type 1} �
       operands-reads.Learnt,
       rule-check-below t,
       rule-check.Post,
-      walk-below t,
-      walk.Post,
       conclude-reads.Asked,
       conclude-reads.Learnt,
+      walk-below t,
+      walk.Post,
     )
     (justify-at t)
     justify.Post
@@ -1060,26 +1081,33 @@ pub +check-premise+check-premises+justify+rule-check+walk-spec : {M : Type 1} �
     (justify-same-length-4 t)
     (justify-same-length-5 t)
     (justify-returns t)
-    (justify-loop-holds t)
-    (justify-mul-walk t)
-    (justify-array-read-walk t)
-    (justify-walk-requires t)
+    (justify-conclude-requires t)
     (justify-same-length-6 t)
     (justify-same-length-7 t)
     (justify-same-length-8 t)
     (justify-same-length-9 t)
     (justify-same-length-10 t)
     (justify-returns-2 t)
-    (justify-add-i t)
-    (justify-loop-less t)
-    (justify-loop-again t)
-    (justify-conclude-requires t)
+    (justify-loop-holds t)
+    (justify-mul-walk t)
+    (justify-array-read-walk t)
+    (justify-walk-requires t)
     (justify-same-length-11 t)
     (justify-same-length-12 t)
     (justify-same-length-13 t)
     (justify-same-length-14 t)
     (justify-same-length-15 t)
-    (justify-returns-3 t))
+    (justify-returns-3 t)
+    (justify-add-i t)
+    (justify-loop-less t)
+    (justify-loop-again t)
+    (justify-conclude-requires-2 t)
+    (justify-same-length-16 t)
+    (justify-same-length-17 t)
+    (justify-same-length-18 t)
+    (justify-same-length-19 t)
+    (justify-same-length-20 t)
+    (justify-returns-4 t))
     (λ t. rule-check-lts.spec (
       rule-of-reads.Asked,
       rule-of-reads.Learnt,
