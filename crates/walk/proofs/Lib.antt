@@ -1,7 +1,9 @@
 pub mod Walking
-pub mod Premises
+pub mod Binding
 pub mod Operating
-pub mod Premising
-pub mod Bodies
 pub mod Justifying
 pub mod Tying
+pub mod Turns
+pub mod Planning
+pub mod Stages
+pub mod Owing

@@ -1,31 +1,29 @@
 -- One check that walks after another, and what happens in between.
 use mathlib.Core.Path.{_≡_, refl, sym, ap, subst, subst⁻¹, _∙_}
 use mathlib.Core.Bool.{Bool, true, false, _||_}
-use mathlib.Core.List.{List, [], _∷_}
+use mathlib.Core.List.{List, _∷_}
 use Prim.Native.Nat.{ℕ, _+_, _<_, _≤_}
 use native.Mathlib.Omega.{arith}
 use lib.Dec.{eqb}
-use borrow.Author.Tests.{eqb-true, eqb-false, eq-eqb, ne-eqb}
-use lib.ListN.{length, getD, set, take, length-set}
-use lib.Seq.{getD-set-same, getD-set-other, take-set-le}
-use Rattle.model.specs.Term.{Term}
-use Rattle.model.specs.Program.{Proposition, Binding, Program}
+use borrow.Author.Tests.{eqb-true, eqb-false}
+use lib.ListN.{length, getD, set, take}
+use lib.Seq.{getD-set-same, getD-set-other}
+use Rattle.model.specs.Program.{Proposition}
 use Rattle.model.specs.Decode.{readBindings}
-use Rattle.model.specs.Check.{Outcome, ok, refused, Check, andThen, pure, Room}
+use Rattle.model.specs.Check.{Check, andThen, Room}
 use Rattle.model.specs.Walk.{member}
 use Rattle.model.proofs.Store.{Extends, extends-same, extends-then}
 use Rattle.cells.specs.declared.Fill.{Fill}
-use Rattle.termdag.specs.Store.{termsIn, Stored, roomOf}
+use Rattle.termdag.specs.Store.{termsIn, roomOf}
 use Rattle.memo.specs.Memo.{Past}
 use Rattle.outcome.specs.Does.{passed, Grown, Does}
 use Rattle.outcome.specs.declared.Refusal.{Refusal}
-use Rattle.outcome.specs.declared.Checked.{Checked}
-use Rattle.outcome.proofs.Laws.{ok-of, grown-same, grown-then, does-here, does-then, does-stop}
+use Rattle.outcome.proofs.Laws.{ok-of, grown-same, grown-then, does-then, does-stop}
 use Rattle.load.specs.declared.sizes.Sizes.{Sizes}
-use Rattle.program.specs.Ready.{Ready, programFor}
+use Rattle.program.specs.Ready.{programFor}
 use Rattle.evaluate.specs.Evaluation.{Sane}
 use Rattle.context.specs.Contexts.{GlobalPairs}
-use Rattle.walk.specs.Walking.{Flags, Ground, Walked, After, Walks}
+use Rattle.walk.specs.Walking.{Flags, Ground, After, Walks}
 
 after-same : {K E P : List ℕ} {z : Sizes} {F G k e p : List ℕ} {f : Fill} {memo W : List ℕ} → Ground K E P z F G k e p f memo W → After K E P z F G k e p f W k e p f memo W
 after-same g = record { ground = g; grows = extends-same; globals = refl }
@@ -118,4 +116,19 @@ walks-passed {k₁ = k₁} {e₁ = e₁} {p₁ = p₁} {f₁ = f₁} {r = r} {a 
     does = record { outcome = sym (ok-of r (a (d .done)) (termsIn k₁ e₁ p₁ f₁) n) ∙ d .does .outcome; grown = d .does .grown };
     flags = λ _. d .flags n;
   };
+}
+
+-- what is handed on
+pub ground-after : {K E P : List ℕ} {z : Sizes} {F G k e p : List ℕ} {f : Fill} {memo W k₁ e₁ p₁ : List ℕ} {f₁ : Fill} {memo₁ W₁ : List ℕ} → Ground K E P z F G k e p f memo W
+    → Grown k e p f k₁ e₁ p₁ f₁ → Extends (termsIn k e p f) (termsIn k₁ e₁ p₁ f₁) → Sane (programFor K E P z) (readBindings G) (termsIn k₁ e₁ p₁ f₁) → Past memo₁ → length memo₁ ≡ length memo → length W₁ ≡ length W
+    → Ground K E P z F G k₁ e₁ p₁ f₁ memo₁ W₁
+ground-after g w x s q a b = record {
+  ready = g .ready;
+  searched = g .searched;
+  stored = w .stored;
+  sane = s;
+  terms = extends-then (g .terms) x;
+  fits = let u = g .fits in omega arith;
+  past = q;
+  long = let u = g .long in let v = w .lenK in omega arith;
 }

@@ -6,13 +6,12 @@ use mathlib.Core.List.{List, [], _∷_, map}
 use mathlib.Core.Bool.{true, false}
 use lib.Dec.{eqb}
 use lib.ListN.{length, getD, take}
-use Rattle.model.specs.Term.{Term, readTerm}
-use Rattle.model.specs.Program.{Proposition, Binding, Program, Fact, Rule, Proof, rule, references}
+use Rattle.model.specs.Term.{readTerm}
+use Rattle.model.specs.Program.{Proposition, Binding, Program, Rule, Proof, rule, references}
 use Rattle.model.specs.Decode.{readBindings}
-use Rattle.model.specs.Check.{Outcome, Check, _>>=_, pure, choose, Room}
-use Rattle.model.specs.Fact.{assertBodyProofNormalForm, isContainerSideCondition, checkSideCondition, checkFactMatchesProposition}
+use Rattle.model.specs.Check.{Outcome, Check, _>>=_, pure, Room}
 use Rattle.model.specs.Action.{ActionContext, checkRuleProducesEquality}
-use Rattle.model.specs.Walk.{noProof, claimAt, member, checkPremises}
+use Rattle.model.specs.Walk.{noProof, member, checkPremises}
 use Rattle.model.proofs.Store.{Extends}
 use Rattle.cells.specs.declared.Fill.{Fill}
 use Rattle.termdag.specs.Store.{termsIn, Stored, roomOf}
@@ -75,15 +74,6 @@ pub record Operates (K E P : List ℕ) (z : Sizes) (p : ℕ) (r : Needs) : Type 
       × (take (r .count) (r .first ∷ r .second ∷ []) ≡ references (getD (proofsFor K E P z) p noProof .justification))
   pub few : r .count ≤ 2
   pub lower : (i : ℕ) → i < r .count → getD (r .first ∷ r .second ∷ []) i 0 < p
-
--- One fact with its premise, of `checkPremises`: the bindings and the proofs checked after it.
-module _ (room : Room) (prog : Program) (proofs : List Proof) (sub : ℕ → List ℕ → Check (List ℕ)) where
-  unfoldable pub checkPremise : ℕ → Fact → ℕ → List Binding → List ℕ → Check (List Binding × List ℕ)
-  checkPremise name f p σ done =
-      assertBodyProofNormalForm prog name f >>= λ _.
-      choose (isContainerSideCondition prog f)
-      (checkSideCondition room prog name σ f >>= λ σ′. pure (σ′, done))
-      (sub p done >>= λ done₁. checkFactMatchesProposition room prog name σ f (claimAt proofs p) >>= λ _. pure (σ, done₁))
 
 -- The body of a rule's step: each fact with its premise, then the head, which must produce q.
 unfoldable pub checkBody : Room → Program → List Proof → ActionContext → (ℕ → List ℕ → Check (List ℕ)) → ℕ → Rule → List ℕ → List Binding → Proposition → List ℕ → Check (List ℕ)

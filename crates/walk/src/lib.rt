@@ -25,23 +25,28 @@ use program::read::substitution_at;
 use program::rule_of;
 use steps::conclude;
 ghost use mathlib.Core.Path.{_≡_};
-ghost use mathlib.Core.List.{List, _++_};
-ghost use Prim.Native.Nat.{suc, _<_};
+ghost use mathlib.Core.List.{List};
+ghost use Prim.Native.Nat.{suc, _+_, _≤_, _<_};
+ghost use mathlib.Core.Bool.{true, false};
+ghost use Rattle.model.specs.Fact.{isContainerSideCondition};
 ghost use lib.Dec.{eqb};
 ghost use lib.ListN.{length, getD, set};
-ghost use Rattle.model.specs.Cell.{noCell};
 ghost use Rattle.model.specs.Program.{Binding};
-ghost use Rattle.model.specs.Decode.{ruleFacts, readBindings};
-ghost use Rattle.load.specs.Held.{tablesFor};
-ghost use Rattle.termdag.specs.Store.{termsIn};
-ghost use Rattle.model.specs.Walk.{noProof, claimAt, checkRule, checkJustification, checkProofWithContext};
-ghost use Rattle.program.specs.Ready.{Ready, programFor, ruleFor};
-ghost use Rattle.program.specs.Read.{factFor, proofsFor, premisesFor, pairsFor, proofCell};
+ghost use Rattle.termdag.specs.Store.{termsIn, Stored, roomOf};
+ghost use Rattle.model.proofs.Store.{Extends};
+ghost use Rattle.memo.specs.Memo.{Past};
+ghost use Rattle.outcome.specs.Does.{passed};
+ghost use Rattle.normal_form.specs.Search.{Searched};
+ghost use Rattle.facts.specs.declared.Binds as binds;
+ghost use Rattle.model.specs.Walk.{noProof, claimAt, checkJustification, checkProofWithContext};
+ghost use Rattle.program.specs.Ready.{Ready, programFor};
+ghost use Rattle.program.specs.Read.{factFor, proofsFor};
 ghost use Rattle.evaluate.specs.Value.{bindingsIn};
-ghost use Rattle.evaluate.specs.Evaluation.{Sane};
+ghost use Rattle.evaluate.specs.Evaluation.{Sane, Checks};
 ghost use Rattle.actions.specs.Acting.{effectBindings};
 ghost use Rattle.facts.specs.Bound.{boundOver};
-ghost use Rattle.walk.specs.Walking.{Ground, Walks, contextOf, checkPremise, checkBody, Operates};
+ghost use Rattle.walk.specs.Walking.{Ground, Walks, contextOf, Operates};
+ghost use Rattle.walk.specs.Turning.{ofFact, proofOf, noTurn, turnsBy, bindingsBy, beforeProof, RuleStep, Planned, Plans, Advances};
 
 // What a step refers to: whether it is a rule's, else the proofs that it needs, at most two.
 pub struct Needs {
@@ -145,15 +150,143 @@ fn effect_of(binds: Binds) -> Effect
     }
 }
 
-// One fact i of a rule with its premise: normal form, then a side condition, or the premise and what it must prove.
-fn check_premise(
+// What a step takes. A rule's: the rule of number r, whose name is `first`, with so many facts. Another's: the first so many of two proofs. Or the step's refusal.
+pub struct Plan {
+    pub refusal: Refusal,
+    pub rule: bool,
+    pub r: usize,
+    pub count: usize,
+    pub first: u32,
+    pub second: u32,
+}
+
+// How far a stage of a step came: whether it is over, and what it bound.
+pub struct Stage {
+    pub refusal: Refusal,
+    pub settled: bool,
+    pub binds: Binds,
+    pub fill: Fill,
+}
+
+// A step that needs the proofs that it refers to.
+fn plain_plan(ops: Needs) -> Plan
+    ensures { λ s. ⌜ s ≡ record { refusal = passed; rule = false; r = 0; count = ops .count; first = ops .first; second = ops .second } ⌝ }
+{
+    Plan {
+        refusal: Refusal {
+            number: 0,
+            count: 0,
+            fields: [0; 6],
+        },
+        rule: false,
+        r: 0,
+        count: ops.count,
+        first: ops.first,
+        second: ops.second,
+    }
+}
+
+// A rule's step.
+fn rule_plan(kinds: &[u32], ends: &[u32], pool: &[u32], z: Sizes, p: u32, name: u32) -> Plan
+    requires { ⌜ Ready (now kinds) (now ends) (now pool) z ⌝ }
+    requires { ⌜ p < z .proofs ⌝ }
+    requires { ⌜ RuleStep (now kinds) (now ends) (now pool) z p name ⌝ }
+    ensures { λ s. ⌜ Plans (now (kinds .entry)) (now (ends .entry)) (now (pool .entry)) z p s ⌝ }
+{
+    let rule = rule_of(kinds, ends, pool, z, name);
+    let Found::At(r) = rule else {
+        return Plan {
+            refusal: Refusal {
+                number: 32,
+                count: 1,
+                fields: [name, 0, 0, 0, 0, 0],
+            },
+            rule: true,
+            r: 0,
+            count: 0,
+            first: 0,
+            second: 0,
+        };
+    };
+    let facts = rule_facts_at(kinds, ends, pool, z, r).len();
+    let premises = premises_at(kinds, ends, pool, z, wide(p)).len();
+    if facts != premises {
+        return Plan {
+            refusal: Refusal {
+                number: 27,
+                count: 4,
+                fields: [p, name, facts as u32, premises as u32, 0, 0],
+            },
+            rule: true,
+            r: 0,
+            count: 0,
+            first: 0,
+            second: 0,
+        };
+    }
+    Plan {
+        refusal: Refusal {
+            number: 0,
+            count: 0,
+            fields: [0; 6],
+        },
+        rule: true,
+        r,
+        count: facts,
+        first: name,
+        second: 0,
+    }
+}
+
+// What the step of proof p takes.
+fn plan_step(kinds: &[u32], ends: &[u32], pool: &[u32], z: Sizes, p: u32) -> Plan
+    requires { ⌜ Ready (now kinds) (now ends) (now pool) z ⌝ }
+    requires { ⌜ p < z .proofs ⌝ }
+    ensures { λ s. ⌜ Plans (now (kinds .entry)) (now (ends .entry)) (now (pool .entry)) z p s ⌝ }
+{
+    let ops = operands(kinds, ends, pool, z, p);
+    if ops.rule {
+        return rule_plan(kinds, ends, pool, z, p, ops.name);
+    }
+    plain_plan(ops)
+}
+
+// The proof that the step's turn i walks.
+fn reference(
+    kinds: &[u32],
+    ends: &[u32],
+    pool: &[u32],
+    z: Sizes,
+    p: u32,
+    rule: bool,
+    r: usize,
+    first: u32,
+    second: u32,
+    count: usize,
+    i: usize,
+) -> u32
+    requires { ⌜ Ready (now kinds) (now ends) (now pool) z ⌝ }
+    requires { ⌜ p < z .proofs ⌝ }
+    requires { ⌜ Planned (now kinds) (now ends) (now pool) z p rule r first second count ⌝ }
+    requires { ⌜ i < count ⌝ }
+    ensures { λ x. ⌜ x ≡ proofOf (getD (turnsBy (now (kinds .entry)) (now (ends .entry)) (now (pool .entry)) z p rule r first second count) i noTurn) ⌝ }
+{
+    if rule {
+        let premises = premises_at(kinds, ends, pool, z, wide(p));
+        return premises[i];
+    }
+    let refs = [first, second];
+    refs[i]
+}
+
+// Fact i of a rule before its premise: normal form, and a side condition.
+fn before_premise(
     kinds: &[u32],
     ends: &[u32],
     pool: &[u32],
     z: Sizes,
     found: &[u32],
     globals: &[u32],
-    unions: &[u32],
     bound: &[u32],
     pairs: &[u32],
     name: u32,
@@ -162,70 +295,38 @@ fn check_premise(
     spool: &mut [u32],
     fill: Fill,
     memo: &mut [u32],
-    scratch: &mut [u32],
     i: u32,
-    premise: u32,
-) -> Condition
-    requires { ⌜ Ground (now kinds) (now ends) (now pool) z (now found) (now globals) (now skinds) (now sends) (now spool) fill (now memo) (now scratch) ⌝ }
-    requires { ⌜ Sane (programFor (now kinds) (now ends) (now pool) z) (bindingsIn (now bound) (now pairs) (now globals)) (termsIn (now skinds) (now sends) (now spool) fill) ⌝ }
+) -> Stage
+    requires { ⌜ Ready (now kinds) (now ends) (now pool) z ⌝ }
+    requires { ⌜ Searched (now kinds) (now ends) (now pool) z (now found) ⌝ }
+    requires { ⌜ Stored (now skinds) (now sends) (now spool) fill ⌝ }
+    requires { ⌜ z .expressions + z .expressions < length (now memo) ⌝ }
+    requires { ⌜ Past (now memo) ⌝ }
     requires { ⌜ i < z .facts ⌝ }
-    requires { ⌜ premise < z .proofs ⌝ }
-    ensures { λ r. ⌜ Walks (now (kinds .entry)) (now (ends .entry)) (now (pool .entry)) z (now (found .entry)) (now (globals .entry)) (now (unions .entry)) (now (skinds .entry)) (now (sends .entry)) (now (spool .entry)) fill (now (scratch .entry)) (now (skinds .exit)) (now (sends .exit)) (now (spool .exit)) (r .fill) (r .refusal) (now (memo .exit)) (now (scratch .exit)) (λ d. (boundOver (r .binds) (bindingsIn (now (bound .entry)) (now (pairs .entry)) (now (globals .entry))), d)) (λ room ps done. checkPremise room (programFor (now (kinds .entry)) (now (ends .entry)) (now (pool .entry)) z) (proofsFor (now (kinds .entry)) (now (ends .entry)) (now (pool .entry)) z) (checkProofWithContext room (programFor (now (kinds .entry)) (now (ends .entry)) (now (pool .entry)) z) (proofsFor (now (kinds .entry)) (now (ends .entry)) (now (pool .entry)) z) (contextOf (now (globals .entry)) ps) (suc premise)) name (factFor (now (kinds .entry)) (now (ends .entry)) (now (pool .entry)) z i) premise (bindingsIn (now (bound .entry)) (now (pairs .entry)) (now (globals .entry))) done) ⌝ }
-    ensures { λ r. ⌜ (r .refusal .number ≡ 0 → Sane (programFor (now (kinds .entry)) (now (ends .entry)) (now (pool .entry)) z) (boundOver (r .binds) (bindingsIn (now (bound .entry)) (now (pairs .entry)) (now (globals .entry)))) (termsIn (now (skinds .exit)) (now (sends .exit)) (now (spool .exit)) (r .fill))) ⌝ }
+    requires { ⌜ Sane (programFor (now kinds) (now ends) (now pool) z) (bindingsIn (now bound) (now pairs) (now globals)) (termsIn (now skinds) (now sends) (now spool) fill) ⌝ }
+    ensures does { λ c. ⌜ Checks (now (skinds .entry)) (now (sends .entry)) (now (spool .entry)) fill (now (skinds .exit)) (now (sends .exit)) (now (spool .exit)) (c .fill) (c .refusal) (boundOver (c .binds) (bindingsIn (now (bound .entry)) (now (pairs .entry)) (now (globals .entry)))) (now (memo .exit)) (beforeProof (roomOf (now (skinds .entry)) (now (spool .entry))) (programFor (now (kinds .entry)) (now (ends .entry)) (now (pool .entry)) z) (proofsFor (now (kinds .entry)) (now (ends .entry)) (now (pool .entry)) z) name (ofFact (factFor (now (kinds .entry)) (now (ends .entry)) (now (pool .entry)) z i) 0) (bindingsIn (now (bound .entry)) (now (pairs .entry)) (now (globals .entry))) (termsIn (now (skinds .entry)) (now (sends .entry)) (now (spool .entry)) fill)) ⌝ }
+    ensures over { λ c. ⌜ (c .refusal .number ≡ 0 → c .settled ≡ isContainerSideCondition (programFor (now (kinds .entry)) (now (ends .entry)) (now (pool .entry)) z) (factFor (now (kinds .entry)) (now (ends .entry)) (now (pool .entry)) z i)) ⌝ }
+    ensures kept { λ c. ⌜ (c .refusal .number ≡ 0 → Extends (termsIn (now (skinds .entry)) (now (sends .entry)) (now (spool .entry)) fill) (termsIn (now (skinds .exit)) (now (sends .exit)) (now (spool .exit)) (c .fill)) × Sane (programFor (now (kinds .entry)) (now (ends .entry)) (now (pool .entry)) z) (boundOver (c .binds) (bindingsIn (now (bound .entry)) (now (pairs .entry)) (now (globals .entry)))) (termsIn (now (skinds .exit)) (now (sends .exit)) (now (spool .exit)) (c .fill))) ⌝ }
+    ensures waits { λ c. ⌜ (c .settled ≡ false → c .binds ≡ binds.Binds.Nothing) ⌝ }
 {
     let offence = assert_body_proof_normal_form(kinds, ends, pool, z, found, name, i);
     if offence.number != 0 {
-        return Condition {
+        return Stage {
             refusal: offence,
+            settled: true,
             binds: Binds::Nothing,
             fill,
         };
     }
-    if is_container_side_condition(kinds, ends, pool, z, wide(i)) {
-        return check_side_condition(
-            kinds,
-            ends,
-            pool,
-            z,
-            bound,
-            pairs,
-            globals,
-            name,
-            skinds,
-            sends,
-            spool,
-            fill,
-            memo,
-            i,
-        );
-    }
-    let r = walk(
-        kinds,
-        ends,
-        pool,
-        z,
-        found,
-        globals,
-        unions,
-        skinds,
-        sends,
-        spool,
-        fill,
-        memo,
-        scratch,
-        premise,
-    );
-    let have = r.fill;
-    if r.refusal.number != 0 {
-        let refusal = r.refusal;
-        return Condition {
-            refusal,
+    if !is_container_side_condition(kinds, ends, pool, z, wide(i)) {
+        return Stage {
+            refusal: offence,
+            settled: false,
             binds: Binds::Nothing,
-            fill: have,
+            fill,
         };
     }
-    let q = claim_at(kinds, ends, pool, z, wide(premise));
-    let m = check_fact_matches_proposition(
+    let c = check_side_condition(
         kinds,
         ends,
         pool,
@@ -237,112 +338,133 @@ fn check_premise(
         skinds,
         sends,
         spool,
-        have,
+        fill,
         memo,
         i,
-        q,
     );
-    let refusal = m.refusal;
-    let after = m.fill;
-    Condition {
+    let refusal = c.refusal;
+    let binds = c.binds;
+    let after = c.fill;
+    Stage {
         refusal,
-        binds: Binds::Nothing,
+        settled: true,
+        binds,
         fill: after,
     }
 }
 
-// Each fact of rule r with its premise, then the head.
-fn check_premises(
+// A stage that is over, with nothing bound.
+fn over(c: Checked) -> Stage
+    ensures { λ s. ⌜ s ≡ record { refusal = c .refusal; settled = true; binds = binds.Binds.Nothing; fill = c .fill } ⌝ }
+{
+    let refusal = c.refusal;
+    let fill = c.fill;
+    Stage {
+        refusal,
+        settled: true,
+        binds: Binds::Nothing,
+        fill,
+    }
+}
+
+// Turn i of a rule's step: a fact before its premise or after it, or the head.
+fn advance_rule(
     kinds: &[u32],
     ends: &[u32],
     pool: &[u32],
     z: Sizes,
     found: &[u32],
     globals: &[u32],
-    unions: &[u32],
-    name: u32,
+    bound: &[u32],
     skinds: &mut [u32],
     sends: &mut [u32],
     spool: &mut [u32],
     fill: Fill,
     memo: &mut [u32],
     scratch: &mut [u32],
+    unions: &[u32],
     p: u32,
     r: usize,
-) -> Checked
+    name: u32,
+    second: u32,
+    count: usize,
+    i: usize,
+    walked: usize,
+) -> Stage
     requires { ⌜ Ground (now kinds) (now ends) (now pool) z (now found) (now globals) (now skinds) (now sends) (now spool) fill (now memo) (now scratch) ⌝ }
     requires { ⌜ p < z .proofs ⌝ }
-    requires { ⌜ proofCell (now kinds) (now ends) (now pool) z p .kind ≡ 1 ⌝ }
-    requires { ⌜ r < z .rules ⌝ }
-    requires { ⌜ length (ruleFacts (getD (tablesFor (now kinds) (now ends) (now pool) z .rules) r noCell)) ≡ length (premisesFor (now kinds) (now ends) (now pool) z p) ⌝ }
-    ensures { λ c. ⌜ Walks (now (kinds .entry)) (now (ends .entry)) (now (pool .entry)) z (now (found .entry)) (now (globals .entry)) (now (unions .entry)) (now (skinds .entry)) (now (sends .entry)) (now (spool .entry)) fill (now (scratch .entry)) (now (skinds .exit)) (now (sends .exit)) (now (spool .exit)) (c .fill) (c .refusal) (now (memo .exit)) (now (scratch .exit)) (λ d. d) (λ room ps done. checkBody room (programFor (now (kinds .entry)) (now (ends .entry)) (now (pool .entry)) z) (proofsFor (now (kinds .entry)) (now (ends .entry)) (now (pool .entry)) z) (contextOf (now (globals .entry)) ps) (checkProofWithContext room (programFor (now (kinds .entry)) (now (ends .entry)) (now (pool .entry)) z) (proofsFor (now (kinds .entry)) (now (ends .entry)) (now (pool .entry)) z) (contextOf (now (globals .entry)) ps) p) name (ruleFor (now (kinds .entry)) (now (ends .entry)) (now (pool .entry)) z r) (premisesFor (now (kinds .entry)) (now (ends .entry)) (now (pool .entry)) z p) (readBindings (pairsFor (now (kinds .entry)) (now (ends .entry)) (now (pool .entry)) z p) ++ readBindings (now (globals .entry))) (claimAt (proofsFor (now (kinds .entry)) (now (ends .entry)) (now (pool .entry)) z) p) done) ⌝ }
+    requires { ⌜ Planned (now kinds) (now ends) (now pool) z p true r name second count ⌝ }
+    requires { ⌜ (true ≡ true → Sane (programFor (now kinds) (now ends) (now pool) z) (bindingsBy (now kinds) (now ends) (now pool) z p true (now bound) (now globals)) (termsIn (now skinds) (now sends) (now spool) fill)) ⌝ }
+    requires { ⌜ length (now bound) ≤ 32 ⌝ }
+    requires { ⌜ i ≤ count ⌝ }
+    ensures { λ c. ⌜ Advances (now (kinds .entry)) (now (ends .entry)) (now (pool .entry)) z (now (found .entry)) (now (globals .entry)) (now (unions .entry)) p true r name second count (now (bound .entry)) (now (skinds .entry)) (now (sends .entry)) (now (spool .entry)) fill (now (scratch .entry)) i walked (now (skinds .exit)) (now (sends .exit)) (now (spool .exit)) c (now (memo .exit)) (now (scratch .exit)) ⌝ }
 {
     let facts = rule_facts_at(kinds, ends, pool, z, r);
-    let premises = premises_at(kinds, ends, pool, z, wide(p));
     let pairs = substitution_at(kinds, ends, pool, z, wide(p));
-    let count = facts.len();
-    let mut bound = [0u32; 32];
-    let mut at = 32;
-    let mut have = fill;
-    let mut i = 0;
-    while i < count {
-        let c = check_premise(
+    if count <= i {
+        let q = claim_at(kinds, ends, pool, z, wide(p));
+        let c = skinds.len();
+        let d = c + c;
+        return over(check_rule_produces_equality(
+            kinds,
+            ends,
+            pool,
+            z,
+            bound,
+            pairs,
+            globals,
+            skinds,
+            sends,
+            spool,
+            fill,
+            memo,
+            &mut scratch[c..d],
+            r,
+            q,
+        ));
+    }
+    if walked == 0 {
+        return before_premise(
             kinds,
             ends,
             pool,
             z,
             found,
             globals,
-            unions,
-            &bound[at..],
+            bound,
             pairs,
             name,
             skinds,
             sends,
             spool,
-            have,
+            fill,
             memo,
-            scratch,
             facts[i],
-            premises[i],
         );
-        have = c.fill;
-        if c.refusal.number != 0 {
-            let refusal = c.refusal;
-            return Checked {
-                refusal,
-                value: 0,
-                fill: have,
-            };
-        }
-        let binds = c.binds;
-        at = push_binding(&mut bound, at, effect_of(binds));
-        i += 1;
     }
-    let q = claim_at(kinds, ends, pool, z, wide(p));
-    let c = skinds.len();
-    let d = c + c;
-    check_rule_produces_equality(
+    let premises = premises_at(kinds, ends, pool, z, wide(p));
+    let q = claim_at(kinds, ends, pool, z, wide(premises[i]));
+    over(check_fact_matches_proposition(
         kinds,
         ends,
         pool,
         z,
-        &bound[at..],
+        bound,
         pairs,
         globals,
+        name,
         skinds,
         sends,
         spool,
-        have,
+        fill,
         memo,
-        &mut scratch[c..d],
-        r,
+        facts[i],
         q,
-    )
+    ))
 }
 
-// A rule's step: the rule, as many premises as facts, and each.
-fn rule_check(
+// Turn i of any step.
+fn advance(
     kinds: &[u32],
     ends: &[u32],
     pool: &[u32],
@@ -350,7 +472,7 @@ fn rule_check(
     found: &[u32],
     globals: &[u32],
     unions: &[u32],
-    name: u32,
+    bound: &[u32],
     skinds: &mut [u32],
     sends: &mut [u32],
     spool: &mut [u32],
@@ -358,50 +480,78 @@ fn rule_check(
     memo: &mut [u32],
     scratch: &mut [u32],
     p: u32,
-) -> Checked
+    rule: bool,
+    r: usize,
+    first: u32,
+    second: u32,
+    count: usize,
+    i: usize,
+    walked: usize,
+) -> Stage
     requires { ⌜ Ground (now kinds) (now ends) (now pool) z (now found) (now globals) (now skinds) (now sends) (now spool) fill (now memo) (now scratch) ⌝ }
     requires { ⌜ p < z .proofs ⌝ }
-    requires { ⌜ proofCell (now kinds) (now ends) (now pool) z p .kind ≡ 1 ⌝ }
-    ensures { λ r. ⌜ Walks (now (kinds .entry)) (now (ends .entry)) (now (pool .entry)) z (now (found .entry)) (now (globals .entry)) (now (unions .entry)) (now (skinds .entry)) (now (sends .entry)) (now (spool .entry)) fill (now (scratch .entry)) (now (skinds .exit)) (now (sends .exit)) (now (spool .exit)) (r .fill) (r .refusal) (now (memo .exit)) (now (scratch .exit)) (λ d. d) (λ room ps done. checkRule room (programFor (now (kinds .entry)) (now (ends .entry)) (now (pool .entry)) z) (proofsFor (now (kinds .entry)) (now (ends .entry)) (now (pool .entry)) z) (contextOf (now (globals .entry)) ps) (checkProofWithContext room (programFor (now (kinds .entry)) (now (ends .entry)) (now (pool .entry)) z) (proofsFor (now (kinds .entry)) (now (ends .entry)) (now (pool .entry)) z) (contextOf (now (globals .entry)) ps) p) p (claimAt (proofsFor (now (kinds .entry)) (now (ends .entry)) (now (pool .entry)) z) p) name (premisesFor (now (kinds .entry)) (now (ends .entry)) (now (pool .entry)) z p) (readBindings (pairsFor (now (kinds .entry)) (now (ends .entry)) (now (pool .entry)) z p)) done) ⌝ }
+    requires { ⌜ Planned (now kinds) (now ends) (now pool) z p rule r first second count ⌝ }
+    requires { ⌜ (rule ≡ true → Sane (programFor (now kinds) (now ends) (now pool) z) (bindingsBy (now kinds) (now ends) (now pool) z p rule (now bound) (now globals)) (termsIn (now skinds) (now sends) (now spool) fill)) ⌝ }
+    requires { ⌜ length (now bound) ≤ 32 ⌝ }
+    requires { ⌜ i ≤ count ⌝ }
+    requires { ⌜ walked ≤ 1 ⌝ }
+    ensures { λ c. ⌜ Advances (now (kinds .entry)) (now (ends .entry)) (now (pool .entry)) z (now (found .entry)) (now (globals .entry)) (now (unions .entry)) p rule r first second count (now (bound .entry)) (now (skinds .entry)) (now (sends .entry)) (now (spool .entry)) fill (now (scratch .entry)) i walked (now (skinds .exit)) (now (sends .exit)) (now (spool .exit)) c (now (memo .exit)) (now (scratch .exit)) ⌝ }
 {
-    let rule = rule_of(kinds, ends, pool, z, name);
-    let Found::At(r) = rule else {
-        return refuse1(32, name, fill);
-    };
-    let facts = rule_facts_at(kinds, ends, pool, z, r).len();
-    let premises = premises_at(kinds, ends, pool, z, wide(p)).len();
-    if facts != premises {
-        return Checked {
-            refusal: Refusal {
-                number: 27,
-                count: 4,
-                fields: [p, name, facts as u32, premises as u32, 0, 0],
-            },
-            value: 0,
+    if rule {
+        return advance_rule(
+            kinds,
+            ends,
+            pool,
+            z,
+            found,
+            globals,
+            bound,
+            skinds,
+            sends,
+            spool,
             fill,
-        };
+            memo,
+            scratch,
+            unions,
+            p,
+            r,
+            first,
+            second,
+            count,
+            i,
+            walked,
+        );
     }
-    check_premises(
-        kinds,
-        ends,
-        pool,
-        z,
-        found,
-        globals,
-        unions,
-        name,
-        skinds,
-        sends,
-        spool,
+    if count <= i {
+        return over(conclude(
+            kinds,
+            ends,
+            pool,
+            z,
+            unions,
+            skinds,
+            sends,
+            spool,
+            fill,
+            memo,
+            scratch,
+            p,
+        ));
+    }
+    Stage {
+        refusal: Refusal {
+            number: 0,
+            count: 0,
+            fields: [0; 6],
+        },
+        settled: walked == 1,
+        binds: Binds::Nothing,
         fill,
-        memo,
-        scratch,
-        p,
-        r,
-    )
+    }
 }
 
-// The step of proof p: the proofs that it needs, in order, then what it does itself; at once where it needs none.
+// The step of proof p, a rule's too, turn by turn: each proof that it needs is walked, between what is done before it and after it. The walk and this check call each
+// other, with a falling proof number; all else is done in `advance`, outside of their frames.
 fn justify(
     kinds: &[u32],
     ends: &[u32],
@@ -422,9 +572,23 @@ fn justify(
     requires { ⌜ p < z .proofs ⌝ }
     ensures { λ r. ⌜ Walks (now (kinds .entry)) (now (ends .entry)) (now (pool .entry)) z (now (found .entry)) (now (globals .entry)) (now (unions .entry)) (now (skinds .entry)) (now (sends .entry)) (now (spool .entry)) fill (now (scratch .entry)) (now (skinds .exit)) (now (sends .exit)) (now (spool .exit)) (r .fill) (r .refusal) (now (memo .exit)) (now (scratch .exit)) (λ d. d) (λ room ps done. checkJustification room (programFor (now (kinds .entry)) (now (ends .entry)) (now (pool .entry)) z) (proofsFor (now (kinds .entry)) (now (ends .entry)) (now (pool .entry)) z) (contextOf (now (globals .entry)) ps) (checkProofWithContext room (programFor (now (kinds .entry)) (now (ends .entry)) (now (pool .entry)) z) (proofsFor (now (kinds .entry)) (now (ends .entry)) (now (pool .entry)) z) (contextOf (now (globals .entry)) ps) p) p (claimAt (proofsFor (now (kinds .entry)) (now (ends .entry)) (now (pool .entry)) z) p) (getD (proofsFor (now (kinds .entry)) (now (ends .entry)) (now (pool .entry)) z) p noProof .justification) done) ⌝ }
 {
-    let ops = operands(kinds, ends, pool, z, p);
-    if ops.rule {
-        return rule_check(
+    let s = plan_step(kinds, ends, pool, z, p);
+    if s.refusal.number != 0 {
+        let refusal = s.refusal;
+        return Checked {
+            refusal,
+            value: 0,
+            fill,
+        };
+    }
+    let count = s.count;
+    let mut bound = [0u32; 34];
+    let mut at = 34;
+    let mut have = fill;
+    let mut i = 0;
+    let mut walked = 0;
+    while i <= count {
+        let c = advance(
             kinds,
             ends,
             pool,
@@ -432,38 +596,52 @@ fn justify(
             found,
             globals,
             unions,
-            ops.name,
+            &bound[at..],
             skinds,
             sends,
             spool,
-            fill,
+            have,
             memo,
             scratch,
             p,
+            s.rule,
+            s.r,
+            s.first,
+            s.second,
+            count,
+            i,
+            walked,
         );
-    }
-    if ops.count == 0 {
-        return conclude(
+        have = c.fill;
+        if c.refusal.number != 0 {
+            let refusal = c.refusal;
+            return Checked {
+                refusal,
+                value: 0,
+                fill: have,
+            };
+        }
+        if c.settled {
+            let binds = c.binds;
+            at = push_binding(&mut bound, at, effect_of(binds));
+            i += 1;
+            walked = 0;
+            continue;
+        }
+        let next = reference(
             kinds,
             ends,
             pool,
             z,
-            unions,
-            skinds,
-            sends,
-            spool,
-            fill,
-            memo,
-            scratch,
             p,
+            s.rule,
+            s.r,
+            s.first,
+            s.second,
+            count,
+            i,
         );
-    }
-    let refs = [ops.first, ops.second];
-    let count = ops.count;
-    let mut have = fill;
-    let mut i = 0;
-    while i < count {
-        let r = walk(
+        let w = walk(
             kinds,
             ends,
             pool,
@@ -477,28 +655,15 @@ fn justify(
             have,
             memo,
             scratch,
-            refs[i],
+            next,
         );
-        if r.refusal.number != 0 {
-            return r;
+        if w.refusal.number != 0 {
+            return w;
         }
-        have = r.fill;
-        i += 1;
+        have = w.fill;
+        walked = 1;
     }
-    conclude(
-        kinds,
-        ends,
-        pool,
-        z,
-        unions,
-        skinds,
-        sends,
-        spool,
-        have,
-        memo,
-        scratch,
-        p,
-    )
+    pass(0, have)
 }
 
 // `check_proof_with_context`: a proof that is checked already is not checked again.

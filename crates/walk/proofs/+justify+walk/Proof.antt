@@ -1,0 +1,319 @@
+use mathlib.Core.Path.{refl, sym, _∙_}
+use Prim.Native.Nat.{_+_, _-_}
+use native.Mathlib.Omega.{arith}
+use borrow.Author.Needs.{needs}
+use lib.ListN.{length, length-take, length-drop}
+use Rattle.outcome.proofs.Laws.{grown-then}
+use Rattle.walk.specs.Walking.{contextOf}
+use Rattle.walk.proofs.Justifying.{walk-known, walk-stops, walk-ends, fuel-for}
+use Rattle.walk.proofs.Tying.{flag-at, set-at}
+use Rattle.walk.proofs.Owing.{Task, task-start, task-ground, task-refused, task-settles, task-waits, task-fresh, task-next, task-walk-stops, task-walks, plan-refused, start-sane, sane-part-by, part-of, passed-as}
+use Prim.Native.Nat.{ℕ, _<_}
+use borrow.Fn.Kinds.{In}
+use borrow.Fn.PlainCycle.{Measures, is, falls, and}
+use Rattle.walk.proofs.justify.Reads as justify
+use Rattle.walk.proofs.justify.Kinds as justify-kinds
+use Rattle.walk.proofs.+justify+walk.Lts-justify as justify-lts
+use Rattle.walk.proofs.walk.Reads as walk
+use Rattle.walk.proofs.walk.Kinds as walk-kinds
+use Rattle.walk.proofs.+justify+walk.Lts-walk as walk-lts
+use Rattle.actions.proofs.push_binding.Reads as push-binding-reads
+use Rattle.cells.proofs.wide.Reads as wide-reads
+use Rattle.outcome.proofs.pass.Reads as pass-reads
+use Rattle.walk.proofs.advance.Reads as advance-reads
+use Rattle.walk.proofs.effect_of.Reads as effect-of-reads
+use Rattle.walk.proofs.is_checked.Reads as is-checked-reads
+use Rattle.walk.proofs.plan_step.Reads as plan-step-reads
+use Rattle.walk.proofs.reference.Reads as reference-reads
+use Rattle.walk.proofs.set_checked.Reads as set-checked-reads
+use Rattle.walk.proofs.+justify+walk.{statement}
+use Rattle.walk.proofs.+justify+walk.Tie.{close}
+
+abbrev μ-justify : Measures 11 justify-kinds.ps ℕ
+μ-justify κs a = (a .1 .1 .1 .1 .1 .1 .1 .1 .1 .1 .1 .1 .1 .0) + (a .1 .1 .1 .1 .1 .1 .1 .1 .1 .1 .1 .1 .1 .0)
+
+abbrev μ-walk : Measures 11 walk-kinds.ps ℕ
+μ-walk κs a = (a .1 .1 .1 .1 .1 .1 .1 .1 .1 .1 .1 .1 .1 .0) + (a .1 .1 .1 .1 .1 .1 .1 .1 .1 .1 .1 .1 .1 .0) + 1
+
+abbrev justify-at : ℕ → In 11 justify-kinds.ps
+justify-at t = and 11 justify-kinds.ps (is 11 justify-kinds.ps μ-justify t) justify.Pre
+
+abbrev justify-below : ℕ → In 11 justify-kinds.ps
+justify-below t = and 11 justify-kinds.ps (falls 11 justify-kinds.ps _<_ μ-justify t) justify.Pre
+
+abbrev walk-at : ℕ → In 11 walk-kinds.ps
+walk-at t = and 11 walk-kinds.ps (is 11 walk-kinds.ps μ-walk t) walk.Pre
+
+abbrev walk-below : ℕ → In 11 walk-kinds.ps
+walk-below t = and 11 walk-kinds.ps (falls 11 walk-kinds.ps _<_ μ-walk t) walk.Pre
+
+abbrev justify-Inv-loop : justify-lts.InvT-loop
+justify-Inv-loop kinds ends pool z found globals unions skinds₀ sends₀ spool₀ memo₀ scratch₀ p s count bound₀ at₀ have₀ i₀ walked₀ skinds sends spool memo scratch bound at have i walked =
+    Task kinds ends pool z found globals unions p (s .rule) (s .r) (s .first) (s .second) count skinds₀ sends₀ spool₀ have₀ memo₀ scratch₀ skinds sends spool have memo scratch bound at i walked
+
+abbrev justify-μ-loop : justify-lts.MeasureT-loop
+justify-μ-loop kinds ends pool z found globals unions skinds₀ sends₀ spool₀ memo₀ scratch₀ p s count bound₀ at₀ have₀ i₀ walked₀ skinds sends spool memo scratch bound at have i walked =
+    (count + 1 - i) + (count + 1 - i) + 1 - walked
+
+abbrev R-justify : ℕ → justify-lts.Claims
+R-justify t = (plan-step-reads.Asked, plan-step-reads.Learnt, advance-reads.Asked, advance-reads.Learnt, effect-of-reads.Asked, effect-of-reads.Learnt, push-binding-reads.Asked, push-binding-reads.Learnt, reference-reads.Asked, reference-reads.Learnt, walk-below t, walk.Post, pass-reads.Asked, pass-reads.Learnt)
+
+abbrev R-walk : ℕ → walk-lts.Claims
+R-walk t = (wide-reads.Asked, wide-reads.Learnt, is-checked-reads.Asked, is-checked-reads.Learnt, pass-reads.Asked, pass-reads.Learnt, justify-below t, justify.Post, set-checked-reads.Asked, set-checked-reads.Learnt)
+
+justify-plan-step-requires : (t : ℕ) → justify-lts.Need-plan-step-requires (R-justify t) (justify-at t) justify.Post justify-Inv-loop justify-μ-loop
+justify-plan-step-requires t c κs = let a = c .before .before .before .before .before .before .before .before .before .before .before .args in let pre = c .before .before .before .before .before .before .before .before .before .before .before .pre .1 in (pre .0 .ready, pre .1)
+
+justify-returns : (t : ℕ) → justify-lts.Need-returns (R-justify t) (justify-at t) justify.Post justify-Inv-loop justify-μ-loop
+justify-returns t c = let a = c .before .before .before .before .before .before .before .before .before .before .before .before .before .before .before .args in let pre = c .before .before .before .before .before .before .before .before .before .before .before .before .before .before .before .pre .1 in plan-refused (a .kinds .now) (a .ends .now) (a .pool .now) (a .z) (a .found .now) (a .globals .now) (a .unions .now) (a .p) (pre .0) (c .before .before .before .plan-step .ensures) (c .before .if1 .taken)
+
+justify-loop-holds : (t : ℕ) → justify-lts.Need-loop-holds (R-justify t) (justify-at t) justify.Post justify-Inv-loop justify-μ-loop
+justify-loop-holds t c = let a = c .before .before .before .before .before .before .before .before .before .before .before .before .before .before .args in let pre = c .before .before .before .before .before .before .before .before .before .before .before .before .before .before .pre .1 in task-start (a .kinds .now) (a .ends .now) (a .pool .now) (a .z) (a .found .now) (a .globals .now) (a .unions .now) (a .p) (c .before .before .plan-step .result .rule) (c .before .before .plan-step .result .r) (c .before .before .plan-step .result .first) (c .before .before .plan-step .result .second) (c .before .before .plan-step .result .count) (c .before .before .plan-step .ensures .goes (c .if1 .left)) (pre .0) (λ u. start-sane (a .kinds .now) (a .ends .now) (a .pool .now) (a .z) (a .p) (pre .0) (pre .1) u (c .before .before .plan-step .ensures .goes (c .if1 .left))) refl
+
+justify-mul-advance : (t : ℕ) → justify-lts.Need-mul-advance (R-justify t) (justify-at t) justify.Post justify-Inv-loop justify-μ-loop
+justify-mul-advance t c = let t = c .before .loop .inv .low in omega arith
+
+justify-sub-advance : (t : ℕ) → justify-lts.Need-sub-advance (R-justify t) (justify-at t) justify.Post justify-Inv-loop justify-μ-loop
+justify-sub-advance t c = let t = c .before .loop .inv .low in omega arith
+
+justify-part-advance-start : (t : ℕ) → justify-lts.Need-part-advance-start (R-justify t) (justify-at t) justify.Post justify-Inv-loop justify-μ-loop
+justify-part-advance-start t c = let t = c .before .before .loop .inv .low in omega arith
+
+justify-part-advance-end : (t : ℕ) → justify-lts.Need-part-advance-end (R-justify t) (justify-at t) justify.Post justify-Inv-loop justify-μ-loop
+justify-part-advance-end t c = search needs
+
+justify-advance-requires : (t : ℕ) → justify-lts.Need-advance-requires (R-justify t) (justify-at t) justify.Post justify-Inv-loop justify-μ-loop
+justify-advance-requires t c κs = let a = c .before .before .before .before .before .before .before .before .before .before .before .before .before .before .before .before .before .before .before .before .before .before .before .args in let pre = c .before .before .before .before .before .before .before .before .before .before .before .before .before .before .before .before .before .before .before .before .before .before .before .pre .1 in let t = c .before .before .before .before .before .before .before .before .loop .inv in let f = t .free (c .before .before .before .before .before .before .before .loop-test .taken) in (task-ground (a .kinds .now) (a .ends .now) (a .pool .now) (a .z) (a .found .now) (a .globals .now) (a .unions .now) (a .p) (c .before .before .before .before .before .before .before .before .before .before .before .plan-step .result .rule) (c .before .before .before .before .before .before .before .before .before .before .before .plan-step .result .r) (c .before .before .before .before .before .before .before .before .before .before .before .plan-step .result .first) (c .before .before .before .before .before .before .before .before .before .before .before .plan-step .result .second) (c .before .before .before .before .before .before .before .before .before .before .before .plan-step .result .count) (c .before .before .before .before .before .before .before .before .before .before .before .plan-step .ensures .goes (c .before .before .before .before .before .before .before .before .before .if1 .left)) t (c .before .before .before .before .before .before .before .loop-test .taken), (pre .1, ((c .before .before .before .before .before .before .before .before .before .before .before .plan-step .ensures .goes (c .before .before .before .before .before .before .before .before .before .if1 .left)), ((λ u. sane-part-by (a .kinds .now) (a .ends .now) (a .pool .now) (a .z) (a .p) (a .globals .now) (c .before .before .before .before .before .before .before .before .before .before .before .plan-step .result .rule) (part-of (c .before .before .before .before .before .before .before .before .loop .bound) (c .before .before .before .before .before .before .before .before .loop .at) (c .before .before .before .before .before .before .before .before .loop .inv .full)) (t .sane u (c .before .before .before .before .before .before .before .loop-test .taken))), (simp (length-take, length-drop) (omega arith), (c .before .before .before .before .before .before .before .loop-test .taken, t .bit))))))
+
+justify-same-length : (t : ℕ) → justify-lts.Need-same-length (R-justify t) (justify-at t) justify.Post justify-Inv-loop justify-μ-loop
+justify-same-length t c = c .before .before .before .before .before .before .before .before .before .before .before .before .before .before .advance .ensures .walks .grown .lenK ∙ c .before .before .before .before .before .before .before .before .before .before .before .before .before .before .before .before .before .before .before .before .before .before .before .loop .inv .grown .lenK
+
+justify-same-length-2 : (t : ℕ) → justify-lts.Need-same-length-2 (R-justify t) (justify-at t) justify.Post justify-Inv-loop justify-μ-loop
+justify-same-length-2 t c = c .before .before .before .before .before .before .before .before .before .before .before .before .before .before .advance .ensures .walks .grown .lenE ∙ c .before .before .before .before .before .before .before .before .before .before .before .before .before .before .before .before .before .before .before .before .before .before .before .loop .inv .grown .lenE
+
+justify-same-length-3 : (t : ℕ) → justify-lts.Need-same-length-3 (R-justify t) (justify-at t) justify.Post justify-Inv-loop justify-μ-loop
+justify-same-length-3 t c = c .before .before .before .before .before .before .before .before .before .before .before .before .before .before .advance .ensures .walks .grown .lenP ∙ c .before .before .before .before .before .before .before .before .before .before .before .before .before .before .before .before .before .before .before .before .before .before .before .loop .inv .grown .lenP
+
+justify-same-length-4 : (t : ℕ) → justify-lts.Need-same-length-4 (R-justify t) (justify-at t) justify.Post justify-Inv-loop justify-μ-loop
+justify-same-length-4 t c = c .before .before .before .before .before .before .before .before .before .before .before .before .before .before .advance .kept .1 .1 .1 .1 .1 .1 .1 .1 .1 .1 .1 .1 .0 ∙ c .before .before .before .before .before .before .before .before .before .before .before .before .before .before .before .before .before .before .before .before .before .before .before .loop .inv .lenMemo
+
+justify-same-length-5 : (t : ℕ) → justify-lts.Need-same-length-5 (R-justify t) (justify-at t) justify.Post justify-Inv-loop justify-μ-loop
+justify-same-length-5 t c = c .before .before .before .before .before .before .before .before .before .before .before .before .before .before .advance .kept .1 .1 .1 .1 .1 .1 .1 .1 .1 .1 .1 .1 .1 .0 ∙ c .before .before .before .before .before .before .before .before .before .before .before .before .before .before .before .before .before .before .before .before .before .before .before .loop .inv .lenW
+
+justify-returns-2 : (t : ℕ) → justify-lts.Need-returns-2 (R-justify t) (justify-at t) justify.Post justify-Inv-loop justify-μ-loop
+justify-returns-2 t c = let a = c .before .before .before .before .before .before .before .before .before .before .before .before .before .before .before .before .before .before .before .before .before .before .before .before .before .before .before .before .before .before .before .before .before .before .before .before .before .before .args in let pre = c .before .before .before .before .before .before .before .before .before .before .before .before .before .before .before .before .before .before .before .before .before .before .before .before .before .before .before .before .before .before .before .before .before .before .before .before .before .before .pre .1 in task-refused (a .kinds .now) (a .ends .now) (a .pool .now) (a .z) (a .found .now) (a .globals .now) (a .unions .now) (a .p) (c .before .before .before .before .before .before .before .before .before .before .before .before .before .before .before .before .before .before .before .before .before .before .before .before .before .before .plan-step .result .rule) (c .before .before .before .before .before .before .before .before .before .before .before .before .before .before .before .before .before .before .before .before .before .before .before .before .before .before .plan-step .result .r) (c .before .before .before .before .before .before .before .before .before .before .before .before .before .before .before .before .before .before .before .before .before .before .before .before .before .before .plan-step .result .first) (c .before .before .before .before .before .before .before .before .before .before .before .before .before .before .before .before .before .before .before .before .before .before .before .before .before .before .plan-step .result .second) (c .before .before .before .before .before .before .before .before .before .before .before .before .before .before .before .before .before .before .before .before .before .before .before .before .before .before .plan-step .result .count) (c .before .before .before .before .before .before .before .before .before .before .before .before .before .before .before .before .before .before .before .before .before .before .before .before .before .before .plan-step .ensures .goes (c .before .before .before .before .before .before .before .before .before .before .before .before .before .before .before .before .before .before .before .before .before .before .before .before .if1 .left)) (c .before .before .before .before .before .before .before .before .before .before .before .before .before .before .before .before .before .before .before .before .before .before .before .loop .inv) (c .before .before .before .before .before .before .before .before .before .before .before .before .before .before .before .before .before .before .before .before .before .before .loop-test .taken) (c .before .before .before .before .before .before .before .before .before .before .before .before .before .before .advance .result) (part-of (c .before .before .before .before .before .before .before .before .before .before .before .before .before .before .before .before .before .before .before .before .before .before .before .loop .bound) (c .before .before .before .before .before .before .before .before .before .before .before .before .before .before .before .before .before .before .before .before .before .before .before .loop .at) (c .before .before .before .before .before .before .before .before .before .before .before .before .before .before .before .before .before .before .before .before .before .before .before .loop .inv .full)) (c .before .before .before .before .before .before .before .before .before .before .before .before .before .before .advance .ensures) (c .before .if2 .taken)
+
+justify-slice-aggregate-push-binding : (t : ℕ) → justify-lts.Need-slice-aggregate-push-binding (R-justify t) (justify-at t) justify.Post justify-Inv-loop justify-μ-loop
+justify-slice-aggregate-push-binding t c = sym (c .before .before .before .before .before .before .before .before .before .before .before .before .before .before .before .before .before .before .before .before .before .before .before .before .loop .inv .full)
+
+justify-effect-of-requires : (t : ℕ) → justify-lts.Need-effect-of-requires (R-justify t) (justify-at t) justify.Post justify-Inv-loop justify-μ-loop
+justify-effect-of-requires t c κs = search needs
+
+justify-push-binding-requires : (t : ℕ) → justify-lts.Need-push-binding-requires (R-justify t) (justify-at t) justify.Post justify-Inv-loop justify-μ-loop
+justify-push-binding-requires t c κs = let t = c .before .before .before .before .before .before .before .before .before .before .before .before .before .before .before .before .before .before .before .before .before .before .before .before .before .loop .inv in let f = t .free (c .before .before .before .before .before .before .before .before .before .before .before .before .before .before .before .before .before .before .before .before .before .before .before .before .loop-test .taken) in let l = t .low in let h = t .full in (omega arith, omega arith)
+
+justify-add-i : (t : ℕ) → justify-lts.Need-add-i (R-justify t) (justify-at t) justify.Post justify-Inv-loop justify-μ-loop
+justify-add-i t c = let x = c .before .before .before .before .before .before .before .before .before .before .before .before .before .before .before .before .before .before .before .before .before .before .before .before .before .before .loop-test .taken in let f = (c .before .before .before .before .before .before .before .before .before .before .before .before .before .before .before .before .before .before .before .before .before .before .before .before .before .before .before .before .before .before .plan-step .ensures .goes (c .before .before .before .before .before .before .before .before .before .before .before .before .before .before .before .before .before .before .before .before .before .before .before .before .before .before .before .before .if1 .left)) .few in omega arith
+
+justify-loop-less : (t : ℕ) → justify-lts.Need-loop-less (R-justify t) (justify-at t) justify.Post justify-Inv-loop justify-μ-loop
+justify-loop-less t c = let x = c .before .before .before .before .before .before .before .before .before .before .before .before .before .before .before .before .before .before .before .before .before .before .before .before .before .before .loop-test .taken in let b = c .before .before .before .before .before .before .before .before .before .before .before .before .before .before .before .before .before .before .before .before .before .before .before .before .before .before .before .loop .inv .bit in omega arith
+
+justify-loop-again : (t : ℕ) → justify-lts.Need-loop-again (R-justify t) (justify-at t) justify.Post justify-Inv-loop justify-μ-loop
+justify-loop-again t c = let a = c .before .before .before .before .before .before .before .before .before .before .before .before .before .before .before .before .before .before .before .before .before .before .before .before .before .before .before .before .before .before .before .before .before .before .before .before .before .before .before .before .before .before .args in let pre = c .before .before .before .before .before .before .before .before .before .before .before .before .before .before .before .before .before .before .before .before .before .before .before .before .before .before .before .before .before .before .before .before .before .before .before .before .before .before .before .before .before .before .pre .1 in task-settles (a .kinds .now) (a .ends .now) (a .pool .now) (a .z) (a .found .now) (a .globals .now) (a .unions .now) (a .p) (c .before .before .before .before .before .before .before .before .before .before .before .before .before .before .before .before .before .before .before .before .before .before .before .before .before .before .before .before .before .before .plan-step .result .rule) (c .before .before .before .before .before .before .before .before .before .before .before .before .before .before .before .before .before .before .before .before .before .before .before .before .before .before .before .before .before .before .plan-step .result .r) (c .before .before .before .before .before .before .before .before .before .before .before .before .before .before .before .before .before .before .before .before .before .before .before .before .before .before .before .before .before .before .plan-step .result .first) (c .before .before .before .before .before .before .before .before .before .before .before .before .before .before .before .before .before .before .before .before .before .before .before .before .before .before .before .before .before .before .plan-step .result .second) (c .before .before .before .before .before .before .before .before .before .before .before .before .before .before .before .before .before .before .before .before .before .before .before .before .before .before .before .before .before .before .plan-step .result .count) (c .before .before .before .before .before .before .before .before .before .before .before .before .before .before .before .before .before .before .before .before .before .before .before .before .before .before .before .before .before .before .plan-step .ensures .goes (c .before .before .before .before .before .before .before .before .before .before .before .before .before .before .before .before .before .before .before .before .before .before .before .before .before .before .before .before .if1 .left)) (c .before .before .before .before .before .before .before .before .before .before .before .before .before .before .before .before .before .before .before .before .before .before .before .before .before .before .before .loop .inv) (c .before .before .before .before .before .before .before .before .before .before .before .before .before .before .before .before .before .before .before .before .before .before .before .before .before .before .loop-test .taken) (c .before .before .before .before .before .before .before .before .before .before .before .before .before .before .before .before .before .before .advance .result) (part-of (c .before .before .before .before .before .before .before .before .before .before .before .before .before .before .before .before .before .before .before .before .before .before .before .before .before .before .before .loop .bound) (c .before .before .before .before .before .before .before .before .before .before .before .before .before .before .before .before .before .before .before .before .before .before .before .before .before .before .before .loop .at) (c .before .before .before .before .before .before .before .before .before .before .before .before .before .before .before .before .before .before .before .before .before .before .before .before .before .before .before .loop .inv .full)) (c .before .before .before .before .before .before .before .before .before .before .before .before .before .before .before .before .before .before .advance .ensures) (c .before .push-binding .ensures) (c .before .before .effect-of .ensures) (c .before .before .before .before .before .if2 .left) (c .before .before .before .before .if3 .taken) (c .before .push-binding .kept .0) (c .before .before .before .before .before .before .before .before .before .before .before .before .before .before .before .before .before .before .advance .kept .1 .1 .1 .1 .1 .1 .1 .1 .1 .1 .1 .1 .0) (c .before .before .before .before .before .before .before .before .before .before .before .before .before .before .before .before .before .before .advance .kept .1 .1 .1 .1 .1 .1 .1 .1 .1 .1 .1 .1 .1 .0) (grown-then (c .before .before .before .before .before .before .before .before .before .before .before .before .before .before .before .before .before .before .before .before .before .before .before .before .before .before .before .loop .inv .grown) (c .before .before .before .before .before .before .before .before .before .before .before .before .before .before .before .before .before .before .advance .ensures .walks .grown))
+
+justify-reference-requires : (t : ℕ) → justify-lts.Need-reference-requires (R-justify t) (justify-at t) justify.Post justify-Inv-loop justify-μ-loop
+justify-reference-requires t c κs = let a = c .before .before .before .before .before .before .before .before .before .before .before .before .before .before .before .before .before .before .before .before .before .before .before .before .before .before .before .before .before .before .before .before .before .before .before .before .before .before .args in let pre = c .before .before .before .before .before .before .before .before .before .before .before .before .before .before .before .before .before .before .before .before .before .before .before .before .before .before .before .before .before .before .before .before .before .before .before .before .before .before .pre .1 in (pre .0 .ready, (pre .1, ((c .before .before .before .before .before .before .before .before .before .before .before .before .before .before .before .before .before .before .before .before .before .before .before .before .before .before .plan-step .ensures .goes (c .before .before .before .before .before .before .before .before .before .before .before .before .before .before .before .before .before .before .before .before .before .before .before .before .if1 .left)), task-waits (a .kinds .now) (a .ends .now) (a .pool .now) (a .z) (a .found .now) (a .globals .now) (a .unions .now) (a .p) (c .before .before .before .before .before .before .before .before .before .before .before .before .before .before .before .before .before .before .before .before .before .before .before .before .before .before .plan-step .result .rule) (c .before .before .before .before .before .before .before .before .before .before .before .before .before .before .before .before .before .before .before .before .before .before .before .before .before .before .plan-step .result .r) (c .before .before .before .before .before .before .before .before .before .before .before .before .before .before .before .before .before .before .before .before .before .before .before .before .before .before .plan-step .result .first) (c .before .before .before .before .before .before .before .before .before .before .before .before .before .before .before .before .before .before .before .before .before .before .before .before .before .before .plan-step .result .second) (c .before .before .before .before .before .before .before .before .before .before .before .before .before .before .before .before .before .before .before .before .before .before .before .before .before .before .plan-step .result .count) (c .before .before .before .before .before .before .before .before .before .before .before .before .before .before .before .before .before .before .before .before .before .before .before .before .before .before .plan-step .ensures .goes (c .before .before .before .before .before .before .before .before .before .before .before .before .before .before .before .before .before .before .before .before .before .before .before .before .if1 .left)) (c .before .before .before .before .before .before .before .before .before .before .before .before .before .before .before .before .before .before .before .before .before .before .before .loop .inv) (c .before .before .before .before .before .before .before .before .before .before .before .before .before .before .before .before .before .before .before .before .before .before .loop-test .taken) (c .before .before .before .before .before .before .before .before .before .before .before .before .before .before .advance .result) (part-of (c .before .before .before .before .before .before .before .before .before .before .before .before .before .before .before .before .before .before .before .before .before .before .before .loop .bound) (c .before .before .before .before .before .before .before .before .before .before .before .before .before .before .before .before .before .before .before .before .before .before .before .loop .at) (c .before .before .before .before .before .before .before .before .before .before .before .before .before .before .before .before .before .before .before .before .before .before .before .loop .inv .full)) (c .before .before .before .before .before .before .before .before .before .before .before .before .before .before .advance .ensures) (c .before .if2 .left) (c .if3 .left))))
+
+justify-walk-requires : (t : ℕ) → justify-lts.Need-walk-requires (R-justify t) (justify-at t) justify.Post justify-Inv-loop justify-μ-loop
+justify-walk-requires t c κs = let a = c .before .before .before .before .before .before .before .before .before .before .before .before .before .before .before .before .before .before .before .before .before .before .before .before .before .before .before .before .before .before .before .before .before .before .before .before .before .before .before .before .before .before .before .before .args in let pre = c .before .before .before .before .before .before .before .before .before .before .before .before .before .before .before .before .before .before .before .before .before .before .before .before .before .before .before .before .before .before .before .before .before .before .before .before .before .before .before .before .before .before .before .before .pre .1 in let w = task-waits (a .kinds .now) (a .ends .now) (a .pool .now) (a .z) (a .found .now) (a .globals .now) (a .unions .now) (a .p) (c .before .before .before .before .before .before .before .before .before .before .before .before .before .before .before .before .before .before .before .before .before .before .before .before .before .before .before .before .before .before .before .before .plan-step .result .rule) (c .before .before .before .before .before .before .before .before .before .before .before .before .before .before .before .before .before .before .before .before .before .before .before .before .before .before .before .before .before .before .before .before .plan-step .result .r) (c .before .before .before .before .before .before .before .before .before .before .before .before .before .before .before .before .before .before .before .before .before .before .before .before .before .before .before .before .before .before .before .before .plan-step .result .first) (c .before .before .before .before .before .before .before .before .before .before .before .before .before .before .before .before .before .before .before .before .before .before .before .before .before .before .before .before .before .before .before .before .plan-step .result .second) (c .before .before .before .before .before .before .before .before .before .before .before .before .before .before .before .before .before .before .before .before .before .before .before .before .before .before .before .before .before .before .before .before .plan-step .result .count) (c .before .before .before .before .before .before .before .before .before .before .before .before .before .before .before .before .before .before .before .before .before .before .before .before .before .before .before .before .before .before .before .before .plan-step .ensures .goes (c .before .before .before .before .before .before .before .before .before .before .before .before .before .before .before .before .before .before .before .before .before .before .before .before .before .before .before .before .before .before .if1 .left)) (c .before .before .before .before .before .before .before .before .before .before .before .before .before .before .before .before .before .before .before .before .before .before .before .before .before .before .before .before .before .loop .inv) (c .before .before .before .before .before .before .before .before .before .before .before .before .before .before .before .before .before .before .before .before .before .before .before .before .before .before .before .before .loop-test .taken) (c .before .before .before .before .before .before .before .before .before .before .before .before .before .before .before .before .before .before .before .before .advance .result) (part-of (c .before .before .before .before .before .before .before .before .before .before .before .before .before .before .before .before .before .before .before .before .before .before .before .before .before .before .before .before .before .loop .bound) (c .before .before .before .before .before .before .before .before .before .before .before .before .before .before .before .before .before .before .before .before .before .before .before .before .before .before .before .before .before .loop .at) (c .before .before .before .before .before .before .before .before .before .before .before .before .before .before .before .before .before .before .before .before .before .before .before .before .before .before .before .before .before .loop .inv .full)) (c .before .before .before .before .before .before .before .before .before .before .before .before .before .before .before .before .before .before .before .before .advance .ensures) (c .before .before .before .before .before .before .before .if2 .left) (c .before .before .before .before .before .before .if3 .left) in let l = (c .before .before .before .before .before .before .before .before .before .before .before .before .before .before .before .before .before .before .before .before .before .before .before .before .before .before .before .before .before .before .before .before .plan-step .ensures .goes (c .before .before .before .before .before .before .before .before .before .before .before .before .before .before .before .before .before .before .before .before .before .before .before .before .before .before .before .before .before .before .if1 .left)) .lower (c .before .before .before .before .before .before .before .before .before .before .before .before .before .before .before .before .before .before .before .before .before .before .before .before .before .before .before .before .before .loop .i) w in let y = c .before .before .before .before .before .reference .ensures in let h = pre .1 in (let m = c .before .before .before .before .before .before .before .before .before .before .before .before .before .before .before .before .before .before .before .before .before .before .before .before .before .before .before .before .before .before .before .before .before .before .before .before .before .before .before .before .before .before .before .before .pre .0 in omega arith, (task-next (a .kinds .now) (a .ends .now) (a .pool .now) (a .z) (a .found .now) (a .globals .now) (a .unions .now) (a .p) (c .before .before .before .before .before .before .before .before .before .before .before .before .before .before .before .before .before .before .before .before .before .before .before .before .before .before .before .before .before .before .before .before .plan-step .result .rule) (c .before .before .before .before .before .before .before .before .before .before .before .before .before .before .before .before .before .before .before .before .before .before .before .before .before .before .before .before .before .before .before .before .plan-step .result .r) (c .before .before .before .before .before .before .before .before .before .before .before .before .before .before .before .before .before .before .before .before .before .before .before .before .before .before .before .before .before .before .before .before .plan-step .result .first) (c .before .before .before .before .before .before .before .before .before .before .before .before .before .before .before .before .before .before .before .before .before .before .before .before .before .before .before .before .before .before .before .before .plan-step .result .second) (c .before .before .before .before .before .before .before .before .before .before .before .before .before .before .before .before .before .before .before .before .before .before .before .before .before .before .before .before .before .before .before .before .plan-step .result .count) (c .before .before .before .before .before .before .before .before .before .before .before .before .before .before .before .before .before .before .before .before .before .before .before .before .before .before .before .before .before .before .before .before .plan-step .ensures .goes (c .before .before .before .before .before .before .before .before .before .before .before .before .before .before .before .before .before .before .before .before .before .before .before .before .before .before .before .before .before .before .if1 .left)) (c .before .before .before .before .before .before .before .before .before .before .before .before .before .before .before .before .before .before .before .before .before .before .before .before .before .before .before .before .before .loop .inv) (c .before .before .before .before .before .before .before .before .before .before .before .before .before .before .before .before .before .before .before .before .before .before .before .before .before .before .before .before .loop-test .taken) (c .before .before .before .before .before .before .before .before .before .before .before .before .before .before .before .before .before .before .before .before .advance .result) (part-of (c .before .before .before .before .before .before .before .before .before .before .before .before .before .before .before .before .before .before .before .before .before .before .before .before .before .before .before .before .before .loop .bound) (c .before .before .before .before .before .before .before .before .before .before .before .before .before .before .before .before .before .before .before .before .before .before .before .before .before .before .before .before .before .loop .at) (c .before .before .before .before .before .before .before .before .before .before .before .before .before .before .before .before .before .before .before .before .before .before .before .before .before .before .before .before .before .loop .inv .full)) (c .before .before .before .before .before .before .before .before .before .before .before .before .before .before .before .before .before .before .before .before .advance .ensures) (c .before .before .before .before .before .before .before .if2 .left) (c .before .before .before .before .before .before .if3 .left), omega arith))
+
+justify-same-length-6 : (t : ℕ) → justify-lts.Need-same-length-6 (R-justify t) (justify-at t) justify.Post justify-Inv-loop justify-μ-loop
+justify-same-length-6 t c = c .before .before .before .before .before .before .before .before .before .before .before .before .walk .ensures .grown .lenK ∙ c .before .before .before .before .before .before .before .before .before .before .before .before .before .before .before .before .before .before .before .before .before .before .before .before .before .before .before .before .before .before .before .before .before .advance .ensures .walks .grown .lenK ∙ c .before .before .before .before .before .before .before .before .before .before .before .before .before .before .before .before .before .before .before .before .before .before .before .before .before .before .before .before .before .before .before .before .before .before .before .before .before .before .before .before .before .before .loop .inv .grown .lenK
+
+justify-same-length-7 : (t : ℕ) → justify-lts.Need-same-length-7 (R-justify t) (justify-at t) justify.Post justify-Inv-loop justify-μ-loop
+justify-same-length-7 t c = c .before .before .before .before .before .before .before .before .before .before .before .before .walk .ensures .grown .lenE ∙ c .before .before .before .before .before .before .before .before .before .before .before .before .before .before .before .before .before .before .before .before .before .before .before .before .before .before .before .before .before .before .before .before .before .advance .ensures .walks .grown .lenE ∙ c .before .before .before .before .before .before .before .before .before .before .before .before .before .before .before .before .before .before .before .before .before .before .before .before .before .before .before .before .before .before .before .before .before .before .before .before .before .before .before .before .before .before .loop .inv .grown .lenE
+
+justify-same-length-8 : (t : ℕ) → justify-lts.Need-same-length-8 (R-justify t) (justify-at t) justify.Post justify-Inv-loop justify-μ-loop
+justify-same-length-8 t c = c .before .before .before .before .before .before .before .before .before .before .before .before .walk .ensures .grown .lenP ∙ c .before .before .before .before .before .before .before .before .before .before .before .before .before .before .before .before .before .before .before .before .before .before .before .before .before .before .before .before .before .before .before .before .before .advance .ensures .walks .grown .lenP ∙ c .before .before .before .before .before .before .before .before .before .before .before .before .before .before .before .before .before .before .before .before .before .before .before .before .before .before .before .before .before .before .before .before .before .before .before .before .before .before .before .before .before .before .loop .inv .grown .lenP
+
+justify-same-length-9 : (t : ℕ) → justify-lts.Need-same-length-9 (R-justify t) (justify-at t) justify.Post justify-Inv-loop justify-μ-loop
+justify-same-length-9 t c = c .before .before .before .before .before .before .before .before .before .before .before .before .walk .kept .1 .1 .1 .1 .1 .1 .1 .1 .1 .1 .1 .0 ∙ c .before .before .before .before .before .before .before .before .before .before .before .before .before .before .before .before .before .before .before .before .before .before .before .before .before .before .before .before .before .before .before .before .before .advance .kept .1 .1 .1 .1 .1 .1 .1 .1 .1 .1 .1 .1 .0 ∙ c .before .before .before .before .before .before .before .before .before .before .before .before .before .before .before .before .before .before .before .before .before .before .before .before .before .before .before .before .before .before .before .before .before .before .before .before .before .before .before .before .before .before .loop .inv .lenMemo
+
+justify-same-length-10 : (t : ℕ) → justify-lts.Need-same-length-10 (R-justify t) (justify-at t) justify.Post justify-Inv-loop justify-μ-loop
+justify-same-length-10 t c = c .before .before .before .before .before .before .before .before .before .before .before .before .walk .kept .1 .1 .1 .1 .1 .1 .1 .1 .1 .1 .1 .1 .0 ∙ c .before .before .before .before .before .before .before .before .before .before .before .before .before .before .before .before .before .before .before .before .before .before .before .before .before .before .before .before .before .before .before .before .before .advance .kept .1 .1 .1 .1 .1 .1 .1 .1 .1 .1 .1 .1 .1 .0 ∙ c .before .before .before .before .before .before .before .before .before .before .before .before .before .before .before .before .before .before .before .before .before .before .before .before .before .before .before .before .before .before .before .before .before .before .before .before .before .before .before .before .before .before .loop .inv .lenW
+
+justify-returns-3 : (t : ℕ) → justify-lts.Need-returns-3 (R-justify t) (justify-at t) justify.Post justify-Inv-loop justify-μ-loop
+justify-returns-3 t c = let a = c .before .before .before .before .before .before .before .before .before .before .before .before .before .before .before .before .before .before .before .before .before .before .before .before .before .before .before .before .before .before .before .before .before .before .before .before .before .before .before .before .before .before .before .before .before .before .before .before .before .before .before .before .before .before .before .before .before .args in let pre = c .before .before .before .before .before .before .before .before .before .before .before .before .before .before .before .before .before .before .before .before .before .before .before .before .before .before .before .before .before .before .before .before .before .before .before .before .before .before .before .before .before .before .before .before .before .before .before .before .before .before .before .before .before .before .before .before .before .pre .1 in task-walk-stops (a .kinds .now) (a .ends .now) (a .pool .now) (a .z) (a .found .now) (a .globals .now) (a .unions .now) (a .p) (c .before .before .before .before .before .before .before .before .before .before .before .before .before .before .before .before .before .before .before .before .before .before .before .before .before .before .before .before .before .before .before .before .before .before .before .before .before .before .before .before .before .before .before .before .before .plan-step .result .rule) (c .before .before .before .before .before .before .before .before .before .before .before .before .before .before .before .before .before .before .before .before .before .before .before .before .before .before .before .before .before .before .before .before .before .before .before .before .before .before .before .before .before .before .before .before .before .plan-step .result .r) (c .before .before .before .before .before .before .before .before .before .before .before .before .before .before .before .before .before .before .before .before .before .before .before .before .before .before .before .before .before .before .before .before .before .before .before .before .before .before .before .before .before .before .before .before .before .plan-step .result .first) (c .before .before .before .before .before .before .before .before .before .before .before .before .before .before .before .before .before .before .before .before .before .before .before .before .before .before .before .before .before .before .before .before .before .before .before .before .before .before .before .before .before .before .before .before .before .plan-step .result .second) (c .before .before .before .before .before .before .before .before .before .before .before .before .before .before .before .before .before .before .before .before .before .before .before .before .before .before .before .before .before .before .before .before .before .before .before .before .before .before .before .before .before .before .before .before .before .plan-step .result .count) (c .before .before .before .before .before .before .before .before .before .before .before .before .before .before .before .before .before .before .before .before .before .before .before .before .before .before .before .before .before .before .before .before .before .before .before .before .before .before .before .before .before .before .before .before .before .plan-step .ensures .goes (c .before .before .before .before .before .before .before .before .before .before .before .before .before .before .before .before .before .before .before .before .before .before .before .before .before .before .before .before .before .before .before .before .before .before .before .before .before .before .before .before .before .before .before .if1 .left)) (c .before .before .before .before .before .before .before .before .before .before .before .before .before .before .before .before .before .before .before .before .before .before .before .before .before .before .before .before .before .before .before .before .before .before .before .before .before .before .before .before .before .before .loop .inv) (c .before .before .before .before .before .before .before .before .before .before .before .before .before .before .before .before .before .before .before .before .before .before .before .before .before .before .before .before .before .before .before .before .before .before .before .before .before .before .before .before .before .loop-test .taken) (c .before .before .before .before .before .before .before .before .before .before .before .before .before .before .before .before .before .before .before .before .before .before .before .before .before .before .before .before .before .before .before .before .before .advance .result) (part-of (c .before .before .before .before .before .before .before .before .before .before .before .before .before .before .before .before .before .before .before .before .before .before .before .before .before .before .before .before .before .before .before .before .before .before .before .before .before .before .before .before .before .before .loop .bound) (c .before .before .before .before .before .before .before .before .before .before .before .before .before .before .before .before .before .before .before .before .before .before .before .before .before .before .before .before .before .before .before .before .before .before .before .before .before .before .before .before .before .before .loop .at) (c .before .before .before .before .before .before .before .before .before .before .before .before .before .before .before .before .before .before .before .before .before .before .before .before .before .before .before .before .before .before .before .before .before .before .before .before .before .before .before .before .before .before .loop .inv .full)) (c .before .before .before .before .before .before .before .before .before .before .before .before .before .before .before .before .before .before .before .before .before .before .before .before .before .before .before .before .before .before .before .before .before .advance .ensures) (c .before .before .before .before .before .before .before .before .before .before .before .before .before .before .before .before .before .before .before .before .if2 .left) (c .before .before .before .before .before .before .before .before .before .before .before .before .before .before .before .before .before .before .before .if3 .left) (λ room ps x h. fuel-for (pre .0 .ready) (contextOf (a .globals .now) ps) room x (a .p) h) (c .before .before .before .before .before .before .before .before .before .before .before .before .before .before .before .before .before .before .reference .ensures) (c .before .before .before .before .before .before .before .before .before .before .before .before .walk .ensures) (c .if4 .taken)
+
+justify-loop-less-2 : (t : ℕ) → justify-lts.Need-loop-less-2 (R-justify t) (justify-at t) justify.Post justify-Inv-loop justify-μ-loop
+justify-loop-less-2 t c = let a = c .before .before .before .before .before .before .before .before .before .before .before .before .before .before .before .before .before .before .before .before .before .before .before .before .before .before .before .before .before .before .before .before .before .before .before .before .before .before .before .before .before .before .before .before .before .before .before .before .before .before .before .before .before .before .before .before .before .before .args in let x = c .before .before .before .before .before .before .before .before .before .before .before .before .before .before .before .before .before .before .before .before .before .before .before .before .before .before .before .before .before .before .before .before .before .before .before .before .before .before .before .before .before .before .loop-test .taken in let b = task-fresh (a .kinds .now) (a .ends .now) (a .pool .now) (a .z) (a .found .now) (a .globals .now) (a .unions .now) (a .p) (c .before .before .before .before .before .before .before .before .before .before .before .before .before .before .before .before .before .before .before .before .before .before .before .before .before .before .before .before .before .before .before .before .before .before .before .before .before .before .before .before .before .before .before .before .before .before .plan-step .result .rule) (c .before .before .before .before .before .before .before .before .before .before .before .before .before .before .before .before .before .before .before .before .before .before .before .before .before .before .before .before .before .before .before .before .before .before .before .before .before .before .before .before .before .before .before .before .before .before .plan-step .result .r) (c .before .before .before .before .before .before .before .before .before .before .before .before .before .before .before .before .before .before .before .before .before .before .before .before .before .before .before .before .before .before .before .before .before .before .before .before .before .before .before .before .before .before .before .before .before .before .plan-step .result .first) (c .before .before .before .before .before .before .before .before .before .before .before .before .before .before .before .before .before .before .before .before .before .before .before .before .before .before .before .before .before .before .before .before .before .before .before .before .before .before .before .before .before .before .before .before .before .before .plan-step .result .second) (c .before .before .before .before .before .before .before .before .before .before .before .before .before .before .before .before .before .before .before .before .before .before .before .before .before .before .before .before .before .before .before .before .before .before .before .before .before .before .before .before .before .before .before .before .before .before .plan-step .result .count) (c .before .before .before .before .before .before .before .before .before .before .before .before .before .before .before .before .before .before .before .before .before .before .before .before .before .before .before .before .before .before .before .before .before .before .before .before .before .before .before .before .before .before .before .before .before .before .plan-step .ensures .goes (c .before .before .before .before .before .before .before .before .before .before .before .before .before .before .before .before .before .before .before .before .before .before .before .before .before .before .before .before .before .before .before .before .before .before .before .before .before .before .before .before .before .before .before .before .if1 .left)) (c .before .before .before .before .before .before .before .before .before .before .before .before .before .before .before .before .before .before .before .before .before .before .before .before .before .before .before .before .before .before .before .before .before .before .before .before .before .before .before .before .before .before .before .loop .inv) (c .before .before .before .before .before .before .before .before .before .before .before .before .before .before .before .before .before .before .before .before .before .before .before .before .before .before .before .before .before .before .before .before .before .before .before .before .before .before .before .before .before .before .loop-test .taken) (c .before .before .before .before .before .before .before .before .before .before .before .before .before .before .before .before .before .before .before .before .before .before .before .before .before .before .before .before .before .before .before .before .before .before .advance .result) (part-of (c .before .before .before .before .before .before .before .before .before .before .before .before .before .before .before .before .before .before .before .before .before .before .before .before .before .before .before .before .before .before .before .before .before .before .before .before .before .before .before .before .before .before .before .loop .bound) (c .before .before .before .before .before .before .before .before .before .before .before .before .before .before .before .before .before .before .before .before .before .before .before .before .before .before .before .before .before .before .before .before .before .before .before .before .before .before .before .before .before .before .before .loop .at) (c .before .before .before .before .before .before .before .before .before .before .before .before .before .before .before .before .before .before .before .before .before .before .before .before .before .before .before .before .before .before .before .before .before .before .before .before .before .before .before .before .before .before .before .loop .inv .full)) (c .before .before .before .before .before .before .before .before .before .before .before .before .before .before .before .before .before .before .before .before .before .before .before .before .before .before .before .before .before .before .before .before .before .before .advance .ensures) (c .before .before .before .before .before .before .before .before .before .before .before .before .before .before .before .before .before .before .before .before .before .if2 .left) (c .before .before .before .before .before .before .before .before .before .before .before .before .before .before .before .before .before .before .before .before .if3 .left) in omega arith
+
+justify-loop-again-2 : (t : ℕ) → justify-lts.Need-loop-again-2 (R-justify t) (justify-at t) justify.Post justify-Inv-loop justify-μ-loop
+justify-loop-again-2 t c = let a = c .before .before .before .before .before .before .before .before .before .before .before .before .before .before .before .before .before .before .before .before .before .before .before .before .before .before .before .before .before .before .before .before .before .before .before .before .before .before .before .before .before .before .before .before .before .before .before .before .before .before .before .before .before .before .before .before .before .before .args in let pre = c .before .before .before .before .before .before .before .before .before .before .before .before .before .before .before .before .before .before .before .before .before .before .before .before .before .before .before .before .before .before .before .before .before .before .before .before .before .before .before .before .before .before .before .before .before .before .before .before .before .before .before .before .before .before .before .before .before .before .pre .1 in task-walks (a .kinds .now) (a .ends .now) (a .pool .now) (a .z) (a .found .now) (a .globals .now) (a .unions .now) (a .p) (c .before .before .before .before .before .before .before .before .before .before .before .before .before .before .before .before .before .before .before .before .before .before .before .before .before .before .before .before .before .before .before .before .before .before .before .before .before .before .before .before .before .before .before .before .before .before .plan-step .result .rule) (c .before .before .before .before .before .before .before .before .before .before .before .before .before .before .before .before .before .before .before .before .before .before .before .before .before .before .before .before .before .before .before .before .before .before .before .before .before .before .before .before .before .before .before .before .before .before .plan-step .result .r) (c .before .before .before .before .before .before .before .before .before .before .before .before .before .before .before .before .before .before .before .before .before .before .before .before .before .before .before .before .before .before .before .before .before .before .before .before .before .before .before .before .before .before .before .before .before .before .plan-step .result .first) (c .before .before .before .before .before .before .before .before .before .before .before .before .before .before .before .before .before .before .before .before .before .before .before .before .before .before .before .before .before .before .before .before .before .before .before .before .before .before .before .before .before .before .before .before .before .before .plan-step .result .second) (c .before .before .before .before .before .before .before .before .before .before .before .before .before .before .before .before .before .before .before .before .before .before .before .before .before .before .before .before .before .before .before .before .before .before .before .before .before .before .before .before .before .before .before .before .before .before .plan-step .result .count) (c .before .before .before .before .before .before .before .before .before .before .before .before .before .before .before .before .before .before .before .before .before .before .before .before .before .before .before .before .before .before .before .before .before .before .before .before .before .before .before .before .before .before .before .before .before .before .plan-step .ensures .goes (c .before .before .before .before .before .before .before .before .before .before .before .before .before .before .before .before .before .before .before .before .before .before .before .before .before .before .before .before .before .before .before .before .before .before .before .before .before .before .before .before .before .before .before .before .if1 .left)) (c .before .before .before .before .before .before .before .before .before .before .before .before .before .before .before .before .before .before .before .before .before .before .before .before .before .before .before .before .before .before .before .before .before .before .before .before .before .before .before .before .before .before .before .loop .inv) (c .before .before .before .before .before .before .before .before .before .before .before .before .before .before .before .before .before .before .before .before .before .before .before .before .before .before .before .before .before .before .before .before .before .before .before .before .before .before .before .before .before .before .loop-test .taken) (c .before .before .before .before .before .before .before .before .before .before .before .before .before .before .before .before .before .before .before .before .before .before .before .before .before .before .before .before .before .before .before .before .before .before .advance .result) (part-of (c .before .before .before .before .before .before .before .before .before .before .before .before .before .before .before .before .before .before .before .before .before .before .before .before .before .before .before .before .before .before .before .before .before .before .before .before .before .before .before .before .before .before .before .loop .bound) (c .before .before .before .before .before .before .before .before .before .before .before .before .before .before .before .before .before .before .before .before .before .before .before .before .before .before .before .before .before .before .before .before .before .before .before .before .before .before .before .before .before .before .before .loop .at) (c .before .before .before .before .before .before .before .before .before .before .before .before .before .before .before .before .before .before .before .before .before .before .before .before .before .before .before .before .before .before .before .before .before .before .before .before .before .before .before .before .before .before .before .loop .inv .full)) (c .before .before .before .before .before .before .before .before .before .before .before .before .before .before .before .before .before .before .before .before .before .before .before .before .before .before .before .before .before .before .before .before .before .before .advance .ensures) (c .before .before .before .before .before .before .before .before .before .before .before .before .before .before .before .before .before .before .before .before .before .if2 .left) (c .before .before .before .before .before .before .before .before .before .before .before .before .before .before .before .before .before .before .before .before .if3 .left) (λ room ps x h. fuel-for (pre .0 .ready) (contextOf (a .globals .now) ps) room x (a .p) h) (c .before .before .before .before .before .before .before .before .before .before .before .before .before .before .before .before .before .before .before .reference .ensures) (c .before .before .before .before .before .before .before .before .before .before .before .before .before .walk .ensures) (c .before .if4 .left) (c .before .before .before .before .before .before .before .before .before .before .before .before .before .walk .kept .1 .1 .1 .1 .1 .1 .1 .1 .1 .1 .1 .0 ∙ c .before .before .before .before .before .before .before .before .before .before .before .before .before .before .before .before .before .before .before .before .before .before .before .before .before .before .before .before .before .before .before .before .before .before .advance .kept .1 .1 .1 .1 .1 .1 .1 .1 .1 .1 .1 .1 .0) (c .before .before .before .before .before .before .before .before .before .before .before .before .before .walk .kept .1 .1 .1 .1 .1 .1 .1 .1 .1 .1 .1 .1 .0 ∙ c .before .before .before .before .before .before .before .before .before .before .before .before .before .before .before .before .before .before .before .before .before .before .before .before .before .before .before .before .before .before .before .before .before .before .advance .kept .1 .1 .1 .1 .1 .1 .1 .1 .1 .1 .1 .1 .1 .0) (grown-then (grown-then (c .before .before .before .before .before .before .before .before .before .before .before .before .before .before .before .before .before .before .before .before .before .before .before .before .before .before .before .before .before .before .before .before .before .before .before .before .before .before .before .before .before .before .before .loop .inv .grown) (c .before .before .before .before .before .before .before .before .before .before .before .before .before .before .before .before .before .before .before .before .before .before .before .before .before .before .before .before .before .before .before .before .before .before .advance .ensures .walks .grown)) (c .before .before .before .before .before .before .before .before .before .before .before .before .before .walk .ensures .grown))
+
+justify-pass-requires : (t : ℕ) → justify-lts.Need-pass-requires (R-justify t) (justify-at t) justify.Post justify-Inv-loop justify-μ-loop
+justify-pass-requires t c κs = search needs
+
+justify-same-length-11 : (t : ℕ) → justify-lts.Need-same-length-11 (R-justify t) (justify-at t) justify.Post justify-Inv-loop justify-μ-loop
+justify-same-length-11 t c = c .before .before .loop .inv .grown .lenK
+
+justify-same-length-12 : (t : ℕ) → justify-lts.Need-same-length-12 (R-justify t) (justify-at t) justify.Post justify-Inv-loop justify-μ-loop
+justify-same-length-12 t c = c .before .before .loop .inv .grown .lenE
+
+justify-same-length-13 : (t : ℕ) → justify-lts.Need-same-length-13 (R-justify t) (justify-at t) justify.Post justify-Inv-loop justify-μ-loop
+justify-same-length-13 t c = c .before .before .loop .inv .grown .lenP
+
+justify-same-length-14 : (t : ℕ) → justify-lts.Need-same-length-14 (R-justify t) (justify-at t) justify.Post justify-Inv-loop justify-μ-loop
+justify-same-length-14 t c = c .before .before .loop .inv .lenMemo
+
+justify-same-length-15 : (t : ℕ) → justify-lts.Need-same-length-15 (R-justify t) (justify-at t) justify.Post justify-Inv-loop justify-μ-loop
+justify-same-length-15 t c = c .before .before .loop .inv .lenW
+
+justify-returns-4 : (t : ℕ) → justify-lts.Need-returns-4 (R-justify t) (justify-at t) justify.Post justify-Inv-loop justify-μ-loop
+justify-returns-4 t c = let a = c .before .before .before .before .before .before .before .before .before .before .before .before .before .before .before .before .before .args in let pre = c .before .before .before .before .before .before .before .before .before .before .before .before .before .before .before .before .before .pre .1 in passed-as (c .pass .ensures) (c .before .before .loop .inv .ended (let u = c .before .before .loop .inv .upto in let x = c .before .loop-test .left in omega arith))
+
+walk-add-at : (t : ℕ) → walk-lts.Need-add-at (R-walk t) (walk-at t) walk.Post
+walk-add-at t c = let k = c .before .before .before .before .before .before .before .before .before .before .before .pre .1 .0 .stored .formed .few in omega arith
+
+walk-wide-requires : (t : ℕ) → walk-lts.Need-wide-requires (R-walk t) (walk-at t) walk.Post
+walk-wide-requires t c κs = search needs
+
+walk-add-at-2 : (t : ℕ) → walk-lts.Need-add-at-2 (R-walk t) (walk-at t) walk.Post
+walk-add-at-2 t c = let k = c .before .before .before .before .before .before .before .before .before .before .before .before .pre .1 .0 .stored .formed .few in let w = c .wide .ensures in let h = c .before .before .before .before .before .before .before .before .before .before .before .before .pre .1 .1 in let j = c .before .before .before .before .before .before .before .before .before .before .before .before .pre .1 .0 .ready .held .limits .proofs in omega arith
+
+walk-is-checked-requires : (t : ℕ) → walk-lts.Need-is-checked-requires (R-walk t) (walk-at t) walk.Post
+walk-is-checked-requires t c κs = let w = c .before .wide .ensures in let g = c .before .before .before .before .before .before .before .before .before .before .before .before .before .pre .1 .0 .long in let h = c .before .before .before .before .before .before .before .before .before .before .before .before .before .pre .1 .1 in omega arith
+
+walk-pass-requires : (t : ℕ) → walk-lts.Need-pass-requires (R-walk t) (walk-at t) walk.Post
+walk-pass-requires t c κs = search needs
+
+walk-same-length : (t : ℕ) → walk-lts.Need-same-length (R-walk t) (walk-at t) walk.Post
+walk-same-length t c = search needs
+
+walk-returns : (t : ℕ) → walk-lts.Need-returns (R-walk t) (walk-at t) walk.Post
+walk-returns t c = let a = c .before .before .before .before .before .before .before .before .before .before .before .before .before .before .before .before .args in let pre = c .before .before .before .before .before .before .before .before .before .before .before .before .before .before .before .before .pre .1 in walk-known (a .kinds .now) (a .ends .now) (a .pool .now) (a .z) (a .found .now) (a .globals .now) (a .unions .now) (a .p) (pre .0) (pre .1) (flag-at (a .scratch .now) (length (a .skinds .now)) (c .before .before .before .before .wide .ensures) (c .before .before .is-checked .ensures) (c .before .if1 .taken)) (c .pass .ensures)
+
+walk-justify-requires : (t : ℕ) → walk-lts.Need-justify-requires (R-walk t) (walk-at t) walk.Post
+walk-justify-requires t c κs = let a = c .before .before .before .before .before .before .before .before .before .before .before .before .before .before .before .before .before .before .before .before .args in let pre = c .before .before .before .before .before .before .before .before .before .before .before .before .before .before .before .before .before .before .before .before .pre .1 in (let m = c .before .before .before .before .before .before .before .before .before .before .before .before .before .before .before .before .before .before .before .before .pre .0 in omega arith, (pre .0, pre .1))
+
+walk-same-length-2 : (t : ℕ) → walk-lts.Need-same-length-2 (R-walk t) (walk-at t) walk.Post
+walk-same-length-2 t c = c .before .before .before .before .before .before .before .before .before .before .before .before .justify .ensures .grown .lenK
+
+walk-same-length-3 : (t : ℕ) → walk-lts.Need-same-length-3 (R-walk t) (walk-at t) walk.Post
+walk-same-length-3 t c = c .before .before .before .before .before .before .before .before .before .before .before .before .justify .ensures .grown .lenE
+
+walk-same-length-4 : (t : ℕ) → walk-lts.Need-same-length-4 (R-walk t) (walk-at t) walk.Post
+walk-same-length-4 t c = c .before .before .before .before .before .before .before .before .before .before .before .before .justify .ensures .grown .lenP
+
+walk-same-length-5 : (t : ℕ) → walk-lts.Need-same-length-5 (R-walk t) (walk-at t) walk.Post
+walk-same-length-5 t c = c .before .before .before .before .before .before .before .before .before .before .before .before .justify .kept .1 .1 .1 .1 .1 .1 .1 .1 .1 .1 .1 .0
+
+walk-same-length-6 : (t : ℕ) → walk-lts.Need-same-length-6 (R-walk t) (walk-at t) walk.Post
+walk-same-length-6 t c = c .before .before .before .before .before .before .before .before .before .before .before .before .justify .kept .1 .1 .1 .1 .1 .1 .1 .1 .1 .1 .1 .1 .0
+
+walk-returns-2 : (t : ℕ) → walk-lts.Need-returns-2 (R-walk t) (walk-at t) walk.Post
+walk-returns-2 t c = let a = c .before .before .before .before .before .before .before .before .before .before .before .before .before .before .before .before .before .before .before .before .before .before .before .before .before .before .before .before .before .before .before .before .before .args in let pre = c .before .before .before .before .before .before .before .before .before .before .before .before .before .before .before .before .before .before .before .before .before .before .before .before .before .before .before .before .before .before .before .before .before .pre .1 in walk-stops (a .kinds .now) (a .ends .now) (a .pool .now) (a .z) (a .found .now) (a .globals .now) (a .unions .now) (a .p) (pre .0) (pre .1) (flag-at (a .scratch .now) (length (a .skinds .now)) (c .before .before .before .before .before .before .before .before .before .before .before .before .before .before .before .before .before .before .before .before .before .wide .ensures) (c .before .before .before .before .before .before .before .before .before .before .before .before .before .before .before .before .before .before .before .is-checked .ensures) (c .before .before .before .before .before .before .before .before .before .before .before .before .before .before .before .before .before .before .if1 .left)) (c .before .before .before .before .before .before .before .before .before .before .before .before .justify .ensures) (c .if2 .taken)
+
+walk-set-checked-requires : (t : ℕ) → walk-lts.Need-set-checked-requires (R-walk t) (walk-at t) walk.Post
+walk-set-checked-requires t c κs = let w = c .before .before .before .before .before .before .before .before .before .before .before .before .before .before .before .before .before .before .before .before .before .before .wide .ensures in let g = c .before .before .before .before .before .before .before .before .before .before .before .before .before .before .before .before .before .before .before .before .before .before .before .before .before .before .before .before .before .before .before .before .before .before .pre .1 .0 .long in let h = c .before .before .before .before .before .before .before .before .before .before .before .before .before .before .before .before .before .before .before .before .before .before .before .before .before .before .before .before .before .before .before .before .before .before .pre .1 .1 in let k = c .before .before .before .before .before .before .before .before .before .before .before .before .before .justify .kept .1 .1 .1 .1 .1 .1 .1 .1 .1 .1 .1 .1 .0 in omega arith
+
+walk-pass-requires-2 : (t : ℕ) → walk-lts.Need-pass-requires-2 (R-walk t) (walk-at t) walk.Post
+walk-pass-requires-2 t c κs = search needs
+
+walk-same-length-7 : (t : ℕ) → walk-lts.Need-same-length-7 (R-walk t) (walk-at t) walk.Post
+walk-same-length-7 t c = c .before .before .before .before .before .before .before .before .before .before .before .before .before .before .before .before .before .justify .ensures .grown .lenK
+
+walk-same-length-8 : (t : ℕ) → walk-lts.Need-same-length-8 (R-walk t) (walk-at t) walk.Post
+walk-same-length-8 t c = c .before .before .before .before .before .before .before .before .before .before .before .before .before .before .before .before .before .justify .ensures .grown .lenE
+
+walk-same-length-9 : (t : ℕ) → walk-lts.Need-same-length-9 (R-walk t) (walk-at t) walk.Post
+walk-same-length-9 t c = c .before .before .before .before .before .before .before .before .before .before .before .before .before .before .before .before .before .justify .ensures .grown .lenP
+
+walk-same-length-10 : (t : ℕ) → walk-lts.Need-same-length-10 (R-walk t) (walk-at t) walk.Post
+walk-same-length-10 t c = c .before .before .before .before .before .before .before .before .before .before .before .before .before .before .before .before .before .justify .kept .1 .1 .1 .1 .1 .1 .1 .1 .1 .1 .1 .0
+
+walk-same-length-11 : (t : ℕ) → walk-lts.Need-same-length-11 (R-walk t) (walk-at t) walk.Post
+walk-same-length-11 t c = c .before .before .before .set-checked .kept .0 ∙ c .before .before .before .before .before .before .before .before .before .before .before .before .before .before .before .before .before .justify .kept .1 .1 .1 .1 .1 .1 .1 .1 .1 .1 .1 .1 .0
+
+walk-returns-3 : (t : ℕ) → walk-lts.Need-returns-3 (R-walk t) (walk-at t) walk.Post
+walk-returns-3 t c = let a = c .before .before .before .before .before .before .before .before .before .before .before .before .before .before .before .before .before .before .before .before .before .before .before .before .before .before .before .before .before .before .before .before .before .before .before .before .before .before .args in let pre = c .before .before .before .before .before .before .before .before .before .before .before .before .before .before .before .before .before .before .before .before .before .before .before .before .before .before .before .before .before .before .before .before .before .before .before .before .before .before .pre .1 in walk-ends (a .kinds .now) (a .ends .now) (a .pool .now) (a .z) (a .found .now) (a .globals .now) (a .unions .now) (a .p) (pre .0) (pre .1) (flag-at (a .scratch .now) (length (a .skinds .now)) (c .before .before .before .before .before .before .before .before .before .before .before .before .before .before .before .before .before .before .before .before .before .before .before .before .before .before .wide .ensures) (c .before .before .before .before .before .before .before .before .before .before .before .before .before .before .before .before .before .before .before .before .before .before .before .before .is-checked .ensures) (c .before .before .before .before .before .before .before .before .before .before .before .before .before .before .before .before .before .before .before .before .before .before .before .if1 .left)) (c .before .before .before .before .before .before .before .before .before .before .before .before .before .before .before .before .before .justify .ensures) (c .before .before .before .before .before .if2 .left) (set-at (c .before .before .before .before .before .before .before .before .before .before .before .before .before .before .before .before .before .justify .last .1 .1 .1 .1 .1 .1 .1 .1 .1 .1 .1 .1 .0) (length (a .skinds .now)) (c .before .before .before .set-checked .ensures) (c .before .before .before .before .before .before .before .before .before .before .before .before .before .before .before .before .before .before .before .before .before .before .before .before .before .before .wide .ensures)) (c .pass2 .ensures)
+
+pub +justify+walk-spec : {M : Type 1} → statement M
++justify+walk-spec = close μ-justify μ-walk (λ t. justify-lts.spec (R-justify t)
+    (justify-at t)
+    justify.Post
+    justify-Inv-loop
+    justify-μ-loop
+    (justify-plan-step-requires t)
+    (justify-returns t)
+    (justify-loop-holds t)
+    (justify-mul-advance t)
+    (justify-sub-advance t)
+    (justify-part-advance-start t)
+    (justify-part-advance-end t)
+    (justify-advance-requires t)
+    (justify-same-length t)
+    (justify-same-length-2 t)
+    (justify-same-length-3 t)
+    (justify-same-length-4 t)
+    (justify-same-length-5 t)
+    (justify-returns-2 t)
+    (justify-slice-aggregate-push-binding t)
+    (justify-effect-of-requires t)
+    (justify-push-binding-requires t)
+    (justify-add-i t)
+    (justify-loop-less t)
+    (justify-loop-again t)
+    (justify-reference-requires t)
+    (justify-walk-requires t)
+    (justify-same-length-6 t)
+    (justify-same-length-7 t)
+    (justify-same-length-8 t)
+    (justify-same-length-9 t)
+    (justify-same-length-10 t)
+    (justify-returns-3 t)
+    (justify-loop-less-2 t)
+    (justify-loop-again-2 t)
+    (justify-pass-requires t)
+    (justify-same-length-11 t)
+    (justify-same-length-12 t)
+    (justify-same-length-13 t)
+    (justify-same-length-14 t)
+    (justify-same-length-15 t)
+    (justify-returns-4 t))
+    λ t. walk-lts.spec (
+      wide-reads.Asked,
+      wide-reads.Learnt,
+      is-checked-reads.Asked,
+      is-checked-reads.Learnt,
+      pass-reads.Asked,
+      pass-reads.Learnt,
+      justify-below t,
+      justify.Post,
+      set-checked-reads.Asked,
+      set-checked-reads.Learnt,
+    )
+    (walk-at t)
+    walk.Post
+    (walk-add-at t)
+    (walk-wide-requires t)
+    (walk-add-at-2 t)
+    (walk-is-checked-requires t)
+    (walk-pass-requires t)
+    (walk-same-length t)
+    (walk-returns t)
+    (walk-justify-requires t)
+    (walk-same-length-2 t)
+    (walk-same-length-3 t)
+    (walk-same-length-4 t)
+    (walk-same-length-5 t)
+    (walk-same-length-6 t)
+    (walk-returns-2 t)
+    (walk-set-checked-requires t)
+    (walk-pass-requires-2 t)
+    (walk-same-length-7 t)
+    (walk-same-length-8 t)
+    (walk-same-length-9 t)
+    (walk-same-length-10 t)
+    (walk-same-length-11 t)
+    (walk-returns-3 t)

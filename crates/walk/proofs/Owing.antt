@@ -1,0 +1,376 @@
+-- What a step still owes, turn by turn.
+use mathlib.Core.Path.{_≡_, refl, sym, ap, subst, subst⁻¹, _∙_}
+use mathlib.Core.Bool.{Bool, true, false, true≢false}
+use mathlib.Core.List.{List, [], _∷_, nil≢cons, head-eq-of-cons-eq}
+use mathlib.Core.Option.{Option}
+use Prim.Native.Nat.{ℕ, zero, suc, _+_, _-_, _<_, _≤_}
+use native.Mathlib.Numerals.{add-one}
+use native.Mathlib.Omega.{arith}
+use native.Mathlib.Decide.{decLt}
+use lib.ListN.{length, getD, take, drop, drop-of-length-le}
+use lib.Seq.{drop-cons}
+use Rattle.model.specs.Term.{Term}
+use Rattle.model.specs.Program.{Proposition, Binding, Program, Rule, Proof, Justification}
+use Rattle.model.specs.Check.{Outcome, ok, refused, Check, andThen, _>>=_, pure, choose, Room}
+use Rattle.model.specs.Walk.{noProof, claimAt, checkJustification, checkProofWithContext}
+use Rattle.cells.specs.declared.Fill.{Fill}
+use Rattle.termdag.specs.Store.{termsIn, roomOf}
+use Rattle.outcome.specs.Does.{passed, Grown}
+use Rattle.outcome.specs.declared.Refusal.{Refusal}
+use Rattle.outcome.proofs.Laws.{does-here, grown-same}
+use Rattle.load.specs.declared.sizes.Sizes.{Sizes}
+use Rattle.program.specs.Ready.{programFor}
+use Rattle.program.specs.Read.{proofsFor, pairsFor}
+use Rattle.evaluate.specs.Evaluation.{Sane}
+use Rattle.actions.specs.Acting.{effectBindings, Pushed}
+use Rattle.actions.specs.declared.Effect.{Effect}
+use Rattle.facts.specs.Bound.{boundOver}
+use Rattle.facts.specs.declared.Binds.{Binds}
+use Rattle.heads.proofs.Heading.{pushed-bindings, sane-fewer}
+use Rattle.cells.proofs.Laws.{to-end}
+use Rattle.outcome.specs.declared.Checked.{Checked}
+use Rattle.program.proofs.Proving.{substitution-read}
+use Rattle.walk.specs.declared.Plan.{Plan}
+use Rattle.walk.specs.declared.Stage.{Stage}
+use Rattle.walk.proofs.Tying.{sane-substitution}
+use Rattle.walk.specs.Walking.{Ground, Walks, contextOf}
+use Rattle.walk.specs.Turning.{Turn, proofOf, noTurn, isSettled, beforeProof, afterProof, walkProof, takeTurns, endStep, finishStep, stageOf, isOver, turnsBy, headBy, bindingsBy, Planned, Plans, Advances}
+use Rattle.walk.proofs.Walking.{walks-here, walks-then, walks-stop, walks-as, walks-passed}
+use Rattle.walk.proofs.Binding.{bind-assoc, bind-same}
+
+-- what is owed before a turn, and after its proof; and after a stage
+module _ (room : Room) (prog : Program) (proofs : List Proof) (name : ℕ) (sub : ℕ → List ℕ → Check (List ℕ)) (ps : List Proposition) (p : ℕ) (q : Proposition) (j : Justification) (h : Option Rule) where
+  abbrev pub finish : List Binding × List ℕ → Check (List ℕ)
+  finish b = finishStep room prog proofs ps p q j h b
+
+  abbrev pub restOf : List Turn → ℕ → List Binding × List ℕ → Check (List ℕ)
+  restOf ts zero b = takeTurns room prog proofs name sub ts b >>= finish
+  restOf [] (suc v) b = finish b
+  restOf (t ∷ ts) (suc v) b = afterProof room prog proofs name t (b .0) >>= λ _. takeTurns room prog proofs name sub ts b >>= finish
+
+  abbrev pub stagePart : List Turn → ℕ → List Binding × List ℕ → Check (List Binding × List ℕ)
+  stagePart ts v b = stageOf room prog proofs name ps p q j h ts v (b .0) >>= λ τ. pure (τ, b .1)
+
+  abbrev pub nextOf : List Turn → ℕ → List Binding × List ℕ → Check (List ℕ)
+  nextOf [] v b = pure (b .1)
+  nextOf (t ∷ ts) zero b = walkProof room prog proofs name sub t (b .0) (b .1) >>= λ d. takeTurns room prog proofs name sub ts d >>= finish
+  nextOf (t ∷ ts) (suc v) b = takeTurns room prog proofs name sub ts b >>= finish
+
+  abbrev paired : List ℕ → List Binding → Check (List Binding × List ℕ)
+  paired d τ = pure (τ, d)
+
+  ends : (o : Outcome (Unit {0})) (σ : List Binding) (d : List ℕ) → andThen o (λ _. pure d) ≡ andThen (andThen (andThen o (λ _. pure σ)) (paired d)) (λ b. pure (b .1))
+  ends (ok u s) σ d = refl
+  ends (refused r s) σ d = refl
+
+  before : (o : Outcome (List Binding)) (d : List ℕ) (w : List Binding → List ℕ → Check (List Binding × List ℕ)) (ts : List Turn)
+      → andThen (andThen (andThen o (λ τ. w τ d)) (takeTurns room prog proofs name sub ts)) finish
+      ≡ andThen (andThen o (paired d)) (λ b. w (b .0) (b .1) >>= λ x. takeTurns room prog proofs name sub ts x >>= finish)
+  before (ok τ s) d w ts = bind-assoc (w τ d s) (takeTurns room prog proofs name sub ts) finish
+  before (refused r s) d w ts = refl
+
+  after : (o : Outcome (Unit {0})) (σ : List Binding) (d : List ℕ) (ts : List Turn) → andThen o (λ _. takeTurns room prog proofs name sub ts (σ, d) >>= finish)
+      ≡ andThen (andThen (andThen o (λ _. pure σ)) (paired d)) (λ b. takeTurns room prog proofs name sub ts b >>= finish)
+  after (ok u s) σ d ts = refl
+  after (refused r s) σ d ts = refl
+
+  -- a stage, then what is owed after it
+  pub rest-next : (ts : List Turn) (v : ℕ) (b : List Binding × List ℕ) (s : List Term) → restOf ts v b s ≡ andThen (stagePart ts v b s) (nextOf ts v)
+  unfolding takeTurns
+  rest-next [] zero (σ, d) s = ends (endStep room prog proofs ps p q j h σ s) σ d
+  rest-next [] (suc v) (σ, d) s = ends (endStep room prog proofs ps p q j h σ s) σ d
+  rest-next (t ∷ ts) zero (σ, d) s = before (beforeProof room prog proofs name t σ s) d (walkProof room prog proofs name sub t) ts
+  rest-next (t ∷ ts) (suc v) (σ, d) s = after (afterProof room prog proofs name t σ s) σ d ts
+
+  -- a turn that is settled
+  pub next-settled : (t : Turn) (ts : List Turn) (b : List Binding × List ℕ) (s : List Term) → isSettled prog t ≡ true → nextOf (t ∷ ts) zero b s ≡ restOf ts zero b s
+  next-settled t ts (σ, d) s e =
+      ap (λ (c : Bool). andThen (choose c (pure (σ, d)) (sub (proofOf t) d >>= λ x. afterProof room prog proofs name t σ >>= λ _. pure (σ, x)) s) (λ y. takeTurns room prog proofs name sub ts y >>= finish)) e
+
+  -- and one whose proof is walked
+  abbrev pub walkPart : Turn → List Binding × List ℕ → Check (List Binding × List ℕ)
+  walkPart t b = sub (proofOf t) (b .1) >>= λ d. pure (b .0, d)
+
+  matched : (o : Outcome (Unit {0})) (σ : List Binding) (d : List ℕ) (ts : List Turn) → andThen (andThen o (λ _. pure (σ, d))) (λ y. takeTurns room prog proofs name sub ts y >>= finish)
+      ≡ andThen o (λ _. takeTurns room prog proofs name sub ts (σ, d) >>= finish)
+  matched (ok u s) σ d ts = refl
+  matched (refused r s) σ d ts = refl
+
+  walked : (o : Outcome (List ℕ)) (t : Turn) (ts : List Turn) (σ : List Binding)
+      → andThen (andThen o (λ x. afterProof room prog proofs name t σ >>= λ _. pure (σ, x))) (λ y. takeTurns room prog proofs name sub ts y >>= finish)
+      ≡ andThen (andThen o (λ d. pure (σ, d))) (restOf (t ∷ ts) 1)
+  walked (ok d s) t ts σ = matched (afterProof room prog proofs name t σ s) σ d ts
+  walked (refused r s) t ts σ = refl
+
+  pub next-walk : (t : Turn) (ts : List Turn) (b : List Binding × List ℕ) (s : List Term) → isSettled prog t ≡ false → nextOf (t ∷ ts) zero b s ≡ andThen (walkPart t b s) (restOf (t ∷ ts) 1)
+  next-walk t ts (σ, d) s e =
+      ap (λ (c : Bool). andThen (choose c (pure (σ, d)) (sub (proofOf t) d >>= λ x. afterProof room prog proofs name t σ >>= λ _. pure (σ, x)) s) (λ y. takeTurns room prog proofs name sub ts y >>= finish)) e
+      ∙ walked (sub (proofOf t) d s) t ts σ
+
+-- the step of proof p, of which a part is done
+module _ (K E P : List ℕ) (z : Sizes) (F G U : List ℕ) (p : ℕ) where
+  abbrev prog : Program
+  prog = programFor K E P z
+
+  abbrev proofs : List Proof
+  proofs = proofsFor K E P z
+
+  abbrev pub sub : Room → List Proposition → ℕ → List ℕ → Check (List ℕ)
+  sub room ps = checkProofWithContext room prog proofs (contextOf G ps) p
+
+  abbrev pub stepOf : Room → List Proposition → List ℕ → Check (List ℕ)
+  stepOf room ps done = checkJustification room prog proofs (contextOf G ps) (sub room ps) p (claimAt proofs p) (getD proofs p noProof .justification) done
+
+  -- from the store k₀ on the step came to the store k with the bindings σ, and the rest is owed
+  pub record Owes (k₀ e₀ p₀ : List ℕ) (f₀ : Fill) (W₀ k e q : List ℕ) (f : Fill) (memo W : List ℕ) (σ : List Binding) (rest : Room → List Proposition → List Binding × List ℕ → Check (List ℕ)) : Type 0 where
+    pub part : Room → List Proposition → List ℕ → Check (List Binding × List ℕ)
+    pub walks : Walks {A = List Binding × List ℕ} K E P z F G U k₀ e₀ p₀ f₀ W₀ k e q f passed memo W (λ d. (σ, d)) part
+    pub same : (ps : List Proposition) (done : List ℕ) → andThen (part (roomOf k₀ p₀) ps done (termsIn k₀ e₀ p₀ f₀)) (rest (roomOf k₀ p₀) ps) ≡ stepOf (roomOf k₀ p₀) ps done (termsIn k₀ e₀ p₀ f₀)
+
+  module _ {k₀ e₀ p₀ : List ℕ} {f₀ : Fill} {W₀ k e q : List ℕ} {f : Fill} {memo W : List ℕ} {σ : List Binding} {rest : Room → List Proposition → List Binding × List ℕ → Check (List ℕ)}
+      (O : Owes k₀ e₀ p₀ f₀ W₀ k e q f memo W σ rest) where
+    -- the rest in other words
+    pub owes-as : {rest′ : Room → List Proposition → List Binding × List ℕ → Check (List ℕ)} → ((room : Room) (ps : List Proposition) (b : List Binding × List ℕ) (s : List Term) → rest room ps b s ≡ rest′ room ps b s)
+        → Owes k₀ e₀ p₀ f₀ W₀ k e q f memo W σ rest′
+    owes-as h = record { part = O .part; walks = O .walks; same = λ ps done. sym (bind-same (O .part (roomOf k₀ p₀) ps done (termsIn k₀ e₀ p₀ f₀)) (h (roomOf k₀ p₀) ps)) ∙ O .same ps done }
+
+    module _ (c : Room → List Proposition → List Binding × List ℕ → Check (List Binding × List ℕ)) (next : Room → List Proposition → List Binding × List ℕ → Check (List ℕ))
+        (eq : (room : Room) (ps : List Proposition) (b : List Binding × List ℕ) (s : List Term) → rest room ps b s ≡ andThen (c room ps b s) (next room ps))
+        {k₁ e₁ p₁ : List ℕ} {f₁ : Fill} {r : Refusal} {memo₁ W₁ : List ℕ} {τ : List Binding} (v : Walks {A = List Binding × List ℕ} K E P z F G U k e q f W k₁ e₁ p₁ f₁ r memo₁ W₁ (λ d. (τ, d)) (λ room ps done. c room ps (σ, done))) where
+      abbrev longer : Room → List Proposition → List ℕ → Check (List Binding × List ℕ)
+      longer room ps done s = andThen (O .part room ps done s) (c room ps)
+
+      all-same : (ps : List Proposition) (done : List ℕ) → andThen (longer (roomOf k₀ p₀) ps done (termsIn k₀ e₀ p₀ f₀)) (next (roomOf k₀ p₀) ps) ≡ stepOf (roomOf k₀ p₀) ps done (termsIn k₀ e₀ p₀ f₀)
+      all-same ps done =
+          bind-assoc (O .part (roomOf k₀ p₀) ps done (termsIn k₀ e₀ p₀ f₀)) (c (roomOf k₀ p₀) ps) (next (roomOf k₀ p₀) ps)
+          ∙ sym (bind-same (O .part (roomOf k₀ p₀) ps done (termsIn k₀ e₀ p₀ f₀)) (eq (roomOf k₀ p₀) ps)) ∙ O .same ps done
+
+      pub owes-then : r .number ≡ 0 → Owes k₀ e₀ p₀ f₀ W₀ k₁ e₁ p₁ f₁ memo₁ W₁ τ next
+      owes-then n = record { part = longer; walks = walks-passed n (walks-then (O .walks) c refl v); same = all-same }
+
+      pub owes-stop : (r .number ≡ 0 → ⊥) → Walks K E P z F G U k₀ e₀ p₀ f₀ W₀ k₁ e₁ p₁ f₁ r memo₁ W₁ (λ d. d) stepOf
+      owes-stop n = walks-as {o = λ room ps done s. andThen (longer room ps done s) (next room ps)} all-same (walks-stop (walks-then (O .walks) c refl v) (λ d. d) next n)
+
+  -- nothing is owed
+  pub owes-none : {k₀ e₀ p₀ : List ℕ} {f₀ : Fill} {W₀ k e q : List ℕ} {f : Fill} {memo W : List ℕ} {σ : List Binding} → Owes k₀ e₀ p₀ f₀ W₀ k e q f memo W σ (λ room ps b. pure (b .1))
+      → Walks K E P z F G U k₀ e₀ p₀ f₀ W₀ k e q f passed memo W (λ d. d) stepOf
+  owes-none O = walks-as {o = λ room ps done s. andThen (O .part room ps done s) (λ b. pure (b .1))} (O .same)
+      (walks-then (O .walks) (λ room ps b. pure (b .1)) refl (walks-here (O .walks .after refl .ground) (λ ps done y. does-here (O .walks .after refl .ground .stored) refl)))
+
+-- a step at its turn i: v is 1 where its proof was walked
+module _ (K E P : List ℕ) (z : Sizes) (F G U : List ℕ) (p : ℕ) (rule : Bool) (r first second count : ℕ) where
+  abbrev turns : List Turn
+  turns = turnsBy K E P z p rule r first second count
+
+  abbrev bindings : List ℕ → List Binding
+  bindings X = bindingsBy K E P z p rule X G
+
+  abbrev rest : List Turn → ℕ → Room → List Proposition → List Binding × List ℕ → Check (List ℕ)
+  rest ts v room ps = restOf room (prog K E P z F G U p) (proofs K E P z F G U p) first (sub K E P z F G U p room ps) ps p (claimAt (proofs K E P z F G U p) p) (getD (proofs K E P z F G U p) p noProof .justification) (headBy K E P z rule r) ts v
+
+  abbrev next : List Turn → ℕ → Room → List Proposition → List Binding × List ℕ → Check (List ℕ)
+  next ts v room ps = nextOf room (prog K E P z F G U p) (proofs K E P z F G U p) first (sub K E P z F G U p room ps) ps p (claimAt (proofs K E P z F G U p) p) (getD (proofs K E P z F G U p) p noProof .justification) (headBy K E P z rule r) ts v
+
+  abbrev stage : List Turn → ℕ → Room → List Proposition → List Binding × List ℕ → Check (List Binding × List ℕ)
+  stage ts v room ps = stagePart room (prog K E P z F G U p) (proofs K E P z F G U p) first (sub K E P z F G U p room ps) ps p (claimAt (proofs K E P z F G U p) p) (getD (proofs K E P z F G U p) p noProof .justification) (headBy K E P z rule r) ts v
+
+  advance-is : (ts : List Turn) (v : ℕ) (room : Room) (ps : List Proposition) (b : List Binding × List ℕ) (s : List Term) → rest ts v room ps b s ≡ andThen (stage ts v room ps b s) (next ts v room ps)
+  advance-is ts v room ps b s = rest-next room (prog K E P z F G U p) (proofs K E P z F G U p) first (sub K E P z F G U p room ps) ps p (claimAt (proofs K E P z F G U p) p) (getD (proofs K E P z F G U p) p noProof .justification) (headBy K E P z rule r) ts v b s
+
+  settled-is : (t : Turn) (ts : List Turn) → isSettled (programFor K E P z) t ≡ true → (room : Room) (ps : List Proposition) (b : List Binding × List ℕ) (s : List Term) → next (t ∷ ts) 0 room ps b s ≡ rest ts 0 room ps b s
+  settled-is t ts e room ps b s = next-settled room (prog K E P z F G U p) (proofs K E P z F G U p) first (sub K E P z F G U p room ps) ps p (claimAt (proofs K E P z F G U p) p) (getD (proofs K E P z F G U p) p noProof .justification) (headBy K E P z rule r) t ts b s e
+
+  abbrev walks : Turn → Room → List Proposition → List Binding × List ℕ → Check (List Binding × List ℕ)
+  walks t room ps = walkPart room (prog K E P z F G U p) (proofs K E P z F G U p) first (sub K E P z F G U p room ps) ps p (claimAt (proofs K E P z F G U p) p) (getD (proofs K E P z F G U p) p noProof .justification) (headBy K E P z rule r) t
+
+  walk-is : (t : Turn) (ts : List Turn) → isSettled (programFor K E P z) t ≡ false → (room : Room) (ps : List Proposition) (b : List Binding × List ℕ) (s : List Term) → next (t ∷ ts) 0 room ps b s ≡ andThen (walks t room ps b s) (rest (t ∷ ts) 1 room ps)
+  walk-is t ts e room ps b s = next-walk room (prog K E P z F G U p) (proofs K E P z F G U p) first (sub K E P z F G U p room ps) ps p (claimAt (proofs K E P z F G U p) p) (getD (proofs K E P z F G U p) p noProof .justification) (headBy K E P z rule r) t ts b s e
+
+  pub record Task (k₀ e₀ p₀ : List ℕ) (f₀ : Fill) (memo₀ W₀ k e q : List ℕ) (f : Fill) (memo W T : List ℕ) (at i v : ℕ) : Type 0 where
+    pub bit : v ≤ 1
+    pub upto : i ≤ suc count
+    pub full : length T ≡ 34
+    pub low : at ≤ 34
+    pub free : i ≤ count → (count - i) + (count - i) + 2 ≤ at
+    pub lenMemo : length memo ≡ length memo₀
+    pub lenW : length W ≡ length W₀
+    pub grown : Grown k₀ e₀ p₀ f₀ k e q f
+    pub sane : rule ≡ true → i ≤ count → Sane (programFor K E P z) (bindings (drop at T)) (termsIn k e q f)
+    pub owes : i ≤ count → Owes K E P z F G U p k₀ e₀ p₀ f₀ W₀ k e q f memo W (bindings (drop at T)) (rest (drop i turns) v)
+    pub within : v ≡ 1 → i < count
+    pub ended : i ≡ suc count → Walks K E P z F G U k₀ e₀ p₀ f₀ W₀ k e q f passed memo W (λ d. d) (stepOf K E P z F G U p)
+
+  module _ (S : Planned K E P z p rule r first second count) where
+    pub task-start : {k e q : List ℕ} {f : Fill} {memo W T : List ℕ} → Ground K E P z F G k e q f memo W → (rule ≡ true → Sane (programFor K E P z) (bindings []) (termsIn k e q f)) → length T ≡ 34 → Task k e q f memo W k e q f memo W T 34 0 0
+    task-start {k} {e} {q} {f} {memo} {W} {T} g w l = record {
+      bit = omega arith;
+      upto = omega arith;
+      full = l;
+      low = omega arith;
+      free = λ _. let h = S .few in omega arith;
+      lenMemo = refl;
+      lenW = refl;
+      grown = grown-same (g .stored);
+      sane = λ u _. subst⁻¹ (λ (X : List ℕ). Sane (programFor K E P z) (bindings X) (termsIn k e q f)) nothing (w u);
+      owes = λ _. subst⁻¹ (λ (X : List ℕ). Owes K E P z F G U p k e q f W k e q f memo W (bindings X) (rest turns 0)) nothing (record {
+        part = λ room ps done. pure (bindings [], done);
+        walks = walks-here g (λ ps done y. does-here (g .stored) refl);
+        same = λ ps done. S .step (roomOf k q) G ps (sub K E P z F G U p (roomOf k q) ps) done (termsIn k e q f);
+      });
+      within = λ u. absurd (omega arith);
+      ended = λ u. absurd (omega arith);
+    }
+      where
+        nothing : drop 34 T ≡ []
+        nothing = drop-of-length-le T {i = 34} (omega arith)
+
+    module _ {k₀ e₀ p₀ : List ℕ} {f₀ : Fill} {memo₀ W₀ k e q : List ℕ} {f : Fill} {memo W T : List ℕ} {at i v : ℕ} (t : Task k₀ e₀ p₀ f₀ memo₀ W₀ k e q f memo W T at i v) (h : i ≤ count) where
+      pub task-ground : Ground K E P z F G k e q f memo W
+      task-ground = t .owes h .walks .after refl .ground
+
+      module _ {k₁ e₁ p₁ : List ℕ} (c : Stage) {memo₁ W₁ : List ℕ} {X : List ℕ} (x : X ≡ drop at T) (d : Advances K E P z F G U p rule r first second count X k e q f W i v k₁ e₁ p₁ c memo₁ W₁) where
+        abbrev σ : List Binding
+        σ = bindings (drop at T)
+
+        here : Advances K E P z F G U p rule r first second count (drop at T) k e q f W i v k₁ e₁ p₁ c memo₁ W₁
+        here = subst (λ (Y : List ℕ). Advances K E P z F G U p rule r first second count Y k e q f W i v k₁ e₁ p₁ c memo₁ W₁) x d
+
+        pub task-refused : (c .refusal .number ≡ 0 → ⊥) → Walks K E P z F G U k₀ e₀ p₀ f₀ W₀ k₁ e₁ p₁ (c .fill) (c .refusal) memo₁ W₁ (λ y. y) (stepOf K E P z F G U p)
+        task-refused n = owes-stop K E P z F G U p (t .owes h) (stage (drop i turns) v) (next (drop i turns) v)
+            (advance-is (drop i turns) v) (here .walks) n
+
+        advanced : c .refusal .number ≡ 0 → Owes K E P z F G U p k₀ e₀ p₀ f₀ W₀ k₁ e₁ p₁ (c .fill) memo₁ W₁ (boundOver (c .binds) σ) (next (drop i turns) v)
+        advanced n = owes-then K E P z F G U p (t .owes h) (stage (drop i turns) v) (next (drop i turns) v)
+            (advance-is (drop i turns) v) (here .walks) n
+
+        -- no proof is walked: the next turn, or the end
+        after-over : c .refusal .number ≡ 0 → c .settled ≡ true → i < count → Owes K E P z F G U p k₀ e₀ p₀ f₀ W₀ k₁ e₁ p₁ (c .fill) memo₁ W₁ (boundOver (c .binds) σ) (rest (drop (suc i) turns) 0)
+        after-over n s l = go v (getD turns i noTurn) (drop-cons turns i noTurn (let m = S .long in omega arith)) (sym (here .over n) ∙ s) (advanced n)
+          where
+            go : (w : ℕ) (u : Turn) → drop i turns ≡ u ∷ drop (suc i) turns → isOver (programFor K E P z) (drop i turns) w ≡ true
+                → Owes K E P z F G U p k₀ e₀ p₀ f₀ W₀ k₁ e₁ p₁ (c .fill) memo₁ W₁ (boundOver (c .binds) σ) (next (drop i turns) w)
+                → Owes K E P z F G U p k₀ e₀ p₀ f₀ W₀ k₁ e₁ p₁ (c .fill) memo₁ W₁ (boundOver (c .binds) σ) (rest (drop (suc i) turns) 0)
+            go zero u y o O = owes-as K E P z F G U p (subst (λ (ts : List Turn). Owes K E P z F G U p k₀ e₀ p₀ f₀ W₀ k₁ e₁ p₁ (c .fill) memo₁ W₁ (boundOver (c .binds) σ) (next ts 0)) y O)
+                (settled-is u (drop (suc i) turns) (sym (ap (λ (ts : List Turn). isOver (programFor K E P z) ts 0) y) ∙ o))
+            go (suc w) u y o O = subst (λ (ts : List Turn). Owes K E P z F G U p k₀ e₀ p₀ f₀ W₀ k₁ e₁ p₁ (c .fill) memo₁ W₁ (boundOver (c .binds) σ) (next ts (suc w))) y O
+
+        after-end : c .refusal .number ≡ 0 → i ≡ count → Walks K E P z F G U k₀ e₀ p₀ f₀ W₀ k₁ e₁ p₁ (c .fill) passed memo₁ W₁ (λ y. y) (stepOf K E P z F G U p)
+        after-end n l = owes-none K E P z F G U p (subst (λ (ts : List Turn). Owes K E P z F G U p k₀ e₀ p₀ f₀ W₀ k₁ e₁ p₁ (c .fill) memo₁ W₁ (boundOver (c .binds) σ) (next ts v)) none-left (advanced n))
+          where
+            none-left : drop i turns ≡ []
+            none-left = drop-of-length-le turns {i = i} (let m = S .long in omega arith)
+
+        module _ {y : Effect} {T₁ : List ℕ} {at₁ : ℕ} (ps : Pushed T at y T₁ at₁) (b : (ρ : List Binding) → effectBindings y ρ ≡ boundOver (c .binds) ρ) where
+          bound : boundOver (c .binds) σ ≡ bindings (drop at₁ T₁)
+          bound = go rule refl
+            where
+              go : (m : Bool) → rule ≡ m → boundOver (c .binds) (bindingsBy K E P z p m (drop at T) G) ≡ bindingsBy K E P z p m (drop at₁ T₁) G
+              go true e = sym (b _) ∙ pushed-bindings (pairsFor K E P z p) G ps
+              go false e = ap (λ (w : Binds). boundOver w (bindingsBy K E P z p false (drop at T) G)) (here .plain e)
+
+          pub task-settles : c .refusal .number ≡ 0 → c .settled ≡ true → length T₁ ≡ length T → length memo₁ ≡ length memo → length W₁ ≡ length W → Grown k₀ e₀ p₀ f₀ k₁ e₁ p₁ (c .fill)
+              → Task k₀ e₀ p₀ f₀ memo₀ W₀ k₁ e₁ p₁ (c .fill) memo₁ W₁ T₁ at₁ (i + 1) 0
+          task-settles n s lT lMemo lW gr = record {
+            bit = omega arith;
+            upto = omega arith;
+            full = lT ∙ t .full;
+            low = let u = ps .most in let w = t .low in omega arith;
+            free = λ l. let u = t .free h in let w = ps .least in omega arith;
+            lenMemo = lMemo ∙ t .lenMemo;
+            lenW = lW ∙ t .lenW;
+            grown = gr;
+            sane = λ u l. subst (λ (ρ : List Binding). Sane (programFor K E P z) ρ (termsIn k₁ e₁ p₁ (c .fill))) bound (here .sane u n);
+            owes = λ l. subst⁻¹ (λ (m : ℕ). Owes K E P z F G U p k₀ e₀ p₀ f₀ W₀ k₁ e₁ p₁ (c .fill) memo₁ W₁ (bindings (drop at₁ T₁)) (rest (drop m turns) 0)) (add-one i)
+                (subst (λ (ρ : List Binding). Owes K E P z F G U p k₀ e₀ p₀ f₀ W₀ k₁ e₁ p₁ (c .fill) memo₁ W₁ ρ (rest (drop (suc i) turns) 0)) bound (after-over n s (omega arith)));
+            within = λ u. absurd (omega arith);
+            ended = λ u. after-end n (omega arith);
+          }
+
+        -- the proof is walked
+        module _ (n : c .refusal .number ≡ 0) (s : c .settled ≡ false) where
+          waits : (i < count) × (v ≡ 0) × (isSettled (programFor K E P z) (getD turns i noTurn) ≡ false)
+          waits = go v (drop i turns) refl (sym (here .over n) ∙ s)
+            where
+              go : (w : ℕ) (ts : List Turn) → drop i turns ≡ ts → isOver (programFor K E P z) ts w ≡ false → (i < count) × (w ≡ 0) × (isSettled (programFor K E P z) (getD turns i noTurn) ≡ false)
+              go w [] e o = absurd (true≢false o)
+              go (suc w) (u ∷ ts) e o = absurd (true≢false o)
+              go zero (u ∷ ts) e o =
+                  let m = S .long in
+                  let l : i < count = left i (decLt i count) e in
+                  (l, refl, ap (isSettled (programFor K E P z)) (head-eq-of-cons-eq (sym (drop-cons turns i noTurn (omega arith)) ∙ e)) ∙ o)
+                where
+                  left : (m : ℕ) → Dec (m < count) → drop m turns ≡ u ∷ ts → m < count
+                  left m (yes l) q = l
+                  left m (no l) q = let x = S .long in let y : drop m turns ≡ [] = drop-of-length-le turns {i = m} (omega arith) in absurd (nil≢cons (sym y ∙ q))
+
+          quiet : boundOver (c .binds) σ ≡ σ
+          quiet = ap (λ (b : Binds). boundOver b σ) (here .waits s)
+
+          pub task-waits : i < count
+          task-waits = waits .0
+
+          pub task-fresh : v ≡ 0
+          task-fresh = waits .1
+
+          pub task-next : Ground K E P z F G k₁ e₁ p₁ (c .fill) memo₁ W₁
+          task-next = advanced n .walks .after refl .ground
+
+          owed : Owes K E P z F G U p k₀ e₀ p₀ f₀ W₀ k₁ e₁ p₁ (c .fill) memo₁ W₁ (boundOver (c .binds) σ) (next (getD turns i noTurn ∷ drop (suc i) turns) 0)
+          owed = subst (λ (m : ℕ). Owes K E P z F G U p k₀ e₀ p₀ f₀ W₀ k₁ e₁ p₁ (c .fill) memo₁ W₁ (boundOver (c .binds) σ) (next (getD turns i noTurn ∷ drop (suc i) turns) m)) (waits .1)
+              (subst (λ (ts : List Turn). Owes K E P z F G U p k₀ e₀ p₀ f₀ W₀ k₁ e₁ p₁ (c .fill) memo₁ W₁ (boundOver (c .binds) σ) (next ts v)) (drop-cons turns i noTurn (let m = S .long in let l = waits .0 in omega arith)) (advanced n))
+
+          module _ (fuel : (room : Room) (ps : List Proposition) (x : ℕ) → x < p → (done : List ℕ) (u : List Term) → checkProofWithContext room (programFor K E P z) (proofsFor K E P z) (contextOf G ps) (suc x) x done u ≡ sub K E P z F G U p room ps x done u)
+              {a : ℕ} (y : a ≡ proofOf (getD turns i noTurn)) {k₂ e₂ p₂ : List ℕ} {f₂ : Fill} {r₂ : Refusal} {memo₂ W₂ : List ℕ}
+              (w : Walks K E P z F G U k₁ e₁ p₁ (c .fill) W₁ k₂ e₂ p₂ f₂ r₂ memo₂ W₂ (λ d. d) (λ room ps done. checkProofWithContext room (programFor K E P z) (proofsFor K E P z) (contextOf G ps) (suc a) a done)) where
+            walked-proof : Walks K E P z F G U k₁ e₁ p₁ (c .fill) W₁ k₂ e₂ p₂ f₂ r₂ memo₂ W₂ (λ d. d) (λ room ps done. sub K E P z F G U p room ps (proofOf (getD turns i noTurn)) done)
+            walked-proof = walks-as {o′ = λ room ps done. sub K E P z F G U p room ps (proofOf (getD turns i noTurn)) done} (λ ps done.
+                fuel (roomOf k₁ p₁) ps a (let l = S .lower i (waits .0) in omega arith) done (termsIn k₁ e₁ p₁ (c .fill)) ∙ ap (λ (m : ℕ). sub K E P z F G U p (roomOf k₁ p₁) ps m done (termsIn k₁ e₁ p₁ (c .fill))) y) w
+
+            pub task-walk-stops : (r₂ .number ≡ 0 → ⊥) → Walks K E P z F G U k₀ e₀ p₀ f₀ W₀ k₂ e₂ p₂ f₂ r₂ memo₂ W₂ (λ d. d) (stepOf K E P z F G U p)
+            task-walk-stops m = owes-stop K E P z F G U p owed (walks (getD turns i noTurn)) (rest (getD turns i noTurn ∷ drop (suc i) turns) 1) (walk-is (getD turns i noTurn) (drop (suc i) turns) (waits .2))
+                (walks-stop walked-proof (λ d. (boundOver (c .binds) σ, d)) (λ room ps d. pure (boundOver (c .binds) σ, d)) m) m
+
+            module _ (m : r₂ .number ≡ 0) where
+              owed-after : Owes K E P z F G U p k₀ e₀ p₀ f₀ W₀ k₂ e₂ p₂ f₂ memo₂ W₂ σ (rest (drop i turns) 1)
+              owed-after = subst (λ (ρ : List Binding). Owes K E P z F G U p k₀ e₀ p₀ f₀ W₀ k₂ e₂ p₂ f₂ memo₂ W₂ ρ (rest (drop i turns) 1)) quiet
+                  (subst⁻¹ (λ (ts : List Turn). Owes K E P z F G U p k₀ e₀ p₀ f₀ W₀ k₂ e₂ p₂ f₂ memo₂ W₂ (boundOver (c .binds) σ) (rest ts 1)) (drop-cons turns i noTurn (let l = S .long in let u = waits .0 in omega arith))
+                  (owes-then K E P z F G U p owed (walks (getD turns i noTurn)) (rest (getD turns i noTurn ∷ drop (suc i) turns) 1) (walk-is (getD turns i noTurn) (drop (suc i) turns) (waits .2))
+                  (walks-then walked-proof (λ room ps d. pure (boundOver (c .binds) σ, d)) m (walks-here {r = passed} (w .after m .ground) (λ ps done u. does-here (w .after m .ground .stored) refl))) refl))
+
+              pub task-walks : length memo₂ ≡ length memo → length W₂ ≡ length W → Grown k₀ e₀ p₀ f₀ k₂ e₂ p₂ f₂ → Task k₀ e₀ p₀ f₀ memo₀ W₀ k₂ e₂ p₂ f₂ memo₂ W₂ T at i 1
+              task-walks lMemo lW gr = record {
+                bit = omega arith;
+                upto = t .upto;
+                full = t .full;
+                low = t .low;
+                free = t .free;
+                lenMemo = lMemo ∙ t .lenMemo;
+                lenW = lW ∙ t .lenW;
+                grown = gr;
+                sane = λ u _. sane-fewer (subst (λ (ρ : List Binding). Sane (programFor K E P z) ρ (termsIn k₁ e₁ p₁ (c .fill))) quiet (here .sane u n)) (w .after m .grows) (w .after m .ground .sane);
+                owes = λ _. owed-after;
+                within = λ _. waits .0;
+                ended = λ u. let l = waits .0 in absurd (omega arith);
+              }
+
+-- a plan that is refused
+pub plan-refused : (K E P : List ℕ) (z : Sizes) (F G U : List ℕ) (p : ℕ) {k e q : List ℕ} {f : Fill} {memo W : List ℕ} → Ground K E P z F G k e q f memo W → {s : Plan} → Plans K E P z p s → (s .refusal .number ≡ 0 → ⊥)
+    → Walks K E P z F G U k e q f W k e q f (s .refusal) memo W (λ d. d) (stepOf K E P z F G U p)
+plan-refused K E P z F G U p {k} {e} {q} {f} g S n = walks-here g (λ ps done y. does-here (g .stored) (S .stops n (roomOf k q) G ps (sub K E P z F G U p (roomOf k q) ps) done (termsIn k e q f)))
+
+-- what the step starts from
+pub start-sane : (K E P : List ℕ) (z : Sizes) (p : ℕ) {F G k e q : List ℕ} {f : Fill} {memo W : List ℕ} → Ground K E P z F G k e q f memo W → p < z .proofs → {rule : Bool} {r first second count : ℕ} → rule ≡ true → Planned K E P z p rule r first second count
+    → Sane (programFor K E P z) (bindingsBy K E P z p rule [] G) (termsIn k e q f)
+start-sane K E P z p {G = G} {k = k} {e = e} {q = q} {f = f} g h {rule} u S =
+    subst⁻¹ (λ (b : Bool). Sane (programFor K E P z) (bindingsBy K E P z p b [] G) (termsIn k e q f)) u
+    (sane-substitution (pairsFor K E P z p) g (substitution-read (g .ready) p h (S .kind u) refl refl .within))
+
+pub part-of : (T : List ℕ) (at : ℕ) → length T ≡ 34 → take (34 - at) (drop at T) ≡ drop at T
+part-of T at e = ap (λ (n : ℕ). take (n - at) (drop at T)) (sym e) ∙ to-end at T
+
+pub sane-part-by : (K E P : List ℕ) (z : Sizes) (p : ℕ) (G : List ℕ) (rule : Bool) {X Y : List ℕ} {s : List Term} → X ≡ Y → Sane (programFor K E P z) (bindingsBy K E P z p rule Y G) s → Sane (programFor K E P z) (bindingsBy K E P z p rule X G) s
+sane-part-by K E P z p G rule {s = s} x w = subst⁻¹ (λ (X : List ℕ). Sane (programFor K E P z) (bindingsBy K E P z p rule X G) s) x w
+
+pub passed-as : {K E P : List ℕ} {z : Sizes} {F G U k e q : List ℕ} {f : Fill} {W k₁ e₁ p₁ : List ℕ} {f₁ : Fill} {memo₁ W₁ : List ℕ} {o : Room → List Proposition → List ℕ → Check (List ℕ)} {c : Checked} → c ≡ record { refusal = passed; value = 0; fill = f₁ }
+    → Walks K E P z F G U k e q f W k₁ e₁ p₁ f₁ passed memo₁ W₁ (λ d. d) o → Walks K E P z F G U k e q f W k₁ e₁ p₁ (c .fill) (c .refusal) memo₁ W₁ (λ d. d) o
+passed-as {K} {E} {P} {z} {F} {G} {U} {k} {e} {q} {f} {W} {k₁} {e₁} {p₁} {memo₁ = memo₁} {W₁ = W₁} {o = o} h w = subst⁻¹ (λ (x : Checked). Walks K E P z F G U k e q f W k₁ e₁ p₁ (x .fill) (x .refusal) memo₁ W₁ (λ d. d) o) h w

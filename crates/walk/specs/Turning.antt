@@ -1,0 +1,145 @@
+-- The step of a proof, turn by turn: each proof that it needs, between what is done before it and after it; then what the step does itself.
+use Prim.Native.Nat.{ℕ, zero, suc, _<_, _≤_}
+use mathlib.Core.Path.{_≡_}
+use mathlib.Core.Bool.{Bool, true, false}
+use mathlib.Core.List.{List, [], _∷_, map}
+use mathlib.Core.Option.{Option, none, some}
+use lib.ListN.{length, getD, take, drop}
+use Rattle.model.specs.Term.{Term}
+use Rattle.model.specs.Program.{Proposition, Binding, Program, Fact, Rule, Proof, Justification, rule}
+use Rattle.model.specs.Decode.{readBindings}
+use Rattle.model.specs.Check.{Check, _>>=_, pure, choose, Room}
+use Rattle.model.specs.Fact.{assertBodyProofNormalForm, isContainerSideCondition, checkSideCondition, checkFactMatchesProposition}
+use Rattle.model.specs.Action.{checkRuleProducesEquality}
+use Rattle.model.specs.Walk.{noProof, claimAt, checkJustification}
+use Rattle.cells.specs.declared.Fill.{Fill}
+use Rattle.termdag.specs.Store.{termsIn}
+use Rattle.outcome.specs.Does.{outcomeOf}
+use Rattle.load.specs.declared.sizes.Sizes.{Sizes}
+use Rattle.program.specs.Ready.{programFor, ruleFor}
+use Rattle.program.specs.Read.{proofsFor, proofCell, premisesFor, pairsFor}
+use Rattle.evaluate.specs.Value.{bindingsIn}
+use Rattle.evaluate.specs.Evaluation.{Sane}
+use Rattle.facts.specs.Bound.{boundOver}
+use Rattle.facts.specs.declared.Binds.{Binds}
+use Rattle.steps.specs.Concluding.{concludes}
+use Rattle.walk.specs.declared.Plan.{Plan}
+use Rattle.walk.specs.declared.Stage.{Stage}
+use Rattle.walk.specs.Walking.{Walks, contextOf}
+
+-- A turn: a fact of a rule with its premise, or a proof that another step refers to.
+pub data Turn : Type 0 where
+  ofFact : Fact → ℕ → Turn
+  ofProof : ℕ → Turn
+
+abbrev pub proofOf : Turn → ℕ
+proofOf (ofFact f p) = p
+proofOf (ofProof p) = p
+
+-- The turns of a rule's step.
+abbrev pub factTurns : List Fact → List ℕ → List Turn
+factTurns [] ps = []
+factTurns (f ∷ fs) [] = []
+factTurns (f ∷ fs) (p ∷ ps) = ofFact f p ∷ factTurns fs ps
+
+-- A side condition is settled without its premise.
+abbrev pub isSettled : Program → Turn → Bool
+isSettled prog (ofFact f p) = isContainerSideCondition prog f
+isSettled prog (ofProof p) = false
+
+module _ (room : Room) (prog : Program) (proofs : List Proof) (name : ℕ) where
+  -- Before the proof: the normal form and a side condition; the bindings then.
+  abbrev pub beforeProof : Turn → List Binding → Check (List Binding)
+  beforeProof (ofFact f p) σ = assertBodyProofNormalForm prog name f >>= λ _. choose (isContainerSideCondition prog f) (checkSideCondition room prog name σ f) (pure σ)
+  beforeProof (ofProof p) σ = pure σ
+
+  -- After the proof: what it must prove.
+  abbrev pub afterProof : Turn → List Binding → Check (Unit {0})
+  afterProof (ofFact f p) σ = checkFactMatchesProposition room prog name σ f (claimAt proofs p)
+  afterProof (ofProof p) σ = pure tt
+
+  module _ (sub : ℕ → List ℕ → Check (List ℕ)) where
+    -- The proof itself, unless the turn is settled.
+    abbrev pub walkProof : Turn → List Binding → List ℕ → Check (List Binding × List ℕ)
+    walkProof t σ done = choose (isSettled prog t) (pure (σ, done)) (sub (proofOf t) done >>= λ d. afterProof t σ >>= λ _. pure (σ, d))
+
+    abbrev pub takeTurn : Turn → List Binding × List ℕ → Check (List Binding × List ℕ)
+    takeTurn t b = beforeProof t (b .0) >>= λ τ. walkProof t τ (b .1)
+
+    unfoldable pub takeTurns : List Turn → List Binding × List ℕ → Check (List Binding × List ℕ)
+    takeTurns [] b = pure b
+    takeTurns (t ∷ ts) b = takeTurn t b >>= takeTurns ts
+
+-- What ends a step: the head of its rule, or what a step of its kind does.
+abbrev pub endStep : Room → Program → List Proof → List Proposition → ℕ → Proposition → Justification → Option Rule → List Binding → Check (Unit {0})
+endStep room prog proofs ps p q j none σ = concludes room prog proofs ps p q j
+endStep room prog proofs ps p q j (some r) σ = checkRuleProducesEquality room prog r σ q
+
+-- The turns, then the end.
+abbrev pub finishStep : Room → Program → List Proof → List Proposition → ℕ → Proposition → Justification → Option Rule → List Binding × List ℕ → Check (List ℕ)
+finishStep room prog proofs ps p q j h b = endStep room prog proofs ps p q j h (b .0) >>= λ _. pure (b .1)
+
+-- The turns that a plan stands for: those of the rule of number r, or the first so many of two proofs.
+abbrev pub turnsBy : List ℕ → List ℕ → List ℕ → Sizes → ℕ → Bool → ℕ → ℕ → ℕ → ℕ → List Turn
+turnsBy K E P z p true r first second count = factTurns (ruleFor K E P z r .facts) (premisesFor K E P z p)
+turnsBy K E P z p false r first second count = map ofProof (take count (first ∷ second ∷ []))
+
+abbrev pub headBy : List ℕ → List ℕ → List ℕ → Sizes → Bool → ℕ → Option Rule
+headBy K E P z true r = some (ruleFor K E P z r)
+headBy K E P z false r = none
+
+-- The bindings of a step, where X is what conditions bound and G the globals.
+abbrev pub bindingsBy : List ℕ → List ℕ → List ℕ → Sizes → ℕ → Bool → List ℕ → List ℕ → List Binding
+bindingsBy K E P z p true X G = bindingsIn X (pairsFor K E P z p) G
+bindingsBy K E P z p false X G = readBindings G
+
+abbrev pub noTurn : Turn
+noTurn = ofProof 0
+
+-- Proof p's step is taken by these turns.
+pub record Planned (K E P : List ℕ) (z : Sizes) (p : ℕ) (rule : Bool) (r first second count : ℕ) : Type 0 where
+  pub long : length (turnsBy K E P z p rule r first second count) ≡ count
+  pub few : count ≤ 16
+  pub lower : (i : ℕ) → i < count → proofOf (getD (turnsBy K E P z p rule r first second count) i noTurn) < p
+  pub kind : rule ≡ true → proofCell K E P z p .kind ≡ 1
+  pub inside : rule ≡ true → r < z .rules
+  pub plain : rule ≡ false → count ≤ 2
+  pub step : (room : Room) (G : List ℕ) (ps : List Proposition) (sub : ℕ → List ℕ → Check (List ℕ)) (done : List ℕ) (s : List Term)
+      → (takeTurns room (programFor K E P z) (proofsFor K E P z) first sub (turnsBy K E P z p rule r first second count) (bindingsBy K E P z p rule [] G, done)
+      >>= finishStep room (programFor K E P z) (proofsFor K E P z) ps p (claimAt (proofsFor K E P z) p) (getD (proofsFor K E P z) p noProof .justification) (headBy K E P z rule r)) s
+      ≡ checkJustification room (programFor K E P z) (proofsFor K E P z) (contextOf G ps) sub p (claimAt (proofsFor K E P z) p) (getD (proofsFor K E P z) p noProof .justification) done s
+
+-- Proof p is a rule's step, by the rule of that name.
+pub record RuleStep (K E P : List ℕ) (z : Sizes) (p name : ℕ) : Type 0 where
+  pub kind : proofCell K E P z p .kind ≡ 1
+  pub is : getD (proofsFor K E P z) p noProof .justification ≡ rule name (premisesFor K E P z p) (readBindings (pairsFor K E P z p))
+
+-- A plan: the refusal of a rule's step whose rule or premises do not fit, or how the step is taken.
+pub record Plans (K E P : List ℕ) (z : Sizes) (p : ℕ) (s : Plan) : Type 0 where
+  pub stops : (s .refusal .number ≡ 0 → ⊥) → (room : Room) (G : List ℕ) (ps : List Proposition) (sub : ℕ → List ℕ → Check (List ℕ)) (done : List ℕ) (u : List Term)
+      → outcomeOf (s .refusal) done u
+      ≡ checkJustification room (programFor K E P z) (proofsFor K E P z) (contextOf G ps) sub p (claimAt (proofsFor K E P z) p) (getD (proofsFor K E P z) p noProof .justification) done u
+  pub goes : s .refusal .number ≡ 0 → Planned K E P z p (s .rule) (s .r) (s .first) (s .second) (s .count)
+
+-- What a stage does, with the turns that are left: before a proof, after it, or the end of the step; the bindings then.
+module _ (room : Room) (prog : Program) (proofs : List Proof) (name : ℕ) (ps : List Proposition) (p : ℕ) (q : Proposition) (j : Justification) (h : Option Rule) where
+  abbrev pub stageOf : List Turn → ℕ → List Binding → Check (List Binding)
+  stageOf [] w σ = endStep room prog proofs ps p q j h σ >>= λ _. pure σ
+  stageOf (t ∷ ts) zero σ = beforeProof room prog proofs name t σ
+  stageOf (t ∷ ts) (suc w) σ = afterProof room prog proofs name t σ >>= λ _. pure σ
+
+-- After it no proof is walked.
+abbrev pub isOver : Program → List Turn → ℕ → Bool
+isOver prog [] w = true
+isOver prog (t ∷ ts) zero = isSettled prog t
+isOver prog (t ∷ ts) (suc w) = true
+
+-- The contract of a stage, under the bindings that conditions bound, X.
+pub record Advances (K E P : List ℕ) (z : Sizes) (F G U : List ℕ) (p : ℕ) (rule : Bool) (r first second count : ℕ) (X k e q : List ℕ) (f : Fill) (W : List ℕ) (i walked : ℕ) (k′ e′ q′ : List ℕ) (c : Stage) (memo′ W′ : List ℕ) : Type 0 where
+  pub walks : Walks {A = List Binding × List ℕ} K E P z F G U k e q f W k′ e′ q′ (c .fill) (c .refusal) memo′ W′ (λ d. (boundOver (c .binds) (bindingsBy K E P z p rule X G), d))
+      (λ room ps done. stageOf room (programFor K E P z) (proofsFor K E P z) first ps p (claimAt (proofsFor K E P z) p) (getD (proofsFor K E P z) p noProof .justification) (headBy K E P z rule r)
+      (drop i (turnsBy K E P z p rule r first second count)) walked (bindingsBy K E P z p rule X G) >>= λ τ. pure (τ, done))
+  pub over : c .refusal .number ≡ 0 → c .settled ≡ isOver (programFor K E P z) (drop i (turnsBy K E P z p rule r first second count)) walked
+  pub sane : rule ≡ true → c .refusal .number ≡ 0 → Sane (programFor K E P z) (boundOver (c .binds) (bindingsBy K E P z p rule X G)) (termsIn k′ e′ q′ (c .fill))
+  pub plain : rule ≡ false → c .binds ≡ Binds.Nothing
+  pub waits : c .settled ≡ false → c .binds ≡ Binds.Nothing
