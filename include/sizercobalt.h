@@ -2,7 +2,8 @@
 
    A job, its numbers and the eight words of an answer are document 01's (README.md has them as tables). Every pointer is to as many elements as the length behind
    it says, or anything where that is 0. No two arrays of a call overlap, and nothing else writes to them until it returns. There are 8 MiB of
-   stack (README.md has what was measured). That is all a caller owes: whatever the arrays hold and however long they are, the call returns with a number and writes to nothing but what is said here. */
+   stack (README.md has what was measured). That is all a caller owes: whatever the arrays hold and however long
+   they are, the call returns with a number and writes to nothing but what is said here. */
 
 #ifndef SIZERCOBALT_H
 #define SIZERCOBALT_H
