@@ -1,7 +1,7 @@
 -- What a step still owes, turn by turn.
 use mathlib.Core.Path.{_≡_, refl, sym, ap, subst, subst⁻¹, _∙_}
 use mathlib.Core.Bool.{Bool, true, false, true≢false}
-use mathlib.Core.List.{List, [], _∷_, nil≢cons, head-eq-of-cons-eq}
+use mathlib.Core.List.{List, [], _∷_, map, nil≢cons, head-eq-of-cons-eq}
 use mathlib.Core.Option.{Option}
 use Prim.Native.Nat.{ℕ, zero, suc, _+_, _-_, _<_, _≤_}
 use native.Mathlib.Numerals.{add-one}
@@ -34,7 +34,7 @@ use Rattle.walk.specs.declared.Plan.{Plan}
 use Rattle.walk.specs.declared.Stage.{Stage}
 use Rattle.walk.proofs.Tying.{sane-substitution}
 use Rattle.walk.specs.Walking.{Ground, Walks, contextOf}
-use Rattle.walk.specs.Turning.{Turn, proofOf, noTurn, isSettled, beforeProof, afterProof, walkProof, takeTurns, endStep, finishStep, stageOf, isOver, turnsBy, headBy, bindingsBy, Planned, Plans, Advances}
+use Rattle.walk.specs.Turning.{Turn, ofProof, proofOf, noTurn, isSettled, beforeProof, afterProof, walkProof, takeTurns, endStep, finishStep, stageOf, isOver, turnsBy, headBy, bindingsBy, Planned, Plans, Advances, Starts}
 use Rattle.walk.proofs.Walking.{walks-here, walks-then, walks-stop, walks-as, walks-passed}
 use Rattle.walk.proofs.Binding.{bind-assoc, bind-same}
 
@@ -157,7 +157,7 @@ module _ (K E P : List ℕ) (z : Sizes) (F G U : List ℕ) (p : ℕ) where
   owes-none O = walks-as {o = λ room ps done s. andThen (O .part room ps done s) (λ b. pure (b .1))} (O .same)
       (walks-then (O .walks) (λ room ps b. pure (b .1)) refl (walks-here (O .walks .after refl .ground) (λ ps done y. does-here (O .walks .after refl .ground .stored) refl)))
 
--- a step at its turn i: v is 1 where its proof was walked
+-- a step, turn by turn
 module _ (K E P : List ℕ) (z : Sizes) (F G U : List ℕ) (p : ℕ) (rule : Bool) (r first second count : ℕ) where
   abbrev turns : List Turn
   turns = turnsBy K E P z p rule r first second count
@@ -183,11 +183,21 @@ module _ (K E P : List ℕ) (z : Sizes) (F G U : List ℕ) (p : ℕ) (rule : Boo
   abbrev walks : Turn → Room → List Proposition → List Binding × List ℕ → Check (List Binding × List ℕ)
   walks t room ps = walkPart room (prog K E P z F G U p) (proofs K E P z F G U p) first (sub K E P z F G U p room ps) ps p (claimAt (proofs K E P z F G U p) p) (getD (proofs K E P z F G U p) p noProof .justification) (headBy K E P z rule r) t
 
-  walk-is : (t : Turn) (ts : List Turn) → isSettled (programFor K E P z) t ≡ false → (room : Room) (ps : List Proposition) (b : List Binding × List ℕ) (s : List Term) → next (t ∷ ts) 0 room ps b s ≡ andThen (walks t room ps b s) (rest (t ∷ ts) 1 room ps)
+  walk-is : (t : Turn) (ts : List Turn) → isSettled (programFor K E P z) t ≡ false → (room : Room) (ps : List Proposition) (b : List Binding × List ℕ) (s : List Term) → next (t ∷ ts) 0 room ps b s ≡ andThen (walks t room ps b s) (rest (t ∷ ts) 2 room ps)
   walk-is t ts e room ps b s = next-walk room (prog K E P z F G U p) (proofs K E P z F G U p) first (sub K E P z F G U p room ps) ps p (claimAt (proofs K E P z F G U p) p) (getD (proofs K E P z F G U p) p noProof .justification) (headBy K E P z rule r) t ts b s e
 
-  pub record Task (k₀ e₀ p₀ : List ℕ) (f₀ : Fill) (memo₀ W₀ k e q : List ℕ) (f : Fill) (memo W T : List ℕ) (at i v : ℕ) : Type 0 where
-    pub bit : v ≤ 1
+  proof-turn : (m : Bool) → m ≡ false → (j : ℕ) → (x : ℕ) × (getD (turnsBy K E P z p m r first second count) j noTurn ≡ ofProof x)
+  proof-turn true e j = absurd (true≢false e)
+  proof-turn false e j = go (take count (first ∷ second ∷ [])) j
+    where
+      go : (xs : List ℕ) (j : ℕ) → (x : ℕ) × (getD (map ofProof xs) j noTurn ≡ ofProof x)
+      go [] j = (0, refl)
+      go (x ∷ xs) zero = (x, refl)
+      go (x ∷ xs) (suc j) = go xs j
+
+  -- the step came to its turn i. In state 0 the turn is at its start, in state 1 its proof is to be walked, in state 2 it was
+  pub record Task (k₀ e₀ p₀ : List ℕ) (f₀ : Fill) (memo₀ W₀ k e q : List ℕ) (f : Fill) (memo W T : List ℕ) (at i s : ℕ) : Type 0 where
+    pub few : s ≤ 2
     pub upto : i ≤ suc count
     pub full : length T ≡ 34
     pub low : at ≤ 34
@@ -196,14 +206,40 @@ module _ (K E P : List ℕ) (z : Sizes) (F G U : List ℕ) (p : ℕ) (rule : Boo
     pub lenW : length W ≡ length W₀
     pub grown : Grown k₀ e₀ p₀ f₀ k e q f
     pub sane : rule ≡ true → i ≤ count → Sane (programFor K E P z) (bindings (drop at T)) (termsIn k e q f)
-    pub owes : i ≤ count → Owes K E P z F G U p k₀ e₀ p₀ f₀ W₀ k e q f memo W (bindings (drop at T)) (rest (drop i turns) v)
-    pub within : v ≡ 1 → i < count
+    pub owes : i ≤ count → (s ≡ 1 → ⊥) → Owes K E P z F G U p k₀ e₀ p₀ f₀ W₀ k e q f memo W (bindings (drop at T)) (rest (drop i turns) s)
+    pub due : s ≡ 1 → (i < count) × (isSettled (programFor K E P z) (getD turns i noTurn) ≡ false) × Owes K E P z F G U p k₀ e₀ p₀ f₀ W₀ k e q f memo W (bindings (drop at T)) (next (getD turns i noTurn ∷ drop (suc i) turns) 0)
+    pub ends : rule ≡ false → (s ≡ 1 → ⊥) → count ≤ i
     pub ended : i ≡ suc count → Walks K E P z F G U k₀ e₀ p₀ f₀ W₀ k e q f passed memo W (λ d. d) (stepOf K E P z F G U p)
 
   module _ (S : Planned K E P z p rule r first second count) where
-    pub task-start : {k e q : List ℕ} {f : Fill} {memo W T : List ℕ} → Ground K E P z F G k e q f memo W → (rule ≡ true → Sane (programFor K E P z) (bindings []) (termsIn k e q f)) → length T ≡ 34 → Task k e q f memo W k e q f memo W T 34 0 0
-    task-start {k} {e} {q} {f} {memo} {W} {T} g w l = record {
-      bit = omega arith;
+    left-at : {i : ℕ} → i < count → drop i turns ≡ getD turns i noTurn ∷ drop (suc i) turns
+    left-at {i} l = drop-cons turns i noTurn (let m = S .long in omega arith)
+
+    -- a turn that starts
+    module _ {k₀ e₀ p₀ : List ℕ} {f₀ : Fill} {W₀ k e q : List ℕ} {f : Fill} {memo W : List ℕ} {σ : List Binding} {i s : ℕ} (O : Owes K E P z F G U p k₀ e₀ p₀ f₀ W₀ k e q f memo W σ (rest (drop i turns) 0)) (x : Starts rule count i s) where
+      starts-owes : (s ≡ 1 → ⊥) → Owes K E P z F G U p k₀ e₀ p₀ f₀ W₀ k e q f memo W σ (rest (drop i turns) s)
+      starts-owes n = go s (x .few) n
+        where
+          go : (m : ℕ) → m ≤ 1 → (m ≡ 1 → ⊥) → Owes K E P z F G U p k₀ e₀ p₀ f₀ W₀ k e q f memo W σ (rest (drop i turns) m)
+          go zero l n = O
+          go (suc zero) l n = absurd (n refl)
+          go (suc (suc m)) l n = absurd (omega arith)
+
+      starts-due : s ≡ 1 → (i < count) × (isSettled (programFor K E P z) (getD turns i noTurn) ≡ false) × Owes K E P z F G U p k₀ e₀ p₀ f₀ W₀ k e q f memo W σ (next (getD turns i noTurn ∷ drop (suc i) turns) 0)
+      starts-due u =
+          let l = x .walks u in
+          let y = proof-turn rule (l .0) i in (
+            l .1,
+            ap (isSettled (programFor K E P z)) (y .1),
+            subst⁻¹ (λ (t : Turn). Owes K E P z F G U p k₀ e₀ p₀ f₀ W₀ k e q f memo W σ (next (t ∷ drop (suc i) turns) 0)) (y .1)
+                (owes-as K E P z F G U p {rest = rest (ofProof (y .0) ∷ drop (suc i) turns) 0} (subst (λ (ts : List Turn). Owes K E P z F G U p k₀ e₀ p₀ f₀ W₀ k e q f memo W σ (rest ts 0)) (left-at (l .1) ∙ ap (λ (t : Turn). t ∷ drop (suc i) turns) (y .1)) O)
+                (advance-is (ofProof (y .0) ∷ drop (suc i) turns) 0)),
+          )
+
+    pub task-start : {k e q : List ℕ} {f : Fill} {memo W T : List ℕ} {s : ℕ} → Ground K E P z F G k e q f memo W → (rule ≡ true → Sane (programFor K E P z) (bindings []) (termsIn k e q f)) → length T ≡ 34 → Starts rule count 0 s
+        → Task k e q f memo W k e q f memo W T 34 0 s
+    task-start {k} {e} {q} {f} {memo} {W} {T} {s} g w l x = record {
+      few = let m = x .few in omega arith;
       upto = omega arith;
       full = l;
       low = omega arith;
@@ -212,21 +248,26 @@ module _ (K E P : List ℕ) (z : Sizes) (F G U : List ℕ) (p : ℕ) (rule : Boo
       lenW = refl;
       grown = grown-same (g .stored);
       sane = λ u _. subst⁻¹ (λ (X : List ℕ). Sane (programFor K E P z) (bindings X) (termsIn k e q f)) nothing (w u);
-      owes = λ _. subst⁻¹ (λ (X : List ℕ). Owes K E P z F G U p k e q f W k e q f memo W (bindings X) (rest turns 0)) nothing (record {
-        part = λ room ps done. pure (bindings [], done);
-        walks = walks-here g (λ ps done y. does-here (g .stored) refl);
-        same = λ ps done. S .step (roomOf k q) G ps (sub K E P z F G U p (roomOf k q) ps) done (termsIn k e q f);
-      });
-      within = λ u. absurd (omega arith);
+      owes = λ _. starts-owes whole x;
+      due = starts-due whole x;
+      ends = x .ends;
       ended = λ u. absurd (omega arith);
     }
       where
         nothing : drop 34 T ≡ []
         nothing = drop-of-length-le T {i = 34} (omega arith)
 
-    module _ {k₀ e₀ p₀ : List ℕ} {f₀ : Fill} {memo₀ W₀ k e q : List ℕ} {f : Fill} {memo W T : List ℕ} {at i v : ℕ} (t : Task k₀ e₀ p₀ f₀ memo₀ W₀ k e q f memo W T at i v) (h : i ≤ count) where
+        whole : Owes K E P z F G U p k e q f W k e q f memo W (bindings (drop 34 T)) (rest turns 0)
+        whole = subst⁻¹ (λ (X : List ℕ). Owes K E P z F G U p k e q f W k e q f memo W (bindings X) (rest turns 0)) nothing (record {
+          part = λ room ps done. pure (bindings [], done);
+          walks = walks-here g (λ ps done y. does-here (g .stored) refl);
+          same = λ ps done. S .step (roomOf k q) G ps (sub K E P z F G U p (roomOf k q) ps) done (termsIn k e q f);
+        })
+
+    -- a stage
+    module _ {k₀ e₀ p₀ : List ℕ} {f₀ : Fill} {memo₀ W₀ k e q : List ℕ} {f : Fill} {memo W T : List ℕ} {at i v : ℕ} (t : Task k₀ e₀ p₀ f₀ memo₀ W₀ k e q f memo W T at i v) (h : i ≤ count) (v≢1 : v ≡ 1 → ⊥) where
       pub task-ground : Ground K E P z F G k e q f memo W
-      task-ground = t .owes h .walks .after refl .ground
+      task-ground = t .owes h v≢1 .walks .after refl .ground
 
       module _ {k₁ e₁ p₁ : List ℕ} (c : Stage) {memo₁ W₁ : List ℕ} {X : List ℕ} (x : X ≡ drop at T) (d : Advances K E P z F G U p rule r first second count X k e q f W i v k₁ e₁ p₁ c memo₁ W₁) where
         abbrev σ : List Binding
@@ -236,16 +277,16 @@ module _ (K E P : List ℕ) (z : Sizes) (F G U : List ℕ) (p : ℕ) (rule : Boo
         here = subst (λ (Y : List ℕ). Advances K E P z F G U p rule r first second count Y k e q f W i v k₁ e₁ p₁ c memo₁ W₁) x d
 
         pub task-refused : (c .refusal .number ≡ 0 → ⊥) → Walks K E P z F G U k₀ e₀ p₀ f₀ W₀ k₁ e₁ p₁ (c .fill) (c .refusal) memo₁ W₁ (λ y. y) (stepOf K E P z F G U p)
-        task-refused n = owes-stop K E P z F G U p (t .owes h) (stage (drop i turns) v) (next (drop i turns) v)
+        task-refused n = owes-stop K E P z F G U p (t .owes h v≢1) (stage (drop i turns) v) (next (drop i turns) v)
             (advance-is (drop i turns) v) (here .walks) n
 
         advanced : c .refusal .number ≡ 0 → Owes K E P z F G U p k₀ e₀ p₀ f₀ W₀ k₁ e₁ p₁ (c .fill) memo₁ W₁ (boundOver (c .binds) σ) (next (drop i turns) v)
-        advanced n = owes-then K E P z F G U p (t .owes h) (stage (drop i turns) v) (next (drop i turns) v)
+        advanced n = owes-then K E P z F G U p (t .owes h v≢1) (stage (drop i turns) v) (next (drop i turns) v)
             (advance-is (drop i turns) v) (here .walks) n
 
         -- no proof is walked: the next turn, or the end
         after-over : c .refusal .number ≡ 0 → c .settled ≡ true → i < count → Owes K E P z F G U p k₀ e₀ p₀ f₀ W₀ k₁ e₁ p₁ (c .fill) memo₁ W₁ (boundOver (c .binds) σ) (rest (drop (suc i) turns) 0)
-        after-over n s l = go v (getD turns i noTurn) (drop-cons turns i noTurn (let m = S .long in omega arith)) (sym (here .over n) ∙ s) (advanced n)
+        after-over n s l = go v (getD turns i noTurn) (left-at l) (sym (here .over n) ∙ s) (advanced n)
           where
             go : (w : ℕ) (u : Turn) → drop i turns ≡ u ∷ drop (suc i) turns → isOver (programFor K E P z) (drop i turns) w ≡ true
                 → Owes K E P z F G U p k₀ e₀ p₀ f₀ W₀ k₁ e₁ p₁ (c .fill) memo₁ W₁ (boundOver (c .binds) σ) (next (drop i turns) w)
@@ -271,7 +312,7 @@ module _ (K E P : List ℕ) (z : Sizes) (F G U : List ℕ) (p : ℕ) (rule : Boo
           pub task-settles : c .refusal .number ≡ 0 → c .settled ≡ true → length T₁ ≡ length T → length memo₁ ≡ length memo → length W₁ ≡ length W → Grown k₀ e₀ p₀ f₀ k₁ e₁ p₁ (c .fill)
               → Task k₀ e₀ p₀ f₀ memo₀ W₀ k₁ e₁ p₁ (c .fill) memo₁ W₁ T₁ at₁ (i + 1) 0
           task-settles n s lT lMemo lW gr = record {
-            bit = omega arith;
+            few = omega arith;
             upto = omega arith;
             full = lT ∙ t .full;
             low = let u = ps .most in let w = t .low in omega arith;
@@ -280,13 +321,14 @@ module _ (K E P : List ℕ) (z : Sizes) (F G U : List ℕ) (p : ℕ) (rule : Boo
             lenW = lW ∙ t .lenW;
             grown = gr;
             sane = λ u l. subst (λ (ρ : List Binding). Sane (programFor K E P z) ρ (termsIn k₁ e₁ p₁ (c .fill))) bound (here .sane u n);
-            owes = λ l. subst⁻¹ (λ (m : ℕ). Owes K E P z F G U p k₀ e₀ p₀ f₀ W₀ k₁ e₁ p₁ (c .fill) memo₁ W₁ (bindings (drop at₁ T₁)) (rest (drop m turns) 0)) (add-one i)
+            owes = λ l _. subst⁻¹ (λ (m : ℕ). Owes K E P z F G U p k₀ e₀ p₀ f₀ W₀ k₁ e₁ p₁ (c .fill) memo₁ W₁ (bindings (drop at₁ T₁)) (rest (drop m turns) 0)) (add-one i)
                 (subst (λ (ρ : List Binding). Owes K E P z F G U p k₀ e₀ p₀ f₀ W₀ k₁ e₁ p₁ (c .fill) memo₁ W₁ ρ (rest (drop (suc i) turns) 0)) bound (after-over n s (omega arith)));
-            within = λ u. absurd (omega arith);
+            due = λ u. absurd (omega arith);
+            ends = λ u _. let l = t .ends u v≢1 in omega arith;
             ended = λ u. after-end n (omega arith);
           }
 
-        -- the proof is walked
+        -- its proof is to be walked
         module _ (n : c .refusal .number ≡ 0) (s : c .settled ≡ false) where
           waits : (i < count) × (v ≡ 0) × (isSettled (programFor K E P z) (getD turns i noTurn) ≡ false)
           waits = go v (drop i turns) refl (sym (here .over n) ∙ s)
@@ -297,7 +339,7 @@ module _ (K E P : List ℕ) (z : Sizes) (F G U : List ℕ) (p : ℕ) (rule : Boo
               go zero (u ∷ ts) e o =
                   let m = S .long in
                   let l : i < count = left i (decLt i count) e in
-                  (l, refl, ap (isSettled (programFor K E P z)) (head-eq-of-cons-eq (sym (drop-cons turns i noTurn (omega arith)) ∙ e)) ∙ o)
+                  (l, refl, ap (isSettled (programFor K E P z)) (head-eq-of-cons-eq (sym (left-at l) ∙ e)) ∙ o)
                 where
                   left : (m : ℕ) → Dec (m < count) → drop m turns ≡ u ∷ ts → m < count
                   left m (yes l) q = l
@@ -306,52 +348,103 @@ module _ (K E P : List ℕ) (z : Sizes) (F G U : List ℕ) (p : ℕ) (rule : Boo
           quiet : boundOver (c .binds) σ ≡ σ
           quiet = ap (λ (b : Binds). boundOver b σ) (here .waits s)
 
-          pub task-waits : i < count
-          task-waits = waits .0
-
           pub task-fresh : v ≡ 0
           task-fresh = waits .1
 
-          pub task-next : Ground K E P z F G k₁ e₁ p₁ (c .fill) memo₁ W₁
-          task-next = advanced n .walks .after refl .ground
-
           owed : Owes K E P z F G U p k₀ e₀ p₀ f₀ W₀ k₁ e₁ p₁ (c .fill) memo₁ W₁ (boundOver (c .binds) σ) (next (getD turns i noTurn ∷ drop (suc i) turns) 0)
           owed = subst (λ (m : ℕ). Owes K E P z F G U p k₀ e₀ p₀ f₀ W₀ k₁ e₁ p₁ (c .fill) memo₁ W₁ (boundOver (c .binds) σ) (next (getD turns i noTurn ∷ drop (suc i) turns) m)) (waits .1)
-              (subst (λ (ts : List Turn). Owes K E P z F G U p k₀ e₀ p₀ f₀ W₀ k₁ e₁ p₁ (c .fill) memo₁ W₁ (boundOver (c .binds) σ) (next ts v)) (drop-cons turns i noTurn (let m = S .long in let l = waits .0 in omega arith)) (advanced n))
+              (subst (λ (ts : List Turn). Owes K E P z F G U p k₀ e₀ p₀ f₀ W₀ k₁ e₁ p₁ (c .fill) memo₁ W₁ (boundOver (c .binds) σ) (next ts v)) (left-at (waits .0)) (advanced n))
 
-          module _ (fuel : (room : Room) (ps : List Proposition) (x : ℕ) → x < p → (done : List ℕ) (u : List Term) → checkProofWithContext room (programFor K E P z) (proofsFor K E P z) (contextOf G ps) (suc x) x done u ≡ sub K E P z F G U p room ps x done u)
-              {a : ℕ} (y : a ≡ proofOf (getD turns i noTurn)) {k₂ e₂ p₂ : List ℕ} {f₂ : Fill} {r₂ : Refusal} {memo₂ W₂ : List ℕ}
-              (w : Walks K E P z F G U k₁ e₁ p₁ (c .fill) W₁ k₂ e₂ p₂ f₂ r₂ memo₂ W₂ (λ d. d) (λ room ps done. checkProofWithContext room (programFor K E P z) (proofsFor K E P z) (contextOf G ps) (suc a) a done)) where
-            walked-proof : Walks K E P z F G U k₁ e₁ p₁ (c .fill) W₁ k₂ e₂ p₂ f₂ r₂ memo₂ W₂ (λ d. d) (λ room ps done. sub K E P z F G U p room ps (proofOf (getD turns i noTurn)) done)
-            walked-proof = walks-as {o′ = λ room ps done. sub K E P z F G U p room ps (proofOf (getD turns i noTurn)) done} (λ ps done.
-                fuel (roomOf k₁ p₁) ps a (let l = S .lower i (waits .0) in omega arith) done (termsIn k₁ e₁ p₁ (c .fill)) ∙ ap (λ (m : ℕ). sub K E P z F G U p (roomOf k₁ p₁) ps m done (termsIn k₁ e₁ p₁ (c .fill))) y) w
+          pub task-waits : length memo₁ ≡ length memo → length W₁ ≡ length W → Grown k₀ e₀ p₀ f₀ k₁ e₁ p₁ (c .fill) → Task k₀ e₀ p₀ f₀ memo₀ W₀ k₁ e₁ p₁ (c .fill) memo₁ W₁ T at i 1
+          task-waits lMemo lW gr = record {
+            few = omega arith;
+            upto = t .upto;
+            full = t .full;
+            low = t .low;
+            free = t .free;
+            lenMemo = lMemo ∙ t .lenMemo;
+            lenW = lW ∙ t .lenW;
+            grown = gr;
+            sane = λ u _. subst (λ (ρ : List Binding). Sane (programFor K E P z) ρ (termsIn k₁ e₁ p₁ (c .fill))) quiet (here .sane u n);
+            owes = λ _ u. absurd (u refl);
+            due = λ _. (waits .0, waits .2, subst (λ (ρ : List Binding). Owes K E P z F G U p k₀ e₀ p₀ f₀ W₀ k₁ e₁ p₁ (c .fill) memo₁ W₁ ρ (next (getD turns i noTurn ∷ drop (suc i) turns) 0)) quiet owed);
+            ends = λ _ u. absurd (u refl);
+            ended = λ u. let l = waits .0 in absurd (omega arith);
+          }
 
-            pub task-walk-stops : (r₂ .number ≡ 0 → ⊥) → Walks K E P z F G U k₀ e₀ p₀ f₀ W₀ k₂ e₂ p₂ f₂ r₂ memo₂ W₂ (λ d. d) (stepOf K E P z F G U p)
-            task-walk-stops m = owes-stop K E P z F G U p owed (walks (getD turns i noTurn)) (rest (getD turns i noTurn ∷ drop (suc i) turns) 1) (walk-is (getD turns i noTurn) (drop (suc i) turns) (waits .2))
-                (walks-stop walked-proof (λ d. (boundOver (c .binds) σ, d)) (λ room ps d. pure (boundOver (c .binds) σ, d)) m) m
+    -- the proof is walked
+    module _ {k₀ e₀ p₀ : List ℕ} {f₀ : Fill} {memo₀ W₀ k e q : List ℕ} {f : Fill} {memo W T : List ℕ} {at i v : ℕ} (t : Task k₀ e₀ p₀ f₀ memo₀ W₀ k e q f memo W T at i v) (v≡1 : v ≡ 1) where
+      pub task-turn : i < count
+      task-turn = t .due v≡1 .0
 
-            module _ (m : r₂ .number ≡ 0) where
-              owed-after : Owes K E P z F G U p k₀ e₀ p₀ f₀ W₀ k₂ e₂ p₂ f₂ memo₂ W₂ σ (rest (drop i turns) 1)
-              owed-after = subst (λ (ρ : List Binding). Owes K E P z F G U p k₀ e₀ p₀ f₀ W₀ k₂ e₂ p₂ f₂ memo₂ W₂ ρ (rest (drop i turns) 1)) quiet
-                  (subst⁻¹ (λ (ts : List Turn). Owes K E P z F G U p k₀ e₀ p₀ f₀ W₀ k₂ e₂ p₂ f₂ memo₂ W₂ (boundOver (c .binds) σ) (rest ts 1)) (drop-cons turns i noTurn (let l = S .long in let u = waits .0 in omega arith))
-                  (owes-then K E P z F G U p owed (walks (getD turns i noTurn)) (rest (getD turns i noTurn ∷ drop (suc i) turns) 1) (walk-is (getD turns i noTurn) (drop (suc i) turns) (waits .2))
-                  (walks-then walked-proof (λ room ps d. pure (boundOver (c .binds) σ, d)) m (walks-here {r = passed} (w .after m .ground) (λ ps done u. does-here (w .after m .ground .stored) refl))) refl))
+      pub task-next : Ground K E P z F G k e q f memo W
+      task-next = t .due v≡1 .2 .walks .after refl .ground
 
-              pub task-walks : length memo₂ ≡ length memo → length W₂ ≡ length W → Grown k₀ e₀ p₀ f₀ k₂ e₂ p₂ f₂ → Task k₀ e₀ p₀ f₀ memo₀ W₀ k₂ e₂ p₂ f₂ memo₂ W₂ T at i 1
-              task-walks lMemo lW gr = record {
-                bit = omega arith;
-                upto = t .upto;
-                full = t .full;
-                low = t .low;
-                free = t .free;
-                lenMemo = lMemo ∙ t .lenMemo;
-                lenW = lW ∙ t .lenW;
-                grown = gr;
-                sane = λ u _. sane-fewer (subst (λ (ρ : List Binding). Sane (programFor K E P z) ρ (termsIn k₁ e₁ p₁ (c .fill))) quiet (here .sane u n)) (w .after m .grows) (w .after m .ground .sane);
-                owes = λ _. owed-after;
-                within = λ _. waits .0;
-                ended = λ u. let l = waits .0 in absurd (omega arith);
-              }
+      module _ (fuel : (room : Room) (ps : List Proposition) (x : ℕ) → x < p → (done : List ℕ) (u : List Term) → checkProofWithContext room (programFor K E P z) (proofsFor K E P z) (contextOf G ps) (suc x) x done u ≡ sub K E P z F G U p room ps x done u)
+          {a : ℕ} (y : a ≡ proofOf (getD turns i noTurn)) {k₂ e₂ p₂ : List ℕ} {f₂ : Fill} {r₂ : Refusal} {memo₂ W₂ : List ℕ}
+          (w : Walks K E P z F G U k e q f W k₂ e₂ p₂ f₂ r₂ memo₂ W₂ (λ d. d) (λ room ps done. checkProofWithContext room (programFor K E P z) (proofsFor K E P z) (contextOf G ps) (suc a) a done)) where
+        abbrev turn : Turn
+        turn = getD turns i noTurn
+
+        abbrev τ : List Binding
+        τ = bindings (drop at T)
+
+        walked-proof : Walks K E P z F G U k e q f W k₂ e₂ p₂ f₂ r₂ memo₂ W₂ (λ d. d) (λ room ps done. sub K E P z F G U p room ps (proofOf turn) done)
+        walked-proof = walks-as {o′ = λ room ps done. sub K E P z F G U p room ps (proofOf turn) done} (λ ps done.
+            fuel (roomOf k q) ps a (let l = S .lower i task-turn in omega arith) done (termsIn k e q f) ∙ ap (λ (m : ℕ). sub K E P z F G U p (roomOf k q) ps m done (termsIn k e q f)) y) w
+
+        pub task-walk-stops : (r₂ .number ≡ 0 → ⊥) → Walks K E P z F G U k₀ e₀ p₀ f₀ W₀ k₂ e₂ p₂ f₂ r₂ memo₂ W₂ (λ d. d) (stepOf K E P z F G U p)
+        task-walk-stops m = owes-stop K E P z F G U p (t .due v≡1 .2) (walks turn) (rest (turn ∷ drop (suc i) turns) 2) (walk-is turn (drop (suc i) turns) (t .due v≡1 .1))
+            (walks-stop walked-proof (λ d. (τ, d)) (λ room ps d. pure (τ, d)) m) m
+
+        module _ (m : r₂ .number ≡ 0) (lMemo : length memo₂ ≡ length memo) (lW : length W₂ ≡ length W) (gr : Grown k₀ e₀ p₀ f₀ k₂ e₂ p₂ f₂) where
+          owed-after : Owes K E P z F G U p k₀ e₀ p₀ f₀ W₀ k₂ e₂ p₂ f₂ memo₂ W₂ τ (rest (turn ∷ drop (suc i) turns) 2)
+          owed-after = owes-then K E P z F G U p (t .due v≡1 .2) (walks turn) (rest (turn ∷ drop (suc i) turns) 2) (walk-is turn (drop (suc i) turns) (t .due v≡1 .1))
+              (walks-then walked-proof (λ room ps d. pure (τ, d)) m (walks-here {r = passed} (w .after m .ground) (λ ps done u. does-here (w .after m .ground .stored) refl))) refl
+
+          sane-after : rule ≡ true → Sane (programFor K E P z) τ (termsIn k₂ e₂ p₂ f₂)
+          sane-after u = sane-fewer (t .sane u (let l = task-turn in omega arith)) (w .after m .grows) (w .after m .ground .sane)
+
+          pub task-walks : rule ≡ true → Task k₀ e₀ p₀ f₀ memo₀ W₀ k₂ e₂ p₂ f₂ memo₂ W₂ T at i 2
+          task-walks is = record {
+            few = omega arith;
+            upto = t .upto;
+            full = t .full;
+            low = t .low;
+            free = t .free;
+            lenMemo = lMemo ∙ t .lenMemo;
+            lenW = lW ∙ t .lenW;
+            grown = gr;
+            sane = λ u _. sane-after u;
+            owes = λ _ _. subst⁻¹ (λ (ts : List Turn). Owes K E P z F G U p k₀ e₀ p₀ f₀ W₀ k₂ e₂ p₂ f₂ memo₂ W₂ τ (rest ts 2)) (left-at task-turn) owed-after;
+            due = λ u. absurd (omega arith);
+            ends = λ u _. absurd (true≢false (sym is ∙ u));
+            ended = λ u. let l = task-turn in absurd (omega arith);
+          }
+
+          pub task-passes : rule ≡ false → {s : ℕ} → Starts rule count (i + 1) s → Task k₀ e₀ p₀ f₀ memo₀ W₀ k₂ e₂ p₂ f₂ memo₂ W₂ T at (i + 1) s
+          task-passes is x = record {
+            few = let n = x .few in omega arith;
+            upto = let l = task-turn in omega arith;
+            full = t .full;
+            low = t .low;
+            free = λ l. let n = t .free (omega arith) in omega arith;
+            lenMemo = lMemo ∙ t .lenMemo;
+            lenW = lW ∙ t .lenW;
+            grown = gr;
+            sane = λ u _. sane-after u;
+            owes = λ _. starts-owes passed-on x;
+            due = starts-due passed-on x;
+            ends = x .ends;
+            ended = λ u. let l = task-turn in absurd (omega arith);
+          }
+            where
+              passed-on : Owes K E P z F G U p k₀ e₀ p₀ f₀ W₀ k₂ e₂ p₂ f₂ memo₂ W₂ τ (rest (drop (i + 1) turns) 0)
+              passed-on =
+                  let c = proof-turn rule is i in
+                  subst⁻¹ (λ (n : ℕ). Owes K E P z F G U p k₀ e₀ p₀ f₀ W₀ k₂ e₂ p₂ f₂ memo₂ W₂ τ (rest (drop n turns) 0)) (add-one i)
+                  (owes-as K E P z F G U p {rest = rest (ofProof (c .0) ∷ drop (suc i) turns) 2}
+                  (subst (λ (u : Turn). Owes K E P z F G U p k₀ e₀ p₀ f₀ W₀ k₂ e₂ p₂ f₂ memo₂ W₂ τ (rest (u ∷ drop (suc i) turns) 2)) (c .1) owed-after) (λ room ps b u. refl))
 
 -- a plan that is refused
 pub plan-refused : (K E P : List ℕ) (z : Sizes) (F G U : List ℕ) (p : ℕ) {k e q : List ℕ} {f : Fill} {memo W : List ℕ} → Ground K E P z F G k e q f memo W → {s : Plan} → Plans K E P z p s → (s .refusal .number ≡ 0 → ⊥)

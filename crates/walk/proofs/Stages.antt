@@ -168,36 +168,6 @@ module _ (K E P : List ℕ) (z : Sizes) (F G U : List ℕ) (p r first second cou
       back : (j : ℕ) → getD W₁ (length k + length k + j) 0 ≡ getD W (length k + length k + j) 0
       back j = sym (getD-drop (length k + length k) W₁ j 0) ∙ ap (λ (xs : List ℕ). getD xs j 0) (d .scratch .behind) ∙ getD-drop (length k + length k) W j 0
 
-  -- nothing is done before a proof of another step, or after it
-  pub stage-idle : {i v : ℕ} → i < count → v ≤ 1 → Advances K E P z F G U p false r first second count X k e q f W i v k e q (record { refusal = passed; settled = eqb v 1; binds = Binds.Nothing; fill = f }) memo W
-  stage-idle {i} {v} h b = go (drop-cons plain i noTurn (let m = S .long in omega arith)) v b (proof-like (take count (first ∷ second ∷ [])) i)
-    where
-      proof-like : (xs : List ℕ) (j : ℕ) → (x : ℕ) × (getD (map ofProof xs) j noTurn ≡ ofProof x)
-      proof-like [] j = (0, refl)
-      proof-like (x ∷ xs) zero = (x, refl)
-      proof-like (x ∷ xs) (suc j) = proof-like xs j
-
-      go : drop i plain ≡ getD plain i noTurn ∷ drop (suc i) plain → (n : ℕ) → n ≤ 1 → (x : ℕ) × (getD plain i noTurn ≡ ofProof x)
-          → Advances K E P z F G U p false r first second count X k e q f W i n k e q (record { refusal = passed; settled = eqb n 1; binds = Binds.Nothing; fill = f }) memo W
-      go c n b (x, y) =
-          let l : drop i plain ≡ ofProof x ∷ drop (suc i) plain = c ∙ ap (λ (t : Turn). t ∷ drop (suc i) plain) y in
-          record {
-            walks = subst⁻¹ (λ (ts : List Turn). Walks {A = List Binding × List ℕ} K E P z F G U k e q f W k e q f passed memo W (λ d. (readBindings G, d)) (λ room ps done s. andThen (plainStage ts n room ps s) (λ τ. pure (τ, done)))) l (here n);
-            over = λ _. settles n b ∙ sym (ap (λ (ts : List Turn). isOver (programFor K E P z) ts n) l);
-            sane = λ u. absurd (true≢false (sym u));
-            plain = λ _. refl;
-            waits = λ _. refl;
-          }
-        where
-          here : (m : ℕ) → Walks {A = List Binding × List ℕ} K E P z F G U k e q f W k e q f passed memo W (λ d. (readBindings G, d)) (λ room ps done s. andThen (plainStage (ofProof x ∷ drop (suc i) plain) m room ps s) (λ τ. pure (τ, done)))
-          here zero = walks-stage (plainStage (ofProof x ∷ drop (suc i) plain) zero) g (grown-same (g .stored)) (λ ps u. does-here (g .stored) refl) (λ n. (extends-same, g .sane, g .past)) refl refl refl (λ j. refl)
-          here (suc m) = walks-stage (plainStage (ofProof x ∷ drop (suc i) plain) (suc m)) g (grown-same (g .stored)) (λ ps u. does-here (g .stored) refl) (λ n. (extends-same, g .sane, g .past)) refl refl refl (λ j. refl)
-
-          settles : (m : ℕ) → m ≤ 1 → eqb m 1 ≡ isOver (programFor K E P z) (ofProof x ∷ drop (suc i) plain) m
-          settles zero u = refl
-          settles (suc zero) u = refl
-          settles (suc (suc m)) u = absurd (omega arith)
-
 -- the substitution as it was read
 pub sane-pairs : (prog : Program) (X G : List ℕ) {S S′ : List ℕ} {s : List Term} → S ≡ S′ → Sane prog (bindingsIn X S′ G) s → Sane prog (bindingsIn X S G) s
 sane-pairs prog X G {s = s} e w = subst⁻¹ (λ (S : List ℕ). Sane prog (bindingsIn X S G) s) e w

@@ -143,3 +143,9 @@ pub record Advances (K E P : List ℕ) (z : Sizes) (F G U : List ℕ) (p : ℕ) 
   pub sane : rule ≡ true → c .refusal .number ≡ 0 → Sane (programFor K E P z) (boundOver (c .binds) (bindingsBy K E P z p rule X G)) (termsIn k′ e′ q′ (c .fill))
   pub plain : rule ≡ false → c .binds ≡ Binds.Nothing
   pub waits : c .settled ≡ false → c .binds ≡ Binds.Nothing
+
+-- How turn i starts: 1 where its proof is walked at once, as in a step that is no rule's; else 0.
+pub record Starts (rule : Bool) (count i s : ℕ) : Type 0 where
+  pub few : s ≤ 1
+  pub walks : s ≡ 1 → (rule ≡ false) × (i < count)
+  pub ends : rule ≡ false → (s ≡ 1 → ⊥) → count ≤ i

@@ -46,7 +46,7 @@ ghost use Rattle.evaluate.specs.Evaluation.{Sane, Checks};
 ghost use Rattle.actions.specs.Acting.{effectBindings};
 ghost use Rattle.facts.specs.Bound.{boundOver};
 ghost use Rattle.walk.specs.Walking.{Ground, Walks, contextOf, Operates};
-ghost use Rattle.walk.specs.Turning.{ofFact, proofOf, noTurn, turnsBy, bindingsBy, beforeProof, RuleStep, Planned, Plans, Advances};
+ghost use Rattle.walk.specs.Turning.{ofFact, proofOf, noTurn, turnsBy, bindingsBy, beforeProof, RuleStep, Planned, Plans, Advances, Starts};
 
 // What a step refers to: whether it is a rule's, else the proofs that it needs, at most two.
 pub struct Needs {
@@ -463,7 +463,7 @@ fn advance_rule(
     ))
 }
 
-// Turn i of any step.
+// Turn i of a rule's step, or the end of another.
 fn advance(
     kinds: &[u32],
     ends: &[u32],
@@ -494,7 +494,7 @@ fn advance(
     requires { ⌜ (rule ≡ true → Sane (programFor (now kinds) (now ends) (now pool) z) (bindingsBy (now kinds) (now ends) (now pool) z p rule (now bound) (now globals)) (termsIn (now skinds) (now sends) (now spool) fill)) ⌝ }
     requires { ⌜ length (now bound) ≤ 32 ⌝ }
     requires { ⌜ i ≤ count ⌝ }
-    requires { ⌜ walked ≤ 1 ⌝ }
+    requires { ⌜ (rule ≡ false → count ≤ i) ⌝ }
     ensures { λ c. ⌜ Advances (now (kinds .entry)) (now (ends .entry)) (now (pool .entry)) z (now (found .entry)) (now (globals .entry)) (now (unions .entry)) p rule r first second count (now (bound .entry)) (now (skinds .entry)) (now (sends .entry)) (now (spool .entry)) fill (now (scratch .entry)) i walked (now (skinds .exit)) (now (sends .exit)) (now (spool .exit)) c (now (memo .exit)) (now (scratch .exit)) ⌝ }
 {
     if rule {
@@ -522,32 +522,33 @@ fn advance(
             walked,
         );
     }
-    if count <= i {
-        return over(conclude(
-            kinds,
-            ends,
-            pool,
-            z,
-            unions,
-            skinds,
-            sends,
-            spool,
-            fill,
-            memo,
-            scratch,
-            p,
-        ));
-    }
-    Stage {
-        refusal: Refusal {
-            number: 0,
-            count: 0,
-            fields: [0; 6],
-        },
-        settled: walked == 1,
-        binds: Binds::Nothing,
+    over(conclude(
+        kinds,
+        ends,
+        pool,
+        z,
+        unions,
+        skinds,
+        sends,
+        spool,
         fill,
+        memo,
+        scratch,
+        p,
+    ))
+}
+
+// How turn i starts: 1 where its proof is walked at once, as in a step that is no rule's; else 0.
+fn state_at(rule: bool, count: usize, i: usize) -> usize
+    ensures { λ s. ⌜ Starts rule count i s ⌝ }
+{
+    if rule {
+        return 0;
     }
+    if i < count {
+        return 1;
+    }
+    0
 }
 
 // The step of proof p, a rule's too, turn by turn: each proof that it needs is walked, between what is done before it and after it. The walk and this check call each
@@ -586,8 +587,50 @@ fn justify(
     let mut at = 34;
     let mut have = fill;
     let mut i = 0;
-    let mut walked = 0;
+    let mut state = state_at(s.rule, count, i);
     while i <= count {
+        if state == 1 {
+            let next = reference(
+                kinds,
+                ends,
+                pool,
+                z,
+                p,
+                s.rule,
+                s.r,
+                s.first,
+                s.second,
+                count,
+                i,
+            );
+            let w = walk(
+                kinds,
+                ends,
+                pool,
+                z,
+                found,
+                globals,
+                unions,
+                skinds,
+                sends,
+                spool,
+                have,
+                memo,
+                scratch,
+                next,
+            );
+            if w.refusal.number != 0 {
+                return w;
+            }
+            have = w.fill;
+            if s.rule {
+                state = 2;
+                continue;
+            }
+            i += 1;
+            state = state_at(s.rule, count, i);
+            continue;
+        }
         let c = advance(
             kinds,
             ends,
@@ -610,7 +653,7 @@ fn justify(
             s.second,
             count,
             i,
-            walked,
+            state,
         );
         have = c.fill;
         if c.refusal.number != 0 {
@@ -625,43 +668,10 @@ fn justify(
             let binds = c.binds;
             at = push_binding(&mut bound, at, effect_of(binds));
             i += 1;
-            walked = 0;
+            state = 0;
             continue;
         }
-        let next = reference(
-            kinds,
-            ends,
-            pool,
-            z,
-            p,
-            s.rule,
-            s.r,
-            s.first,
-            s.second,
-            count,
-            i,
-        );
-        let w = walk(
-            kinds,
-            ends,
-            pool,
-            z,
-            found,
-            globals,
-            unions,
-            skinds,
-            sends,
-            spool,
-            have,
-            memo,
-            scratch,
-            next,
-        );
-        if w.refusal.number != 0 {
-            return w;
-        }
-        have = w.fill;
-        walked = 1;
+        state = 1;
     }
     pass(0, have)
 }
