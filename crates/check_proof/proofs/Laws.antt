@@ -34,7 +34,7 @@ use Rattle.normal_form.specs.Search.{Searched}
 use Rattle.evaluate.specs.Evaluation.{Sane}
 use Rattle.context.specs.Contexts.{GlobalPairs, Context}
 use Rattle.context.specs.declared.Globals.{Globals}
-use Rattle.walk.specs.Walking.{Flags, Ground, Walks, contextOf}
+use Rattle.turns.specs.Walking.{Flags, Ground, Walks, contextOf}
 use Rattle.walk.proofs.Justifying.{fuel-for}
 use Rattle.check_proof.specs.Checking.{Given}
 

@@ -31,9 +31,15 @@ use Rattle.program.specs.Read.{proofsFor, proofCell}
 use Rattle.program.proofs.Laws.{table-long}
 use Rattle.program.proofs.Reading.{refers}
 use Rattle.program.proofs.Proving.{below-in, proof-for}
-use Rattle.steps.specs.Step.{Prepared}
-use Rattle.walk.specs.Walking.{Flags, Ground, Walks, contextOf}
-use Rattle.walk.proofs.Walking.{walks-here, flags-set}
+use Rattle.turns.specs.Walking.{Flags, Ground, Walks, contextOf}
+use Rattle.turns.proofs.Walking.{walks-here, flags-set}
+
+-- a proof's word
+pub flag-at : (W : List ℕ) (c : ℕ) {n p : ℕ} {b v : Bool} → n ≡ p → b ≡ eqb (getD W (c + c + n) 0) 1 → b ≡ v → eqb (getD W (c + c + p) 0) 1 ≡ v
+flag-at W c i h e = ap (λ (m : ℕ). eqb (getD W (c + c + m) 0) 1) (sym i) ∙ sym h ∙ e
+
+pub set-at : (W : List ℕ) (c : ℕ) {W₁ : List ℕ} {n p : ℕ} → W₁ ≡ set W (c + c + n) 1 → n ≡ p → W₁ ≡ set W (c + c + p) 1
+set-at W c h i = h ∙ ap (λ (m : ℕ). set W (c + c + m) 1) i
 
 module _ (K E P : List ℕ) (z : Sizes) (F G U : List ℕ) (p : ℕ) where
   abbrev prog : Program
@@ -111,18 +117,6 @@ module _ (K E P : List ℕ) (z : Sizes) (F G U : List ℕ) (p : ℕ) where
             outcome = ap (λ (x : Outcome (List ℕ)). andThen x (λ d. pure (p ∷ d))) (sym (ok-of r t (termsIn k₁ e₁ p₁ f₁) n) ∙ v .outcome);
             grown = v .grown;
           }
-
--- what a step is handed
-pub step-prepared : {K E P : List ℕ} {z : Sizes} {F G k e q : List ℕ} {f : Fill} {memo W : List ℕ} → Ground K E P z F G k e q f memo W → Prepared K E P z k e q f memo W
-step-prepared g = record {
-  ready = g .ready;
-  stored = g .stored;
-  sane = record { ordered = g .sane .ordered; bound = λ b m. absurd (List·Memᴰ·not-nil m); rows = g .sane .rows };
-  terms = record { extends = g .terms };
-  fits = g .fits;
-  past = g .past;
-  long = let x = g .long in omega arith;
-}
 
 -- fuel beyond the number changes nothing: references are lower
 lower-proof : (terms i : ℕ) (q : Proof) → proofRefers terms i q ≡ true → below i (references (q .justification)) ≡ true

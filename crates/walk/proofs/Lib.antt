@@ -1,9 +1,3 @@
-pub mod Walking
-pub mod Binding
-pub mod Operating
+pub mod Effects
 pub mod Justifying
-pub mod Tying
-pub mod Turns
-pub mod Planning
-pub mod Stages
 pub mod Owing

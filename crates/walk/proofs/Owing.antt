@@ -30,13 +30,14 @@ use Rattle.heads.proofs.Heading.{pushed-bindings, sane-fewer}
 use Rattle.cells.proofs.Laws.{to-end}
 use Rattle.outcome.specs.declared.Checked.{Checked}
 use Rattle.program.proofs.Proving.{substitution-read}
-use Rattle.walk.specs.declared.Plan.{Plan}
-use Rattle.walk.specs.declared.Stage.{Stage}
-use Rattle.walk.proofs.Tying.{sane-substitution}
-use Rattle.walk.specs.Walking.{Ground, Walks, contextOf}
-use Rattle.walk.specs.Turning.{Turn, ofProof, proofOf, noTurn, isSettled, beforeProof, afterProof, walkProof, takeTurns, endStep, finishStep, stageOf, isOver, turnsBy, headBy, bindingsBy, Planned, Plans, Advances, Starts}
-use Rattle.walk.proofs.Walking.{walks-here, walks-then, walks-stop, walks-as, walks-passed}
-use Rattle.walk.proofs.Binding.{bind-assoc, bind-same}
+use Rattle.turns.specs.declared.Plan.{Plan}
+use Rattle.turns.specs.declared.Stage.{Stage}
+use Rattle.turns.proofs.Tying.{sane-substitution}
+use Rattle.turns.specs.Walking.{Ground, Walks, contextOf}
+use Rattle.walk.specs.Start.{Starts}
+use Rattle.turns.specs.Turning.{Turn, ofProof, proofOf, noTurn, isSettled, beforeProof, afterProof, walkProof, takeTurns, endStep, finishStep, stageOf, isOver, turnsBy, headBy, bindingsBy, Planned, Plans, Advances}
+use Rattle.turns.proofs.Walking.{walks-here, walks-then, walks-stop, walks-as, walks-passed}
+use Rattle.turns.proofs.Binding.{bind-assoc, bind-same}
 
 -- what is owed before a turn, and after its proof; and after a stage
 module _ (room : Room) (prog : Program) (proofs : List Proof) (name : ℕ) (sub : ℕ → List ℕ → Check (List ℕ)) (ps : List Proposition) (p : ℕ) (q : Proposition) (j : Justification) (h : Option Rule) where

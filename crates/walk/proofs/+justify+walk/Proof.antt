@@ -4,9 +4,8 @@ use native.Mathlib.Omega.{arith}
 use borrow.Author.Needs.{needs}
 use lib.ListN.{length, length-take, length-drop}
 use Rattle.outcome.proofs.Laws.{grown-then}
-use Rattle.walk.specs.Walking.{contextOf}
-use Rattle.walk.proofs.Justifying.{walk-known, walk-stops, walk-ends, fuel-for}
-use Rattle.walk.proofs.Tying.{flag-at, set-at}
+use Rattle.turns.specs.Walking.{contextOf}
+use Rattle.walk.proofs.Justifying.{walk-known, walk-stops, walk-ends, fuel-for, flag-at, set-at}
 use Rattle.walk.proofs.Owing.{Task, task-start, task-ground, task-refused, task-settles, task-fresh, task-waits, task-turn, task-next, task-walk-stops, task-walks, task-passes, plan-refused, start-sane, sane-part-by, part-of, passed-as}
 use Prim.Native.Nat.{ℕ, _<_}
 use borrow.Fn.Kinds.{In}
@@ -20,11 +19,11 @@ use Rattle.walk.proofs.+justify+walk.Lts-walk as walk-lts
 use Rattle.actions.proofs.push_binding.Reads as push-binding-reads
 use Rattle.cells.proofs.wide.Reads as wide-reads
 use Rattle.outcome.proofs.pass.Reads as pass-reads
-use Rattle.walk.proofs.advance.Reads as advance-reads
+use Rattle.turns.proofs.advance.Reads as advance-reads
 use Rattle.walk.proofs.effect_of.Reads as effect-of-reads
 use Rattle.walk.proofs.is_checked.Reads as is-checked-reads
-use Rattle.walk.proofs.plan_step.Reads as plan-step-reads
-use Rattle.walk.proofs.reference.Reads as reference-reads
+use Rattle.turns.proofs.plan_step.Reads as plan-step-reads
+use Rattle.turns.proofs.reference.Reads as reference-reads
 use Rattle.walk.proofs.set_checked.Reads as set-checked-reads
 use Rattle.walk.proofs.state_at.Reads as state-at-reads
 use Rattle.walk.proofs.+justify+walk.{statement}

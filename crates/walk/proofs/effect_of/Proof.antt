@@ -1,4 +1,4 @@
-use Rattle.walk.proofs.Operating.{effect-pair, effect-none}
+use Rattle.walk.proofs.Effects.{effect-pair, effect-none}
 use borrow.Author.Needs.{needs}
 use Rattle.walk.proofs.effect_of.Statement.{statement}
 use Rattle.walk.proofs.effect_of.Tie as tie

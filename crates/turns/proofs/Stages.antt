@@ -6,9 +6,8 @@ use mathlib.Core.Option.{none, some}
 use Prim.Native.Nat.{ℕ, zero, suc, _+_, _<_, _≤_}
 use native.Mathlib.Nat.{not-suc-le-zero, le-of-suc-le-suc}
 use native.Mathlib.Omega.{arith}
-use lib.Dec.{eqb}
 use lib.ListN.{length, getD, take, drop, drop-of-length-le, length-map}
-use lib.Seq.{drop-cons, getD-drop}
+use lib.Seq.{getD-drop}
 use Rattle.model.specs.Term.{Term}
 use Rattle.model.specs.Program.{Proposition, Binding, Program, Fact, Rule, Proof}
 use Rattle.model.specs.Cell.{noCell}
@@ -16,15 +15,15 @@ use Rattle.model.specs.Decode.{ruleFacts, readBindings}
 use Rattle.model.specs.Check.{Check, andThen, pure, Room}
 use Rattle.model.specs.Fact.{isContainerSideCondition, checkFactMatchesProposition}
 use Rattle.model.specs.Walk.{noProof, claimAt}
-use Rattle.model.proofs.Store.{Extends, extends-same}
+use Rattle.model.proofs.Store.{Extends}
 use Rattle.model.proofs.Post.{post-result}
 use Rattle.cells.specs.declared.Fill.{Fill}
 use Rattle.termdag.specs.Store.{termsIn, roomOf}
 use Rattle.memo.specs.Memo.{Past}
-use Rattle.outcome.specs.Does.{passed, Grown, Does}
+use Rattle.outcome.specs.Does.{Grown, Does}
 use Rattle.outcome.specs.declared.Refusal.{Refusal}
 use Rattle.outcome.specs.declared.Checked.{Checked}
-use Rattle.outcome.proofs.Laws.{ok-of, grown-same, does-here, does-map}
+use Rattle.outcome.proofs.Laws.{ok-of, does-map}
 use Rattle.load.specs.declared.sizes.Sizes.{Sizes}
 use Rattle.program.specs.Ready.{programFor, ruleFor}
 use Rattle.load.specs.Held.{tablesFor}
@@ -38,12 +37,12 @@ use Rattle.context.specs.Contexts.{GlobalPairs}
 use Rattle.heads.specs.Heading.{Produces}
 use Rattle.heads.proofs.Heading.{sane-fewer}
 use Rattle.steps.specs.Step.{Concludes}
-use Rattle.walk.specs.declared.Stage.{Stage}
-use Rattle.walk.specs.Walking.{Ground, Walks}
-use Rattle.walk.specs.Turning.{Turn, ofFact, ofProof, noTurn, factTurns, bindingsBy, beforeProof, stageOf, isOver, Planned, Advances}
-use Rattle.walk.proofs.Walking.{flags-same, ground-after}
-use Rattle.walk.proofs.Planning.{turns-most, turns-few}
-use Rattle.walk.proofs.Tying.{numbers-of}
+use Rattle.turns.specs.declared.Stage.{Stage}
+use Rattle.turns.specs.Walking.{Ground, Walks}
+use Rattle.turns.specs.Turning.{Turn, ofFact, ofProof, factTurns, bindingsBy, beforeProof, stageOf, isOver, Planned, Advances}
+use Rattle.turns.proofs.Walking.{flags-same, ground-after}
+use Rattle.turns.proofs.Planning.{turns-most, turns-few}
+use Rattle.turns.proofs.Tying.{numbers-of}
 
 -- a check that does not walk; of scratch the marks of the head at hand may be written
 walks-stage : {K E P : List ℕ} {z : Sizes} {F G U k e q : List ℕ} {f : Fill} {memo W k₁ e₁ p₁ : List ℕ} {f₁ : Fill} {r : Refusal} {memo₁ W₁ : List ℕ} {b : List Binding} (c : Room → List Proposition → Check (List Binding))

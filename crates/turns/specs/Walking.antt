@@ -26,7 +26,7 @@ use Rattle.evaluate.specs.Evaluation.{Sane}
 use Rattle.context.specs.Contexts.{GlobalPairs}
 use Rattle.program.specs.Read.{proofsFor, proofCell, premisesFor, pairsFor}
 use Rattle.steps.specs.Concluding.{isRule}
-use Rattle.walk.specs.declared.Needs.{Needs}
+use Rattle.turns.specs.declared.Needs.{Needs}
 
 -- Of n proofs those in `done` are checked, by the words of W behind two for each of c cells.
 pub record Flags (c : ℕ) (W : List ℕ) (n : ℕ) (done : List ℕ) : Type 0 where

@@ -1,11 +1,11 @@
-use Rattle.walk.proofs.Operating.{operates-other, operates-rule}
+use Rattle.turns.proofs.Operating.{operates-other, operates-rule}
 use native.Mathlib.Omega.{arith}
 use mathlib.Core.Path.{refl}
 use borrow.Author.Needs.{needs}
-use Rattle.walk.proofs.operands.Statement.{statement}
-use Rattle.walk.proofs.operands.Tie as tie
-use Rattle.walk.proofs.operands.Reads as reads
-use Rattle.walk.proofs.operands.Lts as lts
+use Rattle.turns.proofs.operands.Statement.{statement}
+use Rattle.turns.proofs.operands.Tie as tie
+use Rattle.turns.proofs.operands.Reads as reads
+use Rattle.turns.proofs.operands.Lts as lts
 use Rattle.cells.proofs.wide.Reads as wide-reads
 use Rattle.program.proofs.read.justification_at.Reads as justification-at-reads
 

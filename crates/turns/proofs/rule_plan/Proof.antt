@@ -1,13 +1,13 @@
-use Rattle.walk.proofs.Tying.{facts-long}
+use Rattle.turns.proofs.Tying.{facts-long}
 use lib.ListN.{length}
-use Rattle.walk.proofs.Planning.{unknown-plan, uneven-plan, even-plan, rule-none, rule-some, premise-lower}
+use Rattle.turns.proofs.Planning.{unknown-plan, uneven-plan, even-plan, rule-none, rule-some, premise-lower}
 use Rattle.program.specs.Read.{premisesFor, proofCell}
 use native.Mathlib.Omega.{arith}
 use Prim.Native.Nat.{ℕ}
 use mathlib.Core.Path.{ap, _∙_}
 use borrow.Author.Needs.{needs}
-use Rattle.walk.proofs.rule_plan.Statement.{statement}
-use Rattle.walk.proofs.rule_plan.Tie as tie
+use Rattle.turns.proofs.rule_plan.Statement.{statement}
+use Rattle.turns.proofs.rule_plan.Tie as tie
 
 rule-of-requires : tie.Need-rule-of-requires
 rule-of-requires c κs = search needs

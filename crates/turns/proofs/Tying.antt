@@ -1,12 +1,11 @@
 -- What the code read, as the laws have it.
 use mathlib.Core.Path.{_≡_, sym, ap, _∙_}
-use mathlib.Core.Bool.{Bool}
 use mathlib.Core.Logic.{_⊎_, inl, inr}
-use mathlib.Core.List.{List, _++_, map, List·Memᴰ, List·Memᴰ·append-cases}
+use mathlib.Core.List.{List, _++_, map, List·Memᴰ, List·Memᴰ·append-cases, List·Memᴰ·not-nil}
 use Prim.Native.Nat.{ℕ, _+_, _-_, _<_, _≤_}
 use native.Mathlib.Omega.{arith}
-use lib.Dec.{eqb, lit<}
-use lib.ListN.{length, getD, set, take, length-map}
+use lib.Dec.{lit<}
+use lib.ListN.{length, getD, take, length-map}
 use lib.Seq.{getD-drop}
 use borrow.Rule.Slice.PartMut.{midOf, putMid, same-len-mid, take-put, drop-put, mid-len}
 use Rattle.model.specs.Cell.{noCell}
@@ -29,19 +28,12 @@ use Rattle.program.specs.Read.{factFor}
 use Rattle.program.proofs.Laws.{table-long}
 use Rattle.program.proofs.Reading.{rule-for}
 use Rattle.evaluate.specs.Evaluation.{Sane}
-use Rattle.steps.specs.Step.{Concludes}
-use Rattle.walk.specs.Walking.{Ground}
+use Rattle.steps.specs.Step.{Prepared, Concludes}
+use Rattle.turns.specs.Walking.{Ground}
 
 -- the claim of the premise
 pub claim-by : (proofs : List Proof) {q : Proposition} {m p : ℕ} → propositionOf q ≡ claimAt proofs m → m ≡ p → propositionOf q ≡ claimAt proofs p
 claim-by proofs e i = e ∙ ap (claimAt proofs) i
-
--- a proof's word
-pub flag-at : (W : List ℕ) (c : ℕ) {n p : ℕ} {b v : Bool} → n ≡ p → b ≡ eqb (getD W (c + c + n) 0) 1 → b ≡ v → eqb (getD W (c + c + p) 0) 1 ≡ v
-flag-at W c i h e = ap (λ (m : ℕ). eqb (getD W (c + c + m) 0) 1) (sym i) ∙ sym h ∙ e
-
-pub set-at : (W : List ℕ) (c : ℕ) {W₁ : List ℕ} {n p : ℕ} → W₁ ≡ set W (c + c + n) 1 → n ≡ p → W₁ ≡ set W (c + c + p) 1
-set-at W c h i = h ∙ ap (λ (m : ℕ). set W (c + c + m) 1) i
 
 -- how long a rule's facts are
 pub facts-long : (K E P : List ℕ) (z : Sizes) (r : ℕ) {xs : List ℕ} → xs ≡ ruleFacts (getD (tablesFor K E P z .rules) r noCell) → length xs ≡ length (ruleFor K E P z r .facts)
@@ -87,3 +79,15 @@ module _ (W X : List ℕ) (c : ℕ) (l : length X ≡ length (midOf c (c + c - c
       sym (getD-drop (c + c) (putMid c (c + c - c) W X) i 0)
       ∙ ap (λ (xs : List ℕ). getD xs i 0) (drop-put c (c + c) W X (omega arith) h (l ∙ mid-len c (c + c) W h))
       ∙ getD-drop (c + c) W i 0
+
+-- what a step is handed
+pub step-prepared : {K E P : List ℕ} {z : Sizes} {F G k e q : List ℕ} {f : Fill} {memo W : List ℕ} → Ground K E P z F G k e q f memo W → Prepared K E P z k e q f memo W
+step-prepared g = record {
+  ready = g .ready;
+  stored = g .stored;
+  sane = record { ordered = g .sane .ordered; bound = λ b m. absurd (List·Memᴰ·not-nil m); rows = g .sane .rows };
+  terms = record { extends = g .terms };
+  fits = g .fits;
+  past = g .past;
+  long = let x = g .long in omega arith;
+}

@@ -23,9 +23,9 @@ use Rattle.evaluate.specs.Evaluation.{Sane}
 use Rattle.facts.specs.Bound.{boundOver}
 use Rattle.facts.specs.declared.Binds.{Binds}
 use Rattle.steps.specs.Concluding.{concludes}
-use Rattle.walk.specs.declared.Plan.{Plan}
-use Rattle.walk.specs.declared.Stage.{Stage}
-use Rattle.walk.specs.Walking.{Walks, contextOf}
+use Rattle.turns.specs.declared.Plan.{Plan}
+use Rattle.turns.specs.declared.Stage.{Stage}
+use Rattle.turns.specs.Walking.{Walks, contextOf}
 
 -- A turn: a fact of a rule with its premise, or a proof that another step refers to.
 pub data Turn : Type 0 where
@@ -143,9 +143,3 @@ pub record Advances (K E P : List ℕ) (z : Sizes) (F G U : List ℕ) (p : ℕ) 
   pub sane : rule ≡ true → c .refusal .number ≡ 0 → Sane (programFor K E P z) (boundOver (c .binds) (bindingsBy K E P z p rule X G)) (termsIn k′ e′ q′ (c .fill))
   pub plain : rule ≡ false → c .binds ≡ Binds.Nothing
   pub waits : c .settled ≡ false → c .binds ≡ Binds.Nothing
-
--- How turn i starts: 1 where its proof is walked at once, as in a step that is no rule's; else 0.
-pub record Starts (rule : Bool) (count i s : ℕ) : Type 0 where
-  pub few : s ≤ 1
-  pub walks : s ≡ 1 → (rule ≡ false) × (i < count)
-  pub ends : rule ≡ false → (s ≡ 1 → ⊥) → count ≤ i

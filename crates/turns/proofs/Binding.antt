@@ -1,7 +1,6 @@
 -- Checks in sequence.
 use mathlib.Core.Path.{_≡_, refl}
 use mathlib.Core.List.{List}
-use native.Mathlib.Omega.{arith}
 use Rattle.model.specs.Term.{Term}
 use Rattle.model.specs.Check.{Outcome, ok, refused, Check, andThen}
 

@@ -14,9 +14,9 @@ use Rattle.model.specs.Action.{ActionContext, checkRuleProducesEquality}
 use Rattle.model.specs.Walk.{claimAt, checkPremises, checkJustification}
 use Rattle.steps.specs.Concluding.{walkEach, isRule}
 use Rattle.steps.proofs.Splitting.{justification-split}
-use Rattle.walk.specs.Walking.{checkBody}
-use Rattle.walk.specs.Turning.{ofProof, factTurns, takeTurns, finishStep}
-use Rattle.walk.proofs.Binding.{bind-assoc, bind-same}
+use Rattle.turns.specs.Walking.{checkBody}
+use Rattle.turns.specs.Turning.{ofProof, factTurns, takeTurns, finishStep}
+use Rattle.turns.proofs.Binding.{bind-assoc, bind-same}
 
 module _ {B : Type 0} where
   -- a turn with what comes after it

@@ -1,16 +1,16 @@
 use mathlib.Core.Path.{refl, sym, ap, _∙_}
 use mathlib.Core.List.{List}
-use Rattle.walk.proofs.Stages.{stage-head, stage-before, stage-after, sane-pairs, produces-pairs, fact-turn, facts-count, matches-pairs}
-use Rattle.walk.proofs.Planning.{reference-inside}
-use Rattle.walk.proofs.Tying.{claim-by, part-long, part-front, part-back}
+use Rattle.turns.proofs.Stages.{stage-head, stage-before, stage-after, sane-pairs, produces-pairs, fact-turn, facts-count, matches-pairs}
+use Rattle.turns.proofs.Planning.{reference-inside}
+use Rattle.turns.proofs.Tying.{claim-by, part-long, part-front, part-back}
 use Rattle.program.specs.Read.{proofsFor, proofCell, premisesFor, pairsFor}
 use Rattle.program.specs.Ready.{programFor, ruleFor}
 use lib.ListN.{length, getD, length-take, length-drop}
 use native.Mathlib.Omega.{arith}
 use Prim.Native.Nat.{ℕ}
 use borrow.Author.Needs.{needs}
-use Rattle.walk.proofs.advance_rule.Statement.{statement}
-use Rattle.walk.proofs.advance_rule.Tie as tie
+use Rattle.turns.proofs.advance_rule.Statement.{statement}
+use Rattle.turns.proofs.advance_rule.Tie as tie
 
 rule-facts-at-requires : tie.Need-rule-facts-at-requires
 rule-facts-at-requires c κs = let a = c .before .before .before .before .before .before .before .before .before .before .before .before .args in let pre = c .before .before .before .before .before .before .before .before .before .before .before .before .pre in let g = pre .0 in let S = pre .1 .1 .0 in (g .ready, S .inside refl)

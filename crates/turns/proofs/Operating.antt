@@ -6,7 +6,7 @@ use Prim.Native.Nat.{ℕ, _<_, _≤_}
 use native.Mathlib.Omega.{arith}
 use lib.ListN.{length, getD, take, length-take}
 use lib.Seq.{getD-take}
-use Rattle.model.specs.Program.{Binding, rule, references}
+use Rattle.model.specs.Program.{rule, references}
 use Rattle.model.specs.Program as program
 use Rattle.model.specs.Decode.{readBindings}
 use Rattle.model.specs.Walk.{noProof}
@@ -16,13 +16,9 @@ use Rattle.decode.specs.declared.RuleStep.{RuleStep}
 use Rattle.load.specs.declared.sizes.Sizes.{Sizes}
 use Rattle.program.specs.Read.{proofsFor, proofCell, premisesFor, pairsFor, JustificationAt}
 use Rattle.evaluate.proofs.Turns.{member-at}
-use Rattle.actions.specs.Acting.{effectBindings}
-use Rattle.actions.specs.declared.Effect.{Effect}
-use Rattle.facts.specs.Bound.{boundOver}
-use Rattle.facts.specs.declared.Binds.{Binds}
 use Rattle.steps.specs.Concluding.{isRule}
-use Rattle.walk.specs.declared.Needs.{Needs}
-use Rattle.walk.specs.Walking.{Operates}
+use Rattle.turns.specs.declared.Needs.{Needs}
+use Rattle.turns.specs.Walking.{Operates}
 
 module _ {K E P : List ℕ} {z : Sizes} {n p : ℕ} {j x : Justification} (J : JustificationAt K E P z n j) (np : n ≡ p) (jx : j ≡ x) where
   abbrev found : program.Justification
@@ -60,10 +56,3 @@ operates-rule {K} {E} {P} {z} {n} {p} {j} {s} J np js r e q o = record {
   where
     no-less : (i : ℕ) → i < 0 → ⊥
     no-less i h = omega arith
-
--- a condition's binding
-pub effect-pair : {b : Binds} {x t : ℕ} → b ≡ Binds.Pair x t → (σ : List Binding) → effectBindings (Effect.Bind x t) σ ≡ boundOver b σ
-effect-pair {b} {x} {t} e σ = ap (λ (y : Binds). boundOver y σ) (sym e)
-
-pub effect-none : {b : Binds} → b ≡ Binds.Nothing → (σ : List Binding) → effectBindings Effect.Nothing σ ≡ boundOver b σ
-effect-none e σ = ap (λ (y : Binds). boundOver y σ) (sym e)

@@ -1,7 +1,7 @@
-use Rattle.walk.proofs.Planning.{plain-plans}
+use Rattle.turns.proofs.Planning.{plain-plans}
 use borrow.Author.Needs.{needs}
-use Rattle.walk.proofs.plan_step.Statement.{statement}
-use Rattle.walk.proofs.plan_step.Tie as tie
+use Rattle.turns.proofs.plan_step.Statement.{statement}
+use Rattle.turns.proofs.plan_step.Tie as tie
 
 operands-requires : tie.Need-operands-requires
 operands-requires c κs = search needs

@@ -23,7 +23,7 @@ use Rattle.load.specs.declared.sizes.Sizes.{Sizes}
 use Rattle.program.specs.Ready.{programFor}
 use Rattle.evaluate.specs.Evaluation.{Sane}
 use Rattle.context.specs.Contexts.{GlobalPairs}
-use Rattle.walk.specs.Walking.{Flags, Ground, After, Walks}
+use Rattle.turns.specs.Walking.{Flags, Ground, After, Walks}
 
 after-same : {K E P : List ℕ} {z : Sizes} {F G k e p : List ℕ} {f : Fill} {memo W : List ℕ} → Ground K E P z F G k e p f memo W → After K E P z F G k e p f W k e p f memo W
 after-same g = record { ground = g; grows = extends-same; globals = refl }

@@ -1,11 +1,11 @@
-use Rattle.walk.proofs.Planning.{reference-inside, rule-reference, plain-reference}
+use Rattle.turns.proofs.Planning.{reference-inside, rule-reference, plain-reference}
 use Rattle.program.specs.Read.{premisesFor, proofCell}
 use native.Mathlib.Omega.{arith}
 use Prim.Native.Nat.{ℕ}
 use mathlib.Core.Path.{ap, _∙_}
 use borrow.Author.Needs.{needs}
-use Rattle.walk.proofs.reference.Statement.{statement}
-use Rattle.walk.proofs.reference.Tie as tie
+use Rattle.turns.proofs.reference.Statement.{statement}
+use Rattle.turns.proofs.reference.Tie as tie
 
 wide-requires : tie.Need-wide-requires
 wide-requires c κs = search needs

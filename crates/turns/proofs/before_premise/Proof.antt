@@ -3,7 +3,7 @@ use Rattle.model.proofs.Post.{post-result}
 use Rattle.outcome.proofs.Laws.{ok-of}
 use Rattle.facts.proofs.Keeping.{condition-sane}
 use borrow.Author.Tests.{not-true, not-false}
-use Rattle.walk.proofs.Planning.{before-offends, before-waits, before-condition}
+use Rattle.turns.proofs.Planning.{before-offends, before-waits, before-condition}
 use Rattle.evaluate.proofs.Checking.{checks-here, checks-as}
 use Rattle.evaluate.specs.Value.{bindingsIn}
 use Rattle.program.specs.Read.{proofsFor, factFor}
@@ -15,8 +15,8 @@ use Prim.Native.Nat.{ℕ}
 use mathlib.Core.Path.{refl, sym, ap, _∙_}
 use mathlib.Core.Bool.{true≢false}
 use borrow.Author.Needs.{needs}
-use Rattle.walk.proofs.before_premise.Statement.{statement}
-use Rattle.walk.proofs.before_premise.Tie as tie
+use Rattle.turns.proofs.before_premise.Statement.{statement}
+use Rattle.turns.proofs.before_premise.Tie as tie
 
 assert-body-proof-normal-form-requires : tie.Need-assert-body-proof-normal-form-requires
 assert-body-proof-normal-form-requires c κs = search needs

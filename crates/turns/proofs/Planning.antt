@@ -23,11 +23,11 @@ use Rattle.load.specs.declared.sizes.Sizes.{Sizes}
 use Rattle.cells.specs.declared.Found.{Found}
 use Rattle.program.specs.Ready.{programFor, ruleFor, ruleAt, FindsRule}
 use Rattle.program.specs.Read.{proofsFor, premisesFor, pairsFor}
-use Rattle.walk.specs.declared.Needs.{Needs}
-use Rattle.walk.specs.declared.Plan.{Plan}
-use Rattle.walk.specs.Walking.{contextOf, checkBody, Operates}
-use Rattle.walk.specs.Turning.{ofFact, ofProof, proofOf, noTurn, factTurns, turnsBy, takeTurns, finishStep, beforeProof, RuleStep, Planned, Plans}
-use Rattle.walk.proofs.Turns.{rule-by-turns, step-by-turns}
+use Rattle.turns.specs.declared.Needs.{Needs}
+use Rattle.turns.specs.declared.Plan.{Plan}
+use Rattle.turns.specs.Walking.{contextOf, checkBody, Operates}
+use Rattle.turns.specs.Turning.{ofFact, ofProof, proofOf, noTurn, factTurns, turnsBy, takeTurns, finishStep, beforeProof, RuleStep, Planned, Plans}
+use Rattle.turns.proofs.Turns.{rule-by-turns, step-by-turns}
 
 -- the turns of a rule's step, by their number
 pub turns-long : (fs : List Fact) (ps : List ℕ) → length fs ≡ length ps → length (factTurns fs ps) ≡ length ps

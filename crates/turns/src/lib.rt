@@ -1,0 +1,503 @@
+// A step turn by turn: the proofs that it needs, what is done before and after each, and what ends the step. Nothing here walks a proof.
+use cells::Fill;
+use cells::Found;
+use cells::wide;
+use decode::Justification;
+use facts::Binds;
+use facts::assert_body_proof_normal_form;
+use facts::check_fact_matches_proposition;
+use facts::check_side_condition;
+use heads::check_rule_produces_equality;
+use load::sizes::Sizes;
+use normal_form::is_container_side_condition;
+use outcome::Checked;
+use outcome::Refusal;
+use program::read::claim_at;
+use program::read::justification_at;
+use program::read::premises_at;
+use program::read::rule_facts_at;
+use program::read::substitution_at;
+use program::rule_of;
+use steps::conclude;
+ghost use mathlib.Core.Path.{_≡_};
+ghost use Prim.Native.Nat.{_+_, _≤_, _<_};
+ghost use mathlib.Core.Bool.{true, false};
+ghost use Rattle.model.specs.Fact.{isContainerSideCondition};
+ghost use lib.ListN.{length, getD};
+ghost use Rattle.termdag.specs.Store.{termsIn, Stored, roomOf};
+ghost use Rattle.model.proofs.Store.{Extends};
+ghost use Rattle.memo.specs.Memo.{Past};
+ghost use Rattle.outcome.specs.Does.{passed};
+ghost use Rattle.normal_form.specs.Search.{Searched};
+ghost use Rattle.facts.specs.declared.Binds as binds;
+ghost use Rattle.program.specs.Ready.{Ready, programFor};
+ghost use Rattle.program.specs.Read.{factFor, proofsFor};
+ghost use Rattle.evaluate.specs.Value.{bindingsIn};
+ghost use Rattle.evaluate.specs.Evaluation.{Sane, Checks};
+ghost use Rattle.facts.specs.Bound.{boundOver};
+ghost use Rattle.turns.specs.Walking.{Ground, Operates};
+ghost use Rattle.turns.specs.Turning.{ofFact, proofOf, noTurn, turnsBy, bindingsBy, beforeProof, RuleStep, Planned, Plans, Advances};
+
+// What a step refers to: whether it is a rule's, else the proofs that it needs, at most two.
+pub struct Needs {
+    pub rule: bool,
+    pub name: u32,
+    pub count: usize,
+    pub first: u32,
+    pub second: u32,
+}
+
+// The proofs that proof p needs.
+fn operands(kinds: &[u32], ends: &[u32], pool: &[u32], z: Sizes, p: u32) -> Needs
+    requires { ⌜ Ready (now kinds) (now ends) (now pool) z ⌝ }
+    requires { ⌜ p < z .proofs ⌝ }
+    ensures { λ r. ⌜ Operates (now (kinds .entry)) (now (ends .entry)) (now (pool .entry)) z p r ⌝ }
+{
+    let justification = justification_at(kinds, ends, pool, z, wide(p));
+    match justification {
+        Justification::Fiat => Needs {
+            rule: false,
+            name: 0,
+            count: 0,
+            first: 0,
+            second: 0,
+        },
+        Justification::Rule(s) => Needs {
+            rule: true,
+            name: s.name,
+            count: 0,
+            first: 0,
+            second: 0,
+        },
+        Justification::MergeFn(s) => Needs {
+            rule: false,
+            name: 0,
+            count: 2,
+            first: s.old_proof,
+            second: s.new_proof,
+        },
+        Justification::Trans(a, b) => Needs {
+            rule: false,
+            name: 0,
+            count: 2,
+            first: a,
+            second: b,
+        },
+        Justification::Sym(a) => Needs {
+            rule: false,
+            name: 0,
+            count: 1,
+            first: a,
+            second: 0,
+        },
+        Justification::Congr(s) => Needs {
+            rule: false,
+            name: 0,
+            count: 2,
+            first: s.proof,
+            second: s.child_proof,
+        },
+        Justification::ContainerNormalize(a) => Needs {
+            rule: false,
+            name: 0,
+            count: 1,
+            first: a,
+            second: 0,
+        },
+        Justification::Eval => Needs {
+            rule: false,
+            name: 0,
+            count: 0,
+            first: 0,
+            second: 0,
+        },
+    }
+}
+
+// What a step takes. A rule's: the rule of number r, whose name is `first`, with so many facts. Another's: the first so many of two proofs. Or the step's refusal.
+pub struct Plan {
+    pub refusal: Refusal,
+    pub rule: bool,
+    pub r: usize,
+    pub count: usize,
+    pub first: u32,
+    pub second: u32,
+}
+
+// How far a stage of a step came: whether it is over, and what it bound.
+pub struct Stage {
+    pub refusal: Refusal,
+    pub settled: bool,
+    pub binds: Binds,
+    pub fill: Fill,
+}
+
+// A step that needs the proofs that it refers to.
+fn plain_plan(ops: Needs) -> Plan
+    ensures { λ s. ⌜ s ≡ record { refusal = passed; rule = false; r = 0; count = ops .count; first = ops .first; second = ops .second } ⌝ }
+{
+    Plan {
+        refusal: Refusal {
+            number: 0,
+            count: 0,
+            fields: [0; 6],
+        },
+        rule: false,
+        r: 0,
+        count: ops.count,
+        first: ops.first,
+        second: ops.second,
+    }
+}
+
+// A rule's step.
+fn rule_plan(kinds: &[u32], ends: &[u32], pool: &[u32], z: Sizes, p: u32, name: u32) -> Plan
+    requires { ⌜ Ready (now kinds) (now ends) (now pool) z ⌝ }
+    requires { ⌜ p < z .proofs ⌝ }
+    requires { ⌜ RuleStep (now kinds) (now ends) (now pool) z p name ⌝ }
+    ensures { λ s. ⌜ Plans (now (kinds .entry)) (now (ends .entry)) (now (pool .entry)) z p s ⌝ }
+{
+    let rule = rule_of(kinds, ends, pool, z, name);
+    let Found::At(r) = rule else {
+        return Plan {
+            refusal: Refusal {
+                number: 32,
+                count: 1,
+                fields: [name, 0, 0, 0, 0, 0],
+            },
+            rule: true,
+            r: 0,
+            count: 0,
+            first: 0,
+            second: 0,
+        };
+    };
+    let facts = rule_facts_at(kinds, ends, pool, z, r).len();
+    let premises = premises_at(kinds, ends, pool, z, wide(p)).len();
+    if facts != premises {
+        return Plan {
+            refusal: Refusal {
+                number: 27,
+                count: 4,
+                fields: [p, name, facts as u32, premises as u32, 0, 0],
+            },
+            rule: true,
+            r: 0,
+            count: 0,
+            first: 0,
+            second: 0,
+        };
+    }
+    Plan {
+        refusal: Refusal {
+            number: 0,
+            count: 0,
+            fields: [0; 6],
+        },
+        rule: true,
+        r,
+        count: facts,
+        first: name,
+        second: 0,
+    }
+}
+
+// What the step of proof p takes.
+pub fn plan_step(kinds: &[u32], ends: &[u32], pool: &[u32], z: Sizes, p: u32) -> Plan
+    requires { ⌜ Ready (now kinds) (now ends) (now pool) z ⌝ }
+    requires { ⌜ p < z .proofs ⌝ }
+    ensures { λ s. ⌜ Plans (now (kinds .entry)) (now (ends .entry)) (now (pool .entry)) z p s ⌝ }
+{
+    let ops = operands(kinds, ends, pool, z, p);
+    if ops.rule {
+        return rule_plan(kinds, ends, pool, z, p, ops.name);
+    }
+    plain_plan(ops)
+}
+
+// The proof that the step's turn i walks.
+pub fn reference(
+    kinds: &[u32],
+    ends: &[u32],
+    pool: &[u32],
+    z: Sizes,
+    p: u32,
+    rule: bool,
+    r: usize,
+    first: u32,
+    second: u32,
+    count: usize,
+    i: usize,
+) -> u32
+    requires { ⌜ Ready (now kinds) (now ends) (now pool) z ⌝ }
+    requires { ⌜ p < z .proofs ⌝ }
+    requires { ⌜ Planned (now kinds) (now ends) (now pool) z p rule r first second count ⌝ }
+    requires { ⌜ i < count ⌝ }
+    ensures { λ x. ⌜ x ≡ proofOf (getD (turnsBy (now (kinds .entry)) (now (ends .entry)) (now (pool .entry)) z p rule r first second count) i noTurn) ⌝ }
+{
+    if rule {
+        let premises = premises_at(kinds, ends, pool, z, wide(p));
+        return premises[i];
+    }
+    let refs = [first, second];
+    refs[i]
+}
+
+// Fact i of a rule before its premise: normal form, and a side condition.
+fn before_premise(
+    kinds: &[u32],
+    ends: &[u32],
+    pool: &[u32],
+    z: Sizes,
+    found: &[u32],
+    globals: &[u32],
+    bound: &[u32],
+    pairs: &[u32],
+    name: u32,
+    skinds: &mut [u32],
+    sends: &mut [u32],
+    spool: &mut [u32],
+    fill: Fill,
+    memo: &mut [u32],
+    i: u32,
+) -> Stage
+    requires { ⌜ Ready (now kinds) (now ends) (now pool) z ⌝ }
+    requires { ⌜ Searched (now kinds) (now ends) (now pool) z (now found) ⌝ }
+    requires { ⌜ Stored (now skinds) (now sends) (now spool) fill ⌝ }
+    requires { ⌜ z .expressions + z .expressions < length (now memo) ⌝ }
+    requires { ⌜ Past (now memo) ⌝ }
+    requires { ⌜ i < z .facts ⌝ }
+    requires { ⌜ Sane (programFor (now kinds) (now ends) (now pool) z) (bindingsIn (now bound) (now pairs) (now globals)) (termsIn (now skinds) (now sends) (now spool) fill) ⌝ }
+    ensures does { λ c. ⌜ Checks (now (skinds .entry)) (now (sends .entry)) (now (spool .entry)) fill (now (skinds .exit)) (now (sends .exit)) (now (spool .exit)) (c .fill) (c .refusal) (boundOver (c .binds) (bindingsIn (now (bound .entry)) (now (pairs .entry)) (now (globals .entry)))) (now (memo .exit)) (beforeProof (roomOf (now (skinds .entry)) (now (spool .entry))) (programFor (now (kinds .entry)) (now (ends .entry)) (now (pool .entry)) z) (proofsFor (now (kinds .entry)) (now (ends .entry)) (now (pool .entry)) z) name (ofFact (factFor (now (kinds .entry)) (now (ends .entry)) (now (pool .entry)) z i) 0) (bindingsIn (now (bound .entry)) (now (pairs .entry)) (now (globals .entry))) (termsIn (now (skinds .entry)) (now (sends .entry)) (now (spool .entry)) fill)) ⌝ }
+    ensures over { λ c. ⌜ (c .refusal .number ≡ 0 → c .settled ≡ isContainerSideCondition (programFor (now (kinds .entry)) (now (ends .entry)) (now (pool .entry)) z) (factFor (now (kinds .entry)) (now (ends .entry)) (now (pool .entry)) z i)) ⌝ }
+    ensures kept { λ c. ⌜ (c .refusal .number ≡ 0 → Extends (termsIn (now (skinds .entry)) (now (sends .entry)) (now (spool .entry)) fill) (termsIn (now (skinds .exit)) (now (sends .exit)) (now (spool .exit)) (c .fill)) × Sane (programFor (now (kinds .entry)) (now (ends .entry)) (now (pool .entry)) z) (boundOver (c .binds) (bindingsIn (now (bound .entry)) (now (pairs .entry)) (now (globals .entry)))) (termsIn (now (skinds .exit)) (now (sends .exit)) (now (spool .exit)) (c .fill))) ⌝ }
+    ensures waits { λ c. ⌜ (c .settled ≡ false → c .binds ≡ binds.Binds.Nothing) ⌝ }
+{
+    let offence = assert_body_proof_normal_form(kinds, ends, pool, z, found, name, i);
+    if offence.number != 0 {
+        return Stage {
+            refusal: offence,
+            settled: true,
+            binds: Binds::Nothing,
+            fill,
+        };
+    }
+    if !is_container_side_condition(kinds, ends, pool, z, wide(i)) {
+        return Stage {
+            refusal: offence,
+            settled: false,
+            binds: Binds::Nothing,
+            fill,
+        };
+    }
+    let c = check_side_condition(
+        kinds,
+        ends,
+        pool,
+        z,
+        bound,
+        pairs,
+        globals,
+        name,
+        skinds,
+        sends,
+        spool,
+        fill,
+        memo,
+        i,
+    );
+    let refusal = c.refusal;
+    let binds = c.binds;
+    let after = c.fill;
+    Stage {
+        refusal,
+        settled: true,
+        binds,
+        fill: after,
+    }
+}
+
+// A stage that is over, with nothing bound.
+fn over(c: Checked) -> Stage
+    ensures { λ s. ⌜ s ≡ record { refusal = c .refusal; settled = true; binds = binds.Binds.Nothing; fill = c .fill } ⌝ }
+{
+    let refusal = c.refusal;
+    let fill = c.fill;
+    Stage {
+        refusal,
+        settled: true,
+        binds: Binds::Nothing,
+        fill,
+    }
+}
+
+// Turn i of a rule's step: a fact before its premise or after it, or the head.
+fn advance_rule(
+    kinds: &[u32],
+    ends: &[u32],
+    pool: &[u32],
+    z: Sizes,
+    found: &[u32],
+    globals: &[u32],
+    bound: &[u32],
+    skinds: &mut [u32],
+    sends: &mut [u32],
+    spool: &mut [u32],
+    fill: Fill,
+    memo: &mut [u32],
+    scratch: &mut [u32],
+    unions: &[u32],
+    p: u32,
+    r: usize,
+    name: u32,
+    second: u32,
+    count: usize,
+    i: usize,
+    walked: usize,
+) -> Stage
+    requires { ⌜ Ground (now kinds) (now ends) (now pool) z (now found) (now globals) (now skinds) (now sends) (now spool) fill (now memo) (now scratch) ⌝ }
+    requires { ⌜ p < z .proofs ⌝ }
+    requires { ⌜ Planned (now kinds) (now ends) (now pool) z p true r name second count ⌝ }
+    requires { ⌜ (true ≡ true → Sane (programFor (now kinds) (now ends) (now pool) z) (bindingsBy (now kinds) (now ends) (now pool) z p true (now bound) (now globals)) (termsIn (now skinds) (now sends) (now spool) fill)) ⌝ }
+    requires { ⌜ length (now bound) ≤ 32 ⌝ }
+    requires { ⌜ i ≤ count ⌝ }
+    ensures { λ c. ⌜ Advances (now (kinds .entry)) (now (ends .entry)) (now (pool .entry)) z (now (found .entry)) (now (globals .entry)) (now (unions .entry)) p true r name second count (now (bound .entry)) (now (skinds .entry)) (now (sends .entry)) (now (spool .entry)) fill (now (scratch .entry)) i walked (now (skinds .exit)) (now (sends .exit)) (now (spool .exit)) c (now (memo .exit)) (now (scratch .exit)) ⌝ }
+{
+    let facts = rule_facts_at(kinds, ends, pool, z, r);
+    let pairs = substitution_at(kinds, ends, pool, z, wide(p));
+    if count <= i {
+        let q = claim_at(kinds, ends, pool, z, wide(p));
+        let c = skinds.len();
+        let d = c + c;
+        return over(check_rule_produces_equality(
+            kinds,
+            ends,
+            pool,
+            z,
+            bound,
+            pairs,
+            globals,
+            skinds,
+            sends,
+            spool,
+            fill,
+            memo,
+            &mut scratch[c..d],
+            r,
+            q,
+        ));
+    }
+    if walked == 0 {
+        return before_premise(
+            kinds,
+            ends,
+            pool,
+            z,
+            found,
+            globals,
+            bound,
+            pairs,
+            name,
+            skinds,
+            sends,
+            spool,
+            fill,
+            memo,
+            facts[i],
+        );
+    }
+    let premises = premises_at(kinds, ends, pool, z, wide(p));
+    let q = claim_at(kinds, ends, pool, z, wide(premises[i]));
+    over(check_fact_matches_proposition(
+        kinds,
+        ends,
+        pool,
+        z,
+        bound,
+        pairs,
+        globals,
+        name,
+        skinds,
+        sends,
+        spool,
+        fill,
+        memo,
+        facts[i],
+        q,
+    ))
+}
+
+// Turn i of a rule's step, or the end of another.
+pub fn advance(
+    kinds: &[u32],
+    ends: &[u32],
+    pool: &[u32],
+    z: Sizes,
+    found: &[u32],
+    globals: &[u32],
+    unions: &[u32],
+    bound: &[u32],
+    skinds: &mut [u32],
+    sends: &mut [u32],
+    spool: &mut [u32],
+    fill: Fill,
+    memo: &mut [u32],
+    scratch: &mut [u32],
+    p: u32,
+    rule: bool,
+    r: usize,
+    first: u32,
+    second: u32,
+    count: usize,
+    i: usize,
+    walked: usize,
+) -> Stage
+    requires { ⌜ Ground (now kinds) (now ends) (now pool) z (now found) (now globals) (now skinds) (now sends) (now spool) fill (now memo) (now scratch) ⌝ }
+    requires { ⌜ p < z .proofs ⌝ }
+    requires { ⌜ Planned (now kinds) (now ends) (now pool) z p rule r first second count ⌝ }
+    requires { ⌜ (rule ≡ true → Sane (programFor (now kinds) (now ends) (now pool) z) (bindingsBy (now kinds) (now ends) (now pool) z p rule (now bound) (now globals)) (termsIn (now skinds) (now sends) (now spool) fill)) ⌝ }
+    requires { ⌜ length (now bound) ≤ 32 ⌝ }
+    requires { ⌜ i ≤ count ⌝ }
+    requires { ⌜ (rule ≡ false → count ≤ i) ⌝ }
+    ensures { λ c. ⌜ Advances (now (kinds .entry)) (now (ends .entry)) (now (pool .entry)) z (now (found .entry)) (now (globals .entry)) (now (unions .entry)) p rule r first second count (now (bound .entry)) (now (skinds .entry)) (now (sends .entry)) (now (spool .entry)) fill (now (scratch .entry)) i walked (now (skinds .exit)) (now (sends .exit)) (now (spool .exit)) c (now (memo .exit)) (now (scratch .exit)) ⌝ }
+{
+    if rule {
+        return advance_rule(
+            kinds,
+            ends,
+            pool,
+            z,
+            found,
+            globals,
+            bound,
+            skinds,
+            sends,
+            spool,
+            fill,
+            memo,
+            scratch,
+            unions,
+            p,
+            r,
+            first,
+            second,
+            count,
+            i,
+            walked,
+        );
+    }
+    over(conclude(
+        kinds,
+        ends,
+        pool,
+        z,
+        unions,
+        skinds,
+        sends,
+        spool,
+        fill,
+        memo,
+        scratch,
+        p,
+    ))
+}
