@@ -2,7 +2,7 @@
 use cells::wide;
 use decode::Justification;
 use load::sizes::Sizes;
-use load::words::at;
+use cell_tests::words::at;
 use program::read::justification_at;
 use program::read::premises_at;
 ghost use mathlib.Core.Path.{_≡_};

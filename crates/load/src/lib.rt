@@ -1,11 +1,7 @@
 // Loading: from a job's words to the refusal below 20, or none. Each test is that of the definitions' Load.
 pub mod bytes;
-pub mod fit;
-pub mod once;
-pub mod refer;
 pub mod sizes;
 pub mod tables;
-pub mod words;
 
 use crate::sizes::Sizes;
 use crate::sizes::cell_count;

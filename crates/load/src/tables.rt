@@ -1,13 +1,13 @@
 // The tests of a cell in its table, for each number from 6 to 9, and the first cell that fails.
-use crate::fit;
-use crate::once;
-use crate::refer;
+use cell_tests::fit;
+use cell_tests::once;
+use cell_tests::refer;
 use crate::sizes::Sizes;
 use crate::sizes::cell_count;
 use crate::sizes::counts;
-use crate::words::all_below;
-use crate::words::at;
-use crate::words::rest;
+use cell_tests::words::all_below;
+use cell_tests::words::at;
+use cell_tests::words::rest;
 use cells::Fill;
 use cells::Found;
 use cells::same_words;

@@ -32,7 +32,7 @@ use Rattle.decode.specs.declared.Term.{Term as TermView}
 use Rattle.decode.specs.declared.Merge.{Merge}
 use Rattle.load.specs.Held.{sizesIn, tablesFor, cellHeld, countsOf, firstFound}
 use Rattle.load.specs.declared.sizes.Sizes.{Sizes}
-use Rattle.load.proofs.Laws.{pair-at, pairs-end}
+use Rattle.cell_tests.proofs.Laws.{pair-at, pairs-end}
 use Rattle.load.proofs.TableLaws.{part-at, table-length, held-cell}
 use Rattle.program.specs.Ready.{Ready, firstNamed, ruleAt}
 

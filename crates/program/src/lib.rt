@@ -17,7 +17,7 @@ use decode::row_arguments;
 use decode::rule_name;
 use load::sizes::Sizes;
 use load::tables::fill;
-use load::words::at;
+use cell_tests::words::at;
 ghost use mathlib.Core.Path.{_≡_};
 ghost use mathlib.Core.List.{List, []};
 ghost use mathlib.Core.Option.{some};

@@ -1,4 +1,4 @@
-use Rattle.load.proofs.Laws.{no-substitution}
+use Rattle.cell_tests.proofs.Laws.{no-substitution}
 use mathlib.Core.Path.{_≡_, refl, sym, ap, _∙_}
 use mathlib.Core.List.{List}
 use Rattle.model.specs.Program.{Binding}

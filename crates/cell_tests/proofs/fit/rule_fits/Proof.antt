@@ -1,0 +1,22 @@
+use borrow.Author.Needs.{needs}
+use Rattle.cell_tests.proofs.fit.rule_fits.Statement.{statement}
+use Rattle.cell_tests.proofs.fit.rule_fits.Tie as tie
+
+at-requires : tie.Need-at-requires
+at-requires c κs = search needs
+
+wide-requires : tie.Need-wide-requires
+wide-requires c κs = search needs
+
+rest-requires : tie.Need-rest-requires
+rest-requires c κs = search needs
+
+rest-requires-2 : tie.Need-rest-requires-2
+rest-requires-2 c κs = search needs
+
+returns : tie.Need-returns
+returns c = rw (c .rest2 .ensures, c .before .rest .ensures, c .before .before .wide .ensures, c .before .before .before .at .ensures)
+
+pub rule-fits-spec : {M : Type 1} → statement M
+rule-fits-spec =
+    tie.close (tie.spec at-requires wide-requires rest-requires rest-requires-2 returns)
