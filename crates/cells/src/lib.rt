@@ -26,6 +26,12 @@ pub struct Added {
     pub fill: Fill,
 }
 
+// What entering a cell gives beside the fill, which is lent: its number, and whether the table was full.
+pub struct Entered {
+    pub number: u32,
+    pub full: bool,
+}
+
 pub fn wide(x: u32) -> usize
     ensures { λ r. ⌜ r ≡ x ⌝ }
 {
@@ -193,7 +199,7 @@ pub fn append(
 }
 
 // The number of an equal cell, else of the cell appended. The cell near is looked at first, whichever that is.
-pub fn add(
+fn add_by_value(
     kinds: &mut [u32],
     ends: &mut [u32],
     pool: &mut [u32],
@@ -214,5 +220,53 @@ pub fn add(
             fill,
         },
         Found::Nothing => append(kinds, ends, pool, fill, kind, ws),
+    }
+}
+
+// The same with the fill lent: its two counters are raised as the cell enters.
+pub fn enter(
+    kinds: &mut [u32],
+    ends: &mut [u32],
+    pool: &mut [u32],
+    fill: &mut Fill,
+    near: u32,
+    kind: u32,
+    ws: &[u32],
+) -> Entered
+    requires { ⌜ Formed (now kinds) (now ends) (now pool) (now fill) ⌝ }
+    requires { ⌜ Once (cellsOf (now kinds) (now ends) (now pool) (now fill .cells)) ⌝ }
+    ensures { λ r. ⌜ Ran (now (kinds .entry)) (now (ends .entry)) (now (pool .entry)) (now (fill .entry)) (now (kinds .exit)) (now (ends .exit)) (now (pool .exit)) (record { number = r .number; full = r .full; fill = now (fill .exit) }) (addCell (record { kind = kind; words = now (ws .entry) }) (tableOf (now (kinds .entry)) (now (ends .entry)) (now (pool .entry)) (now (fill .entry)))) ⌝ }
+{
+    let cells = fill.cells;
+    let words = fill.words;
+    let a = add_by_value(kinds, ends, pool, Fill { cells, words }, near, kind, ws);
+    fill.cells = a.fill.cells;
+    fill.words = a.fill.words;
+    Entered {
+        number: a.number,
+        full: a.full,
+    }
+}
+
+// The same with the fill by value, for callers with plain parameters: a copy is lent.
+pub fn add(
+    kinds: &mut [u32],
+    ends: &mut [u32],
+    pool: &mut [u32],
+    fill: Fill,
+    near: u32,
+    kind: u32,
+    ws: &[u32],
+) -> Added
+    requires { ⌜ Formed (now kinds) (now ends) (now pool) fill ⌝ }
+    requires { ⌜ Once (cellsOf (now kinds) (now ends) (now pool) (fill .cells)) ⌝ }
+    ensures { λ r. ⌜ Ran (now (kinds .entry)) (now (ends .entry)) (now (pool .entry)) fill (now (kinds .exit)) (now (ends .exit)) (now (pool .exit)) r (addCell (record { kind = kind; words = now (ws .entry) }) (tableOf (now (kinds .entry)) (now (ends .entry)) (now (pool .entry)) fill)) ⌝ }
+{
+    let mut f = fill;
+    let e = enter(kinds, ends, pool, &mut f, near, kind, ws);
+    Added {
+        number: e.number,
+        full: e.full,
+        fill: f,
     }
 }
