@@ -8,12 +8,12 @@ use native.Mathlib.Omega.{arith}
 use lib.ListN.{length, getD, set, drop, length-set}
 use lib.Seq.{drop-cons, getD-set-same, getD-set-other, drop-set-lt}
 use Rattle.model.specs.Decode.{readBindings}
-use Rattle.model.specs.Term.{Term}
+use Rattle.model.specs.Term.{Term, Extends}
 use Rattle.model.specs.Program.{Expr, Proposition, Binding, Program, Action, bind, union, run, idle}
 use Rattle.model.specs.Check.{Outcome, ok, refused, Check, andThen, pure, _>>=_, Room}
 use Rattle.model.specs.Evaluate.{same, Value, evalExpr}
 use Rattle.model.specs.Action.{ActionContext, processAction, sameProposition, among}
-use Rattle.model.proofs.Store.{Extends, extends-same, extends-then}
+use Rattle.model.proofs.Store.{extends-same, extends-then}
 use Rattle.cells.specs.declared.Fill.{Fill}
 use Rattle.decode.specs.View.{actionOf}
 use Rattle.decode.specs.declared.Action as view
@@ -23,7 +23,8 @@ use Rattle.outcome.specs.Does.{passed, Grown, Does}
 use Rattle.outcome.specs.declared.Refusal.{Refusal}
 use Rattle.outcome.specs.declared.Checked.{Checked}
 use Rattle.outcome.proofs.Laws.{does-here, does-then, does-stop, does-map}
-use Rattle.marks.proofs.Marking.{Marks, marks-same}
+use Rattle.marks.specs.Covering.{Marks}
+use Rattle.marks.proofs.Marking.{marks-same}
 use Rattle.load.specs.declared.sizes.Sizes.{Sizes}
 use Rattle.program.specs.Ready.{Ready, programFor}
 use Rattle.evaluate.specs.Evaluation.{Sane}

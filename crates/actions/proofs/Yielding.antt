@@ -21,7 +21,8 @@ use Rattle.outcome.specs.Does.{refusalOf, outcomeOf, Grown, Does}
 use Rattle.outcome.specs.declared.Refusal.{Refusal}
 use Rattle.outcome.specs.declared.Checked.{Checked}
 use Rattle.outcome.proofs.Laws.{ok-of, refused-of}
-use Rattle.marks.proofs.Marking.{Marks, marks-extends, marks-adds}
+use Rattle.marks.specs.Covering.{Marks}
+use Rattle.marks.proofs.Marking.{marks-extends, marks-adds}
 use Rattle.marks.proofs.Laws.{terms-length}
 use Rattle.load.specs.declared.sizes.Sizes.{Sizes}
 use Rattle.program.specs.Ready.{Ready, programFor}

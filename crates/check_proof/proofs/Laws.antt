@@ -8,14 +8,14 @@ use lib.Dec.{eqb, lit<}
 use lib.ListN.{length, getD, take, drop, length-map, length-drop, length-append, drop-of-length-le}
 use lib.Seq.{getD-drop, take-take, take-at, drop-at, length-take-le}
 use borrow.Rule.Slice.PartMut.{midOf, putMid, same-len-mid, take-put}
-use Rattle.model.specs.Term.{Term}
+use Rattle.model.specs.Term.{Term, Extends}
 use Rattle.model.specs.Program as program
 use Rattle.model.specs.Program.{Binding, Program, Proof}
 use Rattle.model.specs.Decode.{readBindings, readProof}
 use Rattle.model.specs.Check.{Outcome, Check, andThen, _>>=_, pure, Room}
 use Rattle.model.specs.Action.{ActionContext}
 use Rattle.model.specs.Walk.{claimAt, newContext, checkProofWithContext, checkProof}
-use Rattle.model.proofs.Store.{Extends, extends-then}
+use Rattle.model.proofs.Store.{extends-then}
 use Rattle.cells.specs.declared.Fill.{Fill}
 use Rattle.cells.proofs.Laws.{to-end}
 use Rattle.termdag.specs.Store.{termsIn, roomOf}

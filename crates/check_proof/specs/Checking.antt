@@ -2,8 +2,7 @@
 use Prim.Native.Nat.{ℕ, _+_, _≤_}
 use mathlib.Core.List.{List, [], map}
 use lib.ListN.{length}
-use Rattle.model.specs.Term.{readTerm}
-use Rattle.model.proofs.Store.{Extends}
+use Rattle.model.specs.Term.{readTerm, Extends}
 use Rattle.cells.specs.declared.Fill.{Fill}
 use Rattle.termdag.specs.Store.{termsIn, Stored}
 use Rattle.load.specs.Held.{tablesFor}

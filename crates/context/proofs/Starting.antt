@@ -10,7 +10,7 @@ use lib.Dec.{ltb}
 use lib.ListN.{length, take, drop, drop-of-length-le}
 use lib.Seq.{drop-cons}
 use borrow.Author.Tests.{ltb-false}
-use Rattle.model.specs.Term.{Term}
+use Rattle.model.specs.Term.{Term, Extends}
 use Rattle.model.specs.Program.{nameGlobalActions, Proposition, Binding, Program, Action, idle}
 use Rattle.model.specs.Layout.{sizesOf, tablesOf}
 use Rattle.model.specs.Decode.{readBindings, readProgram}
@@ -18,7 +18,7 @@ use Rattle.model.specs.Check.{Outcome, ok, refused, Check, andThen, Room}
 use Rattle.model.specs.Action.{ActionContext, startContext, processAction, processActions, among}
 use Rattle.model.specs.Load.{Lent, tooLarge, refusedIf, loadTests, loadRefusal}
 use Rattle.model.specs.Walk.{duplicateRuleName, noDuplicate, newContext}
-use Rattle.model.proofs.Store.{Extends, extends-same, extends-then}
+use Rattle.model.proofs.Store.{extends-same, extends-then}
 use Rattle.model.proofs.Valid.{length-tabulate, pass}
 use Rattle.model.proofs.Tests.{or-left, or-right}
 use Rattle.cells.specs.declared.Fill.{Fill}
@@ -28,7 +28,8 @@ use Rattle.outcome.specs.Does.{passed, refusal, Grown, Does}
 use Rattle.outcome.specs.declared.Refusal.{Refusal}
 use Rattle.outcome.proofs.Laws.{grown-same, grown-then, room-same, ok-of, refused-of, does-here, does-stop}
 use Rattle.marks.specs.Marks.{close}
-use Rattle.marks.proofs.Marking.{Marks, marks-closed}
+use Rattle.marks.specs.Covering.{Marks}
+use Rattle.marks.proofs.Marking.{marks-closed}
 use Rattle.marks.proofs.Laws.{terms-length}
 use Rattle.load.specs.Held.{sizesIn}
 use Rattle.load.specs.declared.sizes.Sizes.{Sizes}

@@ -10,12 +10,12 @@ use Rattle.model.specs.Decode.{readBindings}
 use Rattle.model.specs.Evaluate.{same}
 use Rattle.model.specs.Action.{ActionContext, startContext, processAction, processActions, sameProposition, among}
 use Rattle.model.specs.Walk.{newContext}
-use Rattle.model.proofs.Store.{Extends}
+use Rattle.model.specs.Term.{Extends}
 use Rattle.cells.specs.declared.Fill.{Fill}
 use Rattle.termdag.specs.Store.{termsIn, roomOf}
 use Rattle.memo.specs.Memo.{Past}
 use Rattle.outcome.specs.Does.{Does}
-use Rattle.marks.proofs.Marking.{Marks}
+use Rattle.marks.specs.Covering.{Marks}
 use Rattle.load.specs.declared.sizes.Sizes.{Sizes}
 use Rattle.evaluate.specs.Evaluation.{Sane}
 use Rattle.actions.specs.Acting.{effectHas}

@@ -23,7 +23,7 @@ ghost use Rattle.decode.specs.View.{propositionOf};
 ghost use Rattle.termdag.specs.Store.{termsIn};
 ghost use Rattle.program.specs.Ready.{programFor};
 ghost use Rattle.program.specs.Read.{actionFor};
-ghost use Rattle.marks.proofs.Marking.{Marks};
+ghost use Rattle.marks.specs.Covering.{Marks};
 ghost use Rattle.actions.specs.Acting.{Standing};
 ghost use Rattle.context.specs.Contexts.{Few, unionsHave, Even, Joined, GlobalPairs, Turned, Collected, Context};
 

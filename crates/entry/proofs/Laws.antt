@@ -4,13 +4,13 @@ use mathlib.Core.List.{List, map}
 use Prim.Native.Nat.{ℕ, zero, suc, _<_, _^_}
 use native.Mathlib.Omega.{arith}
 use lib.ListN.{length, getD}
-use Rattle.model.specs.Term.{readTerm}
+use Rattle.model.specs.Term.{readTerm, Extends}
 use Rattle.model.specs.Program.{Proof}
 use Rattle.model.specs.Layout.{Tables, kindsOf, endsOf, poolOf}
 use Rattle.model.specs.Decode.{readJob}
 use Rattle.model.specs.Walk.{claimAt, checkProof}
 use Rattle.model.specs.Answer.{height, refusalWords, left, lentBy, entry}
-use Rattle.model.proofs.Store.{Extends, extends-same}
+use Rattle.model.proofs.Store.{extends-same}
 use Rattle.decode.specs.declared.Proposition.{Proposition}
 use Rattle.cells.specs.declared.Fill.{Fill}
 use Rattle.termdag.specs.Store.{termsIn, roomOf}

@@ -1,6 +1,6 @@
 -- One check after another, with the memo; and evaluation as a check.
-use mathlib.Core.Path.{_≡_, refl, sym, ap, subst, _∙_}
-use mathlib.Core.Bool.{Bool, true, false}
+use mathlib.Core.Path.{_≡_, refl, subst}
+use mathlib.Core.Bool.{true, false}
 use mathlib.Core.List.{List}
 use Prim.Native.Nat.{ℕ}
 use Rattle.model.specs.Term.{Term}
@@ -14,10 +14,7 @@ use Rattle.outcome.specs.Does.{outcomeOf, Does}
 use Rattle.outcome.specs.declared.Refusal.{Refusal}
 use Rattle.outcome.specs.declared.Checked.{Checked}
 use Rattle.outcome.proofs.Laws.{does-here, does-then, does-stop}
-use Rattle.load.specs.declared.sizes.Sizes.{Sizes}
-use Rattle.program.specs.Ready.{programFor}
-use Rattle.program.specs.Read.{exprFor, argumentsFor}
-use Rattle.evaluate.specs.Value.{termOutcome, valueOf, valueFor}
+use Rattle.evaluate.specs.Value.{termOutcome, valueOf}
 use Rattle.evaluate.specs.Evaluation.{EvaluatesRoot, Checks}
 
 -- one after the other

@@ -3,18 +3,18 @@ use mathlib.Core.Path.{_≡_, refl, sym, ap, subst, _∙_}
 use mathlib.Core.Bool.{Bool, true, false, cond}
 use mathlib.Core.List.{List, [], _∷_, _++_}
 use mathlib.Core.Option.{Option, none, some}
-use Prim.Native.Nat.{ℕ, zero, suc, _<_}
+use Prim.Native.Nat.{ℕ, _<_}
 use lib.Dec.{eqb}
 use Rattle.model.specs.Term.{Term, lit, app}
 use Rattle.model.specs.Program.{Binding, Program, Primitive}
 use Rattle.model.specs.Decode.{readBindings}
-use Rattle.model.specs.Check.{Outcome, ok, refused, Check, andThen, firstOf, orRefuse, Room, addNode}
+use Rattle.model.specs.Check.{Outcome, ok, refused, Check, firstOf, orRefuse, Room, addNode}
 use Rattle.model.specs.Evaluate.{lookup, primitiveAt, rowValue, validate, validatedBy, validated}
 use Rattle.cells.specs.declared.Fill.{Fill}
 use Rattle.decode.specs.View.{literalOf, headOf}
 use Rattle.decode.specs.declared.Head as view
-use Rattle.termdag.specs.Store.{termsIn, Stored, roomOf}
-use Rattle.outcome.specs.Does.{passed, refusal, outcomeBy, outcomeOf, Does}
+use Rattle.termdag.specs.Store.{termsIn, Stored}
+use Rattle.outcome.specs.Does.{passed, refusal, outcomeOf, Does}
 use Rattle.outcome.specs.declared.Checked.{Checked}
 use Rattle.outcome.specs.declared.Refusal.{Refusal}
 use native.Mathlib.Omega.{arith}

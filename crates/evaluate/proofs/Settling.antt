@@ -4,25 +4,16 @@ use mathlib.Core.Path.{_≡_, refl, ap, _∙_}
 use mathlib.Core.List.{List, [], _∷_, _++_}
 use mathlib.Core.Bool.{Bool, true, false, cond}
 use lib.ListN.{length}
-use Rattle.model.specs.Term.{Term, lit, app}
+use Rattle.model.specs.Term.{Term, lit, app, Extends}
 use Rattle.model.specs.Program.{Head, literal, variable, constructor, custom, primitive, Expr, node, Exprs, nil, cons, Proposition, Binding, Program}
-use Rattle.model.specs.Check.{Outcome, ok, refused, Check, andThen, _>>=_, pure, orRefuse, Room, addNode}
+use Rattle.model.specs.Check.{Outcome, ok, refused, andThen, _>>=_, pure, orRefuse, Room, addNode}
 use Rattle.model.specs.Evaluate.{lookup, primitiveAt, validated, validatedBy, Value, Values, valued, headValue, evalExpr, evalExprs, factHeadValue, evalFactExpr, evalFactExprs}
 use Rattle.model.proofs.Post.{Nonzero, Post, post-ok, post-map, post-bind, post-result}
-use Rattle.model.proofs.Store.{Extends}
+use Rattle.model.proofs.Sequence.{then-same}
 use Rattle.model.proofs.Again as again
 use Rattle.model.proofs.Again.{Settled, settled-pure, settled-or, settled-then, added, validated-settled, eval-settled}
 use Rattle.evaluate.specs.Value.{termOutcome, valueOf, customTerm, headTerm, evalTerm, evalTerms}
 use Rattle.evaluate.specs.Evaluation.{Sane}
-
--- checks that agree, one after the other
-module _ {A B : Type 0} where
-  then-same : {o o′ : Outcome A} {f g : A → Check B} → o ≡ o′ → ((a : A) (s : List Term) → f a s ≡ g a s) → andThen o f ≡ andThen o′ g
-  then-same {o} {o′} {f} {g} e h = ap (λ (x : Outcome A). andThen x f) e ∙ go o′
-    where
-      go : (x : Outcome A) → andThen x f ≡ andThen x g
-      go (ok a s) = h a s
-      go (refused r s) = refl
 
 -- values' terms alone
 abbrev termsOutcome : Outcome Values → Outcome (List ℕ)

@@ -9,12 +9,12 @@ use native.Mathlib.Omega.{arith}
 use lib.Dec.{eqb}
 use borrow.Author.Tests.{eqb-true, eqb-false}
 use lib.ListN.{length, getD, set, take, length-set}
-use Rattle.model.specs.Term.{Term}
+use Rattle.model.specs.Term.{Term, Extends}
 use Rattle.model.specs.Program.{Head, Expr, node, Binding, Program}
 use Rattle.model.specs.Decode.{argumentsBy}
 use Rattle.model.specs.Check.{Outcome, ok, refused, Check, andThen, Room}
 use Rattle.model.proofs.Post.{post-result}
-use Rattle.model.proofs.Store.{Extends, extends-same}
+use Rattle.model.proofs.Store.{extends-same}
 use Rattle.cells.specs.declared.Fill.{Fill}
 use Rattle.termdag.specs.Store.{termsIn, Stored, roomOf}
 use Rattle.memo.specs.Memo.{valueAt, isNoted, noteAt, Started}

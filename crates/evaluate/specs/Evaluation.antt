@@ -5,10 +5,9 @@ use mathlib.Core.Logic.{_⊎_}
 use mathlib.Core.List.{List, List·Memᴰ}
 use mathlib.Core.Bool.{true}
 use lib.ListN.{length}
-use Rattle.model.specs.Term.{Term}
+use Rattle.model.specs.Term.{Term, Ordered}
 use Rattle.model.specs.Program.{Binding, Row, Program}
 use Rattle.model.specs.Check.{Outcome, ok, Check, Room}
-use Rattle.model.proofs.Store.{Ordered}
 use Rattle.termdag.specs.Store.{termsIn, roomOf}
 use Rattle.memo.specs.Memo.{valueAt, isNoted, Past}
 use Rattle.outcome.specs.Does.{Does}

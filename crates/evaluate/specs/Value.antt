@@ -3,7 +3,7 @@ use Prim.Native.Nat.{ℕ}
 use mathlib.Core.Path.{_≡_}
 use mathlib.Core.List.{List, [], _∷_, _++_, List·Memᴰ}
 use mathlib.Core.Bool.{Bool, true, false, cond}
-use Rattle.model.specs.Term.{Term, lit, app}
+use Rattle.model.specs.Term.{lit, app}
 use Rattle.model.specs.Program.{Head, literal, variable, constructor, custom, primitive, Expr, node, Exprs, nil, cons, Binding, Program}
 use Rattle.model.specs.Decode.{readBindings}
 use Rattle.model.specs.Check.{Outcome, ok, refused, Check, _>>=_, pure, refuse, orRefuse, Room, addNode}

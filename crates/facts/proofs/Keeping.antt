@@ -8,13 +8,13 @@ use Prim.Native.Nat.{ℕ, _<_, _≤_}
 use native.Mathlib.Omega.{arith}
 use lib.Dec.{eqb}
 use lib.ListN.{length}
-use Rattle.model.specs.Term.{Term, app}
+use Rattle.model.specs.Term.{Term, app, Extends, Below, Ordered}
 use Rattle.model.specs.Program.{variable, Expr, node, Exprs, nil, cons, Fact, equal, bare, Proposition, Binding, Program}
 use Rattle.model.specs.Check.{Outcome, orRefuse, pure, Room}
 use Rattle.model.specs.Evaluate.{lookup, evalExpr, evalFactExpr, evalFactExprs}
 use Rattle.model.specs.Fact.{FunctionFact, headOf, variableOf, argsOf, functionFact, bindOutput, compareSides, evalSideBy, checkSideCondition, wantedEquality, wanted, matchesEquality, matches, checkFactMatchesProposition}
 use Rattle.model.proofs.Post.{Post, post-ok, post-map, post-bind, post-result, or-bind, that-bind, post-that}
-use Rattle.model.proofs.Store.{Extends, extends-same, extends-then, extends-length, Below, Ordered}
+use Rattle.model.proofs.Store.{extends-same, extends-then, extends-length}
 use Rattle.model.proofs.Again.{added}
 use Rattle.evaluate.specs.Value.{termOutcome, headTerm, evalTerm, evalTerms}
 use Rattle.evaluate.specs.Evaluation.{Sane}

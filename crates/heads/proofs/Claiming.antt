@@ -8,13 +8,12 @@ use lib.Dec.{eqb, ltb}
 use borrow.Author.Tests.{eqb-true, eqb-false}
 use lib.ListN.{length, getD}
 use Rattle.model.specs.Cell.{noCell}
-use Rattle.model.specs.Term.{Term}
+use Rattle.model.specs.Term.{Term, Extends}
 use Rattle.model.specs.Program.{Proposition, Binding, Program, Action, Rule}
 use Rattle.model.specs.Decode.{ruleActions}
 use Rattle.model.specs.Check.{Outcome, Check, andThen, checkThat, Room}
 use Rattle.model.specs.Evaluate.{same}
 use Rattle.model.specs.Action.{ActionContext, startContext, processActions, among, checkRuleProducesEquality}
-use Rattle.model.proofs.Store.{Extends}
 use Rattle.cells.specs.declared.Fill.{Fill}
 use Rattle.termdag.specs.Store.{termsIn, Stored, roomOf}
 use Rattle.outcome.specs.Does.{outcomeOf, Does}
@@ -22,7 +21,8 @@ use Rattle.outcome.specs.declared.Refusal.{Refusal}
 use Rattle.outcome.specs.declared.Checked.{Checked}
 use Rattle.outcome.proofs.Laws.{does-here, does-then, does-stop}
 use Rattle.marks.specs.Marks.{zeros, close}
-use Rattle.marks.proofs.Marking.{Marks, marks-cleared, marks-closed}
+use Rattle.marks.specs.Covering.{Marks}
+use Rattle.marks.proofs.Marking.{marks-cleared, marks-closed}
 use Rattle.marks.proofs.Laws.{terms-length}
 use Rattle.load.specs.Held.{tablesFor}
 use Rattle.load.specs.declared.sizes.Sizes.{Sizes}

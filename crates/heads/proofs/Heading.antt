@@ -11,13 +11,13 @@ use lib.ListN.{length, getD, take, drop, drop-of-length-le}
 use lib.Seq.{drop-cons, drop-at, length-take-le}
 use Rattle.cells.specs.Table.{put}
 use Rattle.cells.proofs.Laws.{to-end}
-use Rattle.model.specs.Term.{Term}
+use Rattle.model.specs.Term.{Term, Extends}
 use Rattle.model.specs.Program.{Proposition, Binding, Program, Action, Rule}
 use Rattle.model.specs.Decode.{readBindings}
 use Rattle.model.specs.Check.{Outcome, ok, refused, Check, andThen, checkThat, Room}
 use Rattle.model.specs.Evaluate.{same}
 use Rattle.model.specs.Action.{ActionContext, startContext, processAction, processActions, among, checkRuleProducesEquality}
-use Rattle.model.proofs.Store.{Extends, extends-same, extends-then, extends-length}
+use Rattle.model.proofs.Store.{extends-same, extends-then, extends-length}
 use Rattle.cells.specs.declared.Fill.{Fill}
 use Rattle.termdag.specs.Store.{termsIn, Stored, roomOf}
 use Rattle.memo.specs.Memo.{Past}
@@ -26,7 +26,8 @@ use Rattle.outcome.specs.declared.Refusal.{Refusal}
 use Rattle.outcome.specs.declared.Checked.{Checked}
 use Rattle.outcome.proofs.Laws.{ok-of, refused-of, grown-same, grown-then, room-same, does-here, does-then, does-stop}
 use Rattle.marks.specs.Marks.{zeros, close}
-use Rattle.marks.proofs.Marking.{Marks, marks-cleared, marks-closed}
+use Rattle.marks.specs.Covering.{Marks}
+use Rattle.marks.proofs.Marking.{marks-cleared, marks-closed}
 use Rattle.marks.proofs.Laws.{terms-length}
 use Rattle.load.specs.declared.sizes.Sizes.{Sizes}
 use Rattle.program.specs.Ready.{Ready, programFor}

@@ -4,18 +4,17 @@ use mathlib.Core.Path.{_≡_}
 use mathlib.Core.List.{List, []}
 use mathlib.Core.Bool.{Bool, true, false}
 use lib.ListN.{length}
-use Rattle.model.specs.Term.{Term}
+use Rattle.model.specs.Term.{Term, Extends}
 use Rattle.model.specs.Program.{Proposition, Binding, Program, Action, Rule}
 use Rattle.model.specs.Check.{Room}
 use Rattle.model.specs.Action.{ActionContext, startContext, processActions, among, checkRuleProducesEquality}
-use Rattle.model.proofs.Store.{Extends}
 use Rattle.termdag.specs.Store.{termsIn, roomOf}
 use Rattle.cells.specs.declared.Fill.{Fill}
 use Rattle.memo.specs.Memo.{Past}
 use Rattle.outcome.specs.Does.{Does}
 use Rattle.outcome.specs.declared.Checked.{Checked}
 use Rattle.marks.specs.Marks.{zeros}
-use Rattle.marks.proofs.Marking.{Marks}
+use Rattle.marks.specs.Covering.{Marks}
 use Rattle.evaluate.specs.Evaluation.{Sane, Checks}
 use Rattle.heads.specs.declared.Headed.{Headed}
 

@@ -4,28 +4,17 @@ use native.Mathlib.Omega.{arith}
 use native.Mathlib.Nat.{not-suc-le-zero}
 use mathlib.Core.Path.{_≡_, refl, subst, _∙_}
 use mathlib.Core.Logic.{_⊎_, inl, inr, _↔_}
-use mathlib.Core.List.{List, [], _∷_, _++_, List·Memᴰ, List·Memᴰ·head, List·Memᴰ·tail, List·Memᴰ·not-nil, List·Memᴰ·cases-cons}
+use mathlib.Core.List.{List, [], _∷_, List·Memᴰ, List·Memᴰ·head, List·Memᴰ·tail, List·Memᴰ·not-nil, List·Memᴰ·cases-cons}
 use mathlib.Core.Bool.{Bool, true, false}
 use lib.ListN.{length, getD, set, length-set, List·getD-eq-default}
 use lib.Seq.{getD-set-same, getD-set-other}
 use lib.Dec.{eqb, ltb}
 use borrow.Author.Tests.{ltb-true, ltb-false, lt-ltb, eqb-true, eqb-false}
-use Rattle.model.specs.Term.{Term, getTerm}
+use Rattle.model.specs.Term.{Term, getTerm, Ordered}
 use Rattle.model.specs.Evaluate.{children}
-use Rattle.model.proofs.Store.{Ordered}
 use Rattle.model.proofs.Again.{child-lower}
 use Rattle.marks.specs.Marks.{zeros, markAll, closeAt, close}
-use Rattle.marks.proofs.Subterms.{Under, here, down}
-
--- a term is marked
-abbrev pub Marked : List ℕ → ℕ → Type 0
-Marked m t = 0 < getD m t 0
-
--- a term is marked or has a marked term above it
-pub record Covered (s : List Term) (m : List ℕ) (x : ℕ) : Type 0 where
-  pub root : ℕ
-  pub marked : Marked m root
-  pub under : Under s x root
+use Rattle.marks.specs.Covering.{Under, here, down, Marked, Covered}
 
 pub marked-inside : (m : List ℕ) (t : ℕ) → Marked m t → t < length m
 marked-inside m t h = go (ltb t (length m)) refl
@@ -39,11 +28,6 @@ pub zeros-at : (n t : ℕ) → getD (zeros n) t 0 ≡ 0
 zeros-at zero t = refl
 zeros-at (suc n) zero = refl
 zeros-at (suc n) (suc t) = zeros-at n t
-
-pub append-zeros : (m zs : List ℕ) → ((i : ℕ) → getD zs i 0 ≡ 0) → (t : ℕ) → getD (m ++ zs) t 0 ≡ getD m t 0
-append-zeros [] zs z t = z t
-append-zeros (w ∷ m) zs z zero = refl
-append-zeros (w ∷ m) zs z (suc t) = append-zeros m zs z t
 
 -- one term marked
 pub set-marked : (m : List ℕ) (t : ℕ) → t < length m → Marked (set m t 1) t
@@ -114,11 +98,6 @@ at-keeps s i m true t h = all-keeps (children (getTerm s i)) m t h
 at-keeps s i m false t h = h
 
 -- closing
-pub length-close : (s : List Term) (n : ℕ) (m : List ℕ) → length (close s n m) ≡ length m
-unfolding close
-length-close s zero m = refl
-length-close s (suc i) m = length-close s i _ ∙ at-length s i m (ltb 0 (getD m i 0))
-
 pub close-keeps : (s : List Term) (n : ℕ) (m : List ℕ) (t : ℕ) → Marked m t → Marked (close s n m) t
 unfolding close
 close-keeps s zero m t h = h

@@ -8,20 +8,15 @@ use mathlib.Core.Bool.{Bool, true, false}
 use lib.ListN.{length, getD}
 use lib.Dec.{ltb}
 use borrow.Author.Tests.{ltb-true, lt-ltb}
-use Rattle.model.specs.Term.{Term}
+use Rattle.model.specs.Term.{Term, Extends, Ordered}
 use Rattle.model.specs.Program.{Proposition}
 use Rattle.model.specs.Evaluate.{same}
 use Rattle.model.specs.Action.{among}
-use Rattle.model.proofs.Store.{Extends, extends-length, Ordered}
+use Rattle.model.proofs.Store.{extends-length}
 use Rattle.marks.specs.Marks.{zeros, close}
 use Rattle.marks.proofs.Subterms.{under-extends, under-back, among-member, member-among}
-use Rattle.marks.proofs.Closing.{Marked, Covered, zeros-at, close-is}
-
--- marks that stand for the reflexive pairs ps
-pub record Marks (s : List Term) (m : List ℕ) (ps : List Proposition) : Type 0 where
-  pub inside : (t : ℕ) → Marked m t → t < length s
-  pub sound : (x : ℕ) → Covered s m x → List·Memᴰ (same x) ps
-  pub complete : (x : ℕ) → List·Memᴰ (same x) ps → Covered s m x
+use Rattle.marks.specs.Covering.{Marked, Covered, Marks}
+use Rattle.marks.proofs.Closing.{zeros-at, close-is}
 
 -- what a step did to the marks: m′ stands for what m stood for and for the reflexive pairs ps
 pub record AddsMarks (s : List Term) (m m′ : List ℕ) (ps : List Proposition) : Type 0 where

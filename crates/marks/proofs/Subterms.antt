@@ -9,18 +9,14 @@ use mathlib.Core.Bool.{Bool, true, false, _||_}
 use mathlib.Core.Option.{Option}
 use lib.ListN.{length}
 use lib.Dec.{eqb}
-use Rattle.model.specs.Term.{Term, getTerm}
+use Rattle.model.specs.Term.{Term, getTerm, Extends, Ordered}
 use Rattle.model.specs.Program.{Proposition}
 use Rattle.model.specs.Evaluate.{children, concatMap, subtermsIn, same, reflexive}
 use Rattle.model.specs.Action.{sameProposition, among}
 use Rattle.model.proofs.Tests.{or-cases, eq-of, eqb-same, and-left, and-right, never}
-use Rattle.model.proofs.Store.{Extends, Ordered, get-extends}
+use Rattle.model.proofs.Store.{get-extends}
 use Rattle.model.proofs.Again.{child-lower}
-
--- x is t or a subterm of it
-pub data Under (s : List Term) (x : ℕ) : ℕ → Type 0 where
-  here : {t : ℕ} → x ≡ t → Under s x t
-  down : {t c : ℕ} → List·Memᴰ c (children (getTerm s t)) → Under s x c → Under s x t
+use Rattle.marks.specs.Covering.{Under, here, down}
 
 concat-in : (g : ℕ → List ℕ) (c x : ℕ) (xs : List ℕ) → List·Memᴰ c xs → List·Memᴰ x (g c) → List·Memᴰ x (concatMap g xs)
 concat-in g c x [] m k = absurd (List·Memᴰ·not-nil m)

@@ -9,13 +9,13 @@ use mathlib.Core.Option.{Option, none, some, Option·none-ne-some, Option·some-
 use lib.ListN.{length}
 use lib.Dec.{eqb}
 use Rattle.model.specs.Cell.{sameWords}
-use Rattle.model.specs.Term.{Term, lit, var, app, getTerm}
+use Rattle.model.specs.Term.{Term, lit, var, app, getTerm, Extends, Below, Ordered}
 use Rattle.model.specs.Program.{Head, literal, variable, constructor, custom, primitive, Expr, node, Exprs, nil, cons, Proposition, Binding, Row, Program}
 use Rattle.model.specs.Check.{Outcome, ok, Check, andThen, _>>=_, pure, orRefuse, Room, addNode}
 use Rattle.model.specs.Evaluate.{lookup, primitiveAt, rowValue, validate, validatedBy, children, concatMap, subtermsIn, same, reflexive, Value, Values, valued, headValue, evalExpr, evalExprs}
 use Rattle.model.proofs.Post.{Nonzero, Post, post-ok, post-map, post-bind, post-result}
 use Rattle.model.proofs.Agree.{agree-post}
-use Rattle.model.proofs.Store.{Extends, extends-same, extends-then, extends-length, get-extends, get-inside, find-extends, Below, Ordered, Children, Added, add-agrees, add-found}
+use Rattle.model.proofs.Store.{extends-same, extends-then, extends-length, get-extends, get-inside, find-extends, Children, Added, add-agrees, add-found}
 
 -- a check that, once it gave a value, gives the same one in every later store and adds nothing
 module _ {A : Type 0} where
@@ -55,15 +55,6 @@ child-lower s o n x m = go (getTerm s n) refl m
     go (some (lit l)) e m = absurd (List·Memᴰ·not-nil m)
     go (some (var y)) e m = absurd (List·Memᴰ·not-nil m)
     go (some (app f xs)) e m = o .lower n f xs e x m
-
--- fuel beyond the number changes no subterm
-pub subterms-fuel : (s : List Term) → Ordered s → (f g n : ℕ) → n < f → n < g → subtermsIn f s n ≡ subtermsIn g s n
-unfolding subtermsIn
-subterms-fuel s o zero g n h k = absurd (omega arith)
-subterms-fuel s o (suc f) zero n h k = absurd (omega arith)
-subterms-fuel s o (suc f) (suc g) n h k =
-    ap {B = List ℕ} (λ (l : List ℕ). n ∷ l) (concat-same (subtermsIn f s) (subtermsIn g s) (children (getTerm s n))
-    (λ c m. let l = child-lower s o n c m in subterms-fuel s o f g c (omega arith) (omega arith)))
 
 pub subterms-extend : (s s′ : List Term) → Ordered s → Extends s s′ → (f n : ℕ) → n < length s → subtermsIn f s′ n ≡ subtermsIn f s n
 unfolding subtermsIn

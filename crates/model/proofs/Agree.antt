@@ -1,14 +1,13 @@
 -- A check on the store and its counterpart on trees: both have a value, related by P, or neither has one; for want of room (53) the store's alone may
 -- lack it. No refusal has the number 0.
 use Prim.Native.Nat.{ℕ}
-use mathlib.Core.Path.{_≡_, refl, sym, subst, _∙_}
+use mathlib.Core.Path.{_≡_, refl, sym, subst}
 use mathlib.Core.List.{List}
-use mathlib.Core.Bool.{Bool, true, false}
-use mathlib.Core.Option.{Option, none, some, Option·none-ne-some, Option·some-injective}
+use mathlib.Core.Option.{Option, none, some}
 use Rattle.model.specs.Term.{Term}
-use Rattle.model.specs.Check.{Refusal, Outcome, ok, refused, Check, andThen, refuse, orRefuse}
+use Rattle.model.specs.Check.{Refusal, Outcome, ok, refused, Check, andThen}
 use Rattle.model.specs.Tree.{_>>?_}
-use Rattle.model.proofs.Post.{Nonzero, nonzero-at, Post, post-ok}
+use Rattle.model.proofs.Post.{Nonzero, Post, post-ok}
 
 module _ {A B : Type 0} where
   abbrev pub Agreement : Outcome A → Option B → (A → List Term → B → Type 0) → Type 0

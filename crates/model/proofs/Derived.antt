@@ -1,10 +1,10 @@
 -- The pairs reached by finitely many closings are closed, and lie in every closed relation; what the entry accepts is among them.
 use Prim.Native.Nat.{ℕ}
 use mathlib.Core.Path.{_≡_}
-use mathlib.Core.List.{List, [], _∷_}
-use Rattle.model.specs.Program.{Program, Fact, Job}
+use mathlib.Core.List.{List}
+use Rattle.model.specs.Program.{Program, Fact}
 use Rattle.model.specs.Decode.{jobOf}
-use Rattle.model.specs.Answer.{Arrays, Left, entry}
+use Rattle.model.specs.Answer.{Arrays, entry}
 use Rattle.model.specs.Tree.{Tree, TreeBinding, TreeRow, treeRows}
 use Rattle.model.specs.Relation.{FactsHold, Closed, Derived, FactsDerived}
 use Rattle.model.proofs.Sound.{ClaimRelated, accepted}

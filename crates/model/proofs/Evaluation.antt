@@ -1,5 +1,5 @@
 -- The evaluation on the store and the evaluation on trees agree: values, and the pairs in both directions.
-use Prim.Native.Nat.{ℕ, zero, suc, _+_, _<_, _≤_}
+use Prim.Native.Nat.{ℕ, zero, suc, _+_, _<_}
 use native.Mathlib.Omega.{arith}
 use native.Mathlib.Nat.{not-suc-le-zero}
 use mathlib.Core.Path.{_≡_, refl, sym, ap, ap₂, subst, _∙_}
@@ -10,16 +10,16 @@ use mathlib.Core.Option.{Option, none, some}
 use lib.ListN.{length}
 use lib.Dec.{eqb}
 use Rattle.model.specs.Cell.{sameWords}
-use Rattle.model.specs.Term.{Term, Literal, lit, var, app, getTerm}
+use Rattle.model.specs.Term.{Term, Literal, lit, app, getTerm, Extends, Below, Ordered}
 use Rattle.model.specs.Program.{Head, literal, variable, constructor, custom, primitive, Expr, node, Exprs, nil, cons, Proposition, Binding, Row, Program}
-use Rattle.model.specs.Check.{Check, andThen, orRefuse, Room, addNode}
+use Rattle.model.specs.Check.{orRefuse, Room, addNode}
 use Rattle.model.specs.Evaluate.{lookup, primitiveAt, rowValue, validate, validatedBy, children, concatMap, subtermsIn, same, reflexive, Value, Values, valued, headValue, evalExpr, evalExprs, factHeadValue, evalFactExpr, evalFactExprs}
-use Rattle.model.specs.Tree.{Tree, leaf, named, apply, Trees, tnil, tcons, sameTree, sameTrees, TreePair, TreeBinding, TreeRow, _>>?_, treeLookup, treeRow, both, reflexiveTree, reflexiveTrees, TreeValue, TreeValues, treeValued, treeValidatedBy, treeHeadValue, treeEval, treeEvals, treeFactHeadValue, treeFactEval, treeFactEvals}
+use Rattle.model.specs.Tree.{Tree, leaf, named, apply, Trees, tnil, tcons, sameTrees, TreePair, TreeBinding, TreeRow, treeLookup, treeRow, both, reflexiveTree, reflexiveTrees, TreeValue, TreeValues, treeValued, treeValidatedBy, treeHeadValue, treeEval, treeEvals, treeFactHeadValue, treeFactEval, treeFactEvals}
 use Rattle.model.proofs.Tests.{words-eq, words-same, trees-eq, trees-same, never}
 use Rattle.model.proofs.Represent.{Rep, Reps, Keeps, Distinct, rep-keeps, reps-keeps, reps-one, reps-tree}
 use Rattle.model.proofs.Post.{Nonzero}
 use Rattle.model.proofs.Agree.{Agree, agree-ok, agree-none, agree-map, agree-bind}
-use Rattle.model.proofs.Store.{Extends, extends-same, extends-then, extends-keeps, Below, Ordered, Added, add-agrees, rep-inside}
+use Rattle.model.proofs.Store.{extends-same, extends-then, extends-keeps, add-agrees, rep-inside}
 
 -- the bindings of numbers and of trees, and the rows of numbers and of trees
 pub data Binds (s : List Term) : List TreeBinding → List Binding → Type 0 where

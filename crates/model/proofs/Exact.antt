@@ -2,7 +2,7 @@
 -- the trees' side has no value; where it has a value, the trees' side has one.
 use Prim.Native.Nat.{ℕ}
 use mathlib.Core.Path.{_≡_}
-use mathlib.Core.List.{List, [], _∷_}
+use mathlib.Core.List.{List}
 use mathlib.Core.Option.{Option, none, some}
 use Rattle.model.specs.Term.{Term}
 use Rattle.model.specs.Program.{Expr, Proposition, Binding, Program, Fact, Action}

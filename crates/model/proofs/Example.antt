@@ -1,16 +1,16 @@
 -- On job B the third demand is neither empty nor trivial: it gives a pair that is no literal and no global pair, and some closed relation leaves a pair out.
-use Prim.Native.Nat.{ℕ, zero, suc}
+use Prim.Native.Nat.{ℕ}
 use native.Mathlib.Omega.{arith}
-use mathlib.Core.Path.{_≡_, refl, sym, ap, subst, _∙_}
+use mathlib.Core.Path.{_≡_, refl, sym, subst, _∙_}
 use mathlib.Core.Logic.{_⊎_, inl, inr}
 use mathlib.Core.List.{List, [], _∷_, List·Memᴰ, List·Memᴰ·not-nil, List·Memᴰ·cases-cons}
-use mathlib.Core.Bool.{Bool, true, false, not, _&&_, true≢false}
-use mathlib.Core.Option.{Option, none, some, Option·none-ne-some, Option·some-injective}
+use mathlib.Core.Bool.{Bool, true, not, _&&_}
+use mathlib.Core.Option.{some, Option·none-ne-some, Option·some-injective}
 use lib.ListN.{replicate}
 use lib.Dec.{eqb}
 use Rattle.model.specs.Cell.{tabulate, startOf, wordsAt, cellsOf}
 use Rattle.model.specs.Term.{Literal, readTerm, findTerm, getTerm}
-use Rattle.model.specs.Program.{Program, Job}
+use Rattle.model.specs.Program.{Program}
 use Rattle.model.specs.Layout.{sizesOf, kindsOf, endsOf, poolOf, tablesOf}
 use Rattle.model.specs.Decode.{exprIn, readProgram, readJob, jobOf}
 use Rattle.model.specs.Load.{refusedIf, firstMarked, loadRefusal}
@@ -18,11 +18,11 @@ use Rattle.model.specs.Check.{orRefuse, checkThat, addNode}
 use Rattle.model.specs.Evaluate.{subtermsIn, reflexive, headValue, evalExpr, evalExprs}
 use Rattle.model.specs.Action.{mergeOf, processActions}
 use Rattle.model.specs.Walk.{checkFiat, checkCongr, checkProofWithContext, newContext, checkProof}
-use Rattle.model.specs.Answer.{Arrays, checked, check, entry}
-use Rattle.model.specs.Tree.{Tree, leaf, named, apply, Trees, tnil, tcons, sameTree, treeIn, TreePair, TreeRow, treeRows, TreeContext, treeGlobals, treeActions, treeEval, treeEvals, reflexiveTree, reflexiveTrees, treeMerge, treeNormal}
-use Rattle.model.specs.Relation.{ClosedFor, Derived}
-use Rattle.model.proofs.Tests.{eq-of, and-left, and-right, never, tree-same}
-use Rattle.model.proofs.Sound.{ClaimRelated, accepted}
+use Rattle.model.specs.Answer.{checked, check, entry}
+use Rattle.model.specs.Tree.{Tree, leaf, named, apply, tnil, tcons, sameTree, treeIn, TreePair, TreeRow, treeRows, TreeContext, treeGlobals, treeActions, treeEval, treeEvals, reflexiveTree, reflexiveTrees, treeMerge, treeNormal}
+use Rattle.model.specs.Relation.{ClosedFor}
+use Rattle.model.proofs.Tests.{eq-of, and-left, and-right, never}
+use Rattle.model.proofs.Sound.{accepted}
 use Rattle.model.proofs.JobB.{jobB, exactly}
 
 -- name 4 of a literal 64-bit integer

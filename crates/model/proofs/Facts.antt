@@ -1,24 +1,23 @@
 -- Side conditions, ordinary facts, actions, merges and normalisation on the store agree with those on trees.
-use Prim.Native.Nat.{ℕ, zero, suc}
-use mathlib.Core.Path.{_≡_, refl, sym, ap, ap₂, subst, _∙_}
+use Prim.Native.Nat.{ℕ}
+use mathlib.Core.Path.{_≡_, refl, sym, ap₂, subst, _∙_}
 use mathlib.Core.List.{List, [], _∷_, _++_}
 use mathlib.Core.Bool.{Bool, true, false, _&&_, true≢false}
 use mathlib.Core.Option.{Option, none, some}
-use lib.ListN.{length}
 use lib.Dec.{eqb}
-use Rattle.model.specs.Term.{Term, lit, var, app, getTerm}
+use Rattle.model.specs.Term.{Term, getTerm}
 use Rattle.model.specs.Program.{nameMergeFunction, Expr, Proposition, Binding, Program, Fact, equal, bare, Action, bind, union, run, idle}
-use Rattle.model.specs.Check.{Outcome, ok, refused, Check, andThen, _>>=_, pure, refuse, orRefuse, checkThat, Room, addNode}
-use Rattle.model.specs.Evaluate.{lookup, rowValue, validate, same, Value, evalExpr}
-use Rattle.model.specs.Fact.{headOf, argsOf, variableOf, FunctionFact, functionFact, bindOutput, compareSides, evalSideBy, checkSideCondition, wantedEquality, wanted, matchesEquality, matches, checkFactMatchesProposition}
+use Rattle.model.specs.Check.{ok, andThen, pure, orRefuse, checkThat, Room}
+use Rattle.model.specs.Evaluate.{lookup, rowValue, validate, evalExpr}
+use Rattle.model.specs.Fact.{headOf, argsOf, variableOf, FunctionFact, functionFact, bindOutput, compareSides, evalSideBy, checkSideCondition, wantedEquality, wanted, matchesEquality, matches}
 use Rattle.model.specs.Action.{ActionContext, processAction, processActions, mergeOf, mergeBindings, runMerge}
-use Rattle.model.specs.Normalize.{App, asApp, normaliserOf, unwrapOr, normalizeBy, normalizeApp, normalizeContainer}
-use Rattle.model.specs.Tree.{Tree, leaf, named, apply, Trees, tnil, tcons, sameTree, TreePair, TreeBinding, TreeRow, _>>?_, treeLookup, treeRow, both, TreeValue, snoc, treeBindOutput, treeCompareSides, TreeContext, treeMergeBindings, treeEval, treeWantedEquality, treeWanted, treeSideBy, treeCondition, treeAction, treeActions, treeMerge, treeNormalBy, treeNormal}
+use Rattle.model.specs.Normalize.{asApp, normaliserOf, unwrapOr, normalizeBy, normalizeApp, normalizeContainer}
+use Rattle.model.specs.Tree.{Tree, leaf, named, apply, Trees, tnil, tcons, sameTree, TreePair, TreeBinding, TreeRow, _>>?_, treeLookup, treeRow, both, snoc, treeBindOutput, treeCompareSides, TreeContext, treeMergeBindings, treeEval, treeWantedEquality, treeWanted, treeSideBy, treeCondition, treeAction, treeActions, treeMerge, treeNormalBy, treeNormal}
 use Rattle.model.proofs.Tests.{eq-of, eqb-same, tree-eq, tree-same}
-use Rattle.model.proofs.Represent.{Rep, Reps, Keeps, Distinct, rep-keeps, reps-keeps, rep-tree, rep-one}
+use Rattle.model.proofs.Represent.{Rep, Reps, Keeps, Distinct, rep-keeps, rep-tree, rep-one}
 use Rattle.model.proofs.Post.{Nonzero}
 use Rattle.model.proofs.Agree.{Agree, agree-ok, agree-none, agree-map, agree-bind}
-use Rattle.model.proofs.Evaluation.{Binds, bnil, bcons, binds-keeps, Maybe, lookup-same, row-same, Stands, Covers, covers-keeps, covers-append, covers-cons, covers-none, stands-same, World, After, keeps, stay, then, Made, Mades, Valued, add-apply, made-or, eval-agrees, fact-eval-agrees, fact-evals-agree}
+use Rattle.model.proofs.Evaluation.{Binds, bnil, bcons, binds-keeps, Maybe, lookup-same, row-same, Stands, Covers, covers-keeps, covers-append, covers-cons, covers-none, stands-same, World, After, keeps, stay, then, Made, Valued, add-apply, made-or, eval-agrees, fact-eval-agrees, fact-evals-agree}
 
 -- two numbers are equal just when their trees are
 pub same-test : {s : List Term} → Distinct s → (A B : Tree) (a b : ℕ) → Rep A s a → Rep B s b → eqb a b ≡ sameTree A B

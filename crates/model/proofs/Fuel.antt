@@ -1,21 +1,20 @@
--- Fuel beyond the number changes nothing: of an expression, of a tree, of the walk.
-use Prim.Native.Nat.{ℕ, zero, suc, _<_, _≤_}
+-- Fuel beyond the number changes nothing: of an expression, of the walk.
+use Prim.Native.Nat.{ℕ, zero, suc, _<_}
 use native.Mathlib.Omega.{arith}
-use mathlib.Core.Path.{_≡_, refl, sym, ap, ap₂, subst, _∙_}
+use mathlib.Core.Path.{_≡_, refl, ap, ap₂}
 use mathlib.Core.List.{List, [], _∷_, _++_, List·Memᴰ, List·Memᴰ·head, List·Memᴰ·tail}
 use mathlib.Core.Bool.{Bool, true, false}
-use mathlib.Core.Option.{Option, none, some}
 use lib.ListN.{length, getD}
 use lib.Dec.{eqb}
 use Rattle.model.specs.Cell.{Cell, noCell}
-use Rattle.model.specs.Term.{Term}
-use Rattle.model.specs.Program.{Expr, node, Exprs, nil, cons, Proposition, Binding, Program, Fact, Rule, Proof, Justification, fiat, rule, mergeFn, trans, symm, congr, containerNormalize, eval, references}
+use Rattle.model.proofs.Sequence.{then-same}
+use Rattle.model.specs.Term.{Term, Below}
+use Rattle.model.specs.Program.{Expr, node, cons, Proposition, Binding, Program, Fact, Proof, Justification, fiat, rule, mergeFn, trans, symm, congr, containerNormalize, eval, references}
 use Rattle.model.specs.Decode.{readHead, readArguments, argumentsBy, exprIn, exprOf}
-use Rattle.model.specs.Check.{Outcome, ok, refused, Check, andThen, _>>=_, pure, choose, orRefuse, checkThat, Room}
+use Rattle.model.specs.Check.{Outcome, Check, andThen, choose, orRefuse, checkThat, Room}
 use Rattle.model.specs.Fact.{assertBodyProofNormalForm, isContainerSideCondition, checkSideCondition, checkFactMatchesProposition}
 use Rattle.model.specs.Action.{ActionContext}
 use Rattle.model.specs.Walk.{noProof, claimAt, member, ruleOf, checkPremises, checkRule, checkMergeFn, checkTrans, checkSym, checkCongr, checkContainerNormalize, checkFiat, checkJustification, checkProofWithContext}
-use Rattle.model.proofs.Store.{Below}
 
 -- expressions: each argument has a lower number
 args-same : (f g : ℕ → Expr) (xs : List ℕ) → ((x : ℕ) → List·Memᴰ x xs → f x ≡ g x) → argumentsBy f xs ≡ argumentsBy g xs
@@ -51,11 +50,7 @@ module _ {A : Type 0} where
 
 module _ {A B : Type 0} where
   same-bind : {o o′ : Outcome A} {f g : A → Check B} → Same o o′ → ((a : A) (s : List Term) → Same (f a s) (g a s)) → Same (andThen o f) (andThen o′ g)
-  same-bind {o} {o′} {f} {g} e h = record { same = ap (λ (x : Outcome A). andThen x f) (e .same) ∙ go o′ }
-    where
-      go : (x : Outcome A) → andThen x f ≡ andThen x g
-      go (ok a s) = h a s .same
-      go (refused r s) = refl
+  same-bind e h = record { same = then-same (e .same) (λ a s. h a s .same) }
 
   -- the same first check on both sides
   same-after : (o : Outcome A) {f g : A → Check B} → ((a : A) (s : List Term) → Same (f a s) (g a s)) → Same (andThen o f) (andThen o g)

@@ -1,5 +1,5 @@
 -- Job A of document 01: the line that the program prints, from the job's bytes.
-use Prim.Native.Nat.{ℕ, zero, suc}
+use Prim.Native.Nat.{ℕ}
 use mathlib.Core.Path.{_≡_, refl}
 use mathlib.Core.List.{List, [], _∷_}
 use Rattle.model.specs.Cell.{tabulate, startOf, wordsAt, cellsOf}

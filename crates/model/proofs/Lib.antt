@@ -1,5 +1,6 @@
 pub mod Tests
 pub mod Represent
+pub mod Sequence
 pub mod Post
 pub mod Agree
 pub mod Store
@@ -11,7 +12,6 @@ pub mod Sound
 pub mod Derived
 pub mod Again
 pub mod Fuel
-pub mod Grows
 pub mod Exact
 pub mod JobA
 pub mod JobB

@@ -1,7 +1,6 @@
 -- THE THIRD DEMAND on the definitions: what the entry accepts is related by every closed relation of the job.
 use Prim.Native.Nat.{ℕ, zero, suc, _≤_}
-use mathlib.Core.Logic.{Lift}
-use mathlib.Core.Path.{_≡_, refl, sym, subst, _∙_}
+use mathlib.Core.Path.{_≡_, refl}
 use mathlib.Core.List.{List, [], _∷_, List·Memᴰ·not-nil}
 use mathlib.Core.Bool.{Bool, true, false}
 use mathlib.Core.Option.{Option, none, some}
@@ -9,7 +8,7 @@ use native.Mathlib.Omega.{arith}
 use lib.ListN.{length}
 use lib.Dec.{eqb}
 use Rattle.model.specs.Term.{Term}
-use Rattle.model.specs.Program.{nameGlobalActions, Proposition, Program, Job}
+use Rattle.model.specs.Program.{nameGlobalActions, Proposition, Job}
 use Rattle.model.specs.Layout.{sizesOf, tablesOf}
 use Rattle.model.specs.Decode.{jobOf}
 use Rattle.model.specs.Check.{Refusal, Outcome, ok, refused, Room}

@@ -1,32 +1,31 @@
 -- Each step of the walk relates what it accepts, in every closed relation.
-use Prim.Native.Nat.{ℕ, zero, suc, _+_, _<_, _≤_}
+use Prim.Native.Nat.{ℕ, zero, suc, _+_, _<_}
 use native.Mathlib.Omega.{arith}
 use native.Mathlib.Nat.{not-suc-le-zero, le-of-suc-le-suc}
 use native.Mathlib.Decide.{decLt}
 use mathlib.Core.Path.{_≡_, refl, sym, ap, ap₂, subst, subst₂, _∙_}
 use mathlib.Core.Logic.{_⊎_, inl, inr}
 use mathlib.Core.List.{List, [], _∷_, _++_, List·Memᴰ, List·Memᴰ·head, List·Memᴰ·tail, List·Memᴰ·not-nil, List·Memᴰ·cases-cons}
-use mathlib.Core.Bool.{Bool, true, false, _&&_, _||_}
+use mathlib.Core.Bool.{Bool, true, false, _&&_}
 use mathlib.Core.Option.{Option, none, some, Option·none-ne-some, Option·some-injective}
 use lib.ListN.{length, getD, set, List·getD-eq-default}
-use lib.Dec.{eqb, ltb}
-use Rattle.model.specs.Cell.{sameWords}
+use lib.Dec.{eqb}
 use Rattle.model.specs.Term.{Term, Literal, lit, var, app, getTerm}
 use Rattle.model.specs.Program.{Proposition, Binding, Program, Fact, equal, bare, Rule, Proof, Justification, fiat, rule, mergeFn, trans, symm, congr, containerNormalize, eval, substitution, Job}
-use Rattle.model.specs.Check.{Outcome, ok, refused, Check, andThen, pure, Room, addNode}
+use Rattle.model.specs.Check.{Check, andThen, pure, Room, addNode}
 use Rattle.model.specs.Evaluate.{same}
-use Rattle.model.specs.Fact.{Offence, primitiveNonNormalArg, containerPrimitiveNotSideCondition, factOffence, noOffence, assertBodyProofNormalForm, isContainerSideCondition, checkSideCondition, wanted, matches, checkFactMatchesProposition}
+use Rattle.model.specs.Fact.{Offence, primitiveNonNormalArg, containerPrimitiveNotSideCondition, factOffence, noOffence, assertBodyProofNormalForm, isContainerSideCondition, wanted, matches, checkFactMatchesProposition}
 use Rattle.model.specs.Action.{ActionContext, startContext, sameProposition, among, checkRuleProducesEquality}
-use Rattle.model.specs.Normalize.{App, asApp, normalizeContainer}
+use Rattle.model.specs.Normalize.{App, asApp}
 use Rattle.model.specs.Walk.{noProof, claimAt, member, ruleOf, isLiteral, last, front, checkPremises, checkRule, checkViews, checkBothApps, checkMergeFn, checkTrans, checkSym, checkCongr, checkContainerNormalize, checkFiat, checkJustification, checkProofWithContext}
 use Rattle.model.specs.Tree.{Tree, leaf, named, apply, Trees, tnil, tcons, sameTree, treeOf, TreePair, TreeBinding, TreeRow, treeRows, TreeContext, treeStart, snoc, both, treeGlobals, treeWanted, treeNormal}
-use Rattle.model.specs.Relation.{Normal, child, replaced, FactsHold, done, side, premise, Closed, ClosedFor}
+use Rattle.model.specs.Relation.{child, replaced, FactsHold, done, side, premise, ClosedFor}
 use Rattle.model.proofs.Tests.{or-cases, eq-of, lt-of, and-left, and-right, words-eq, tree-eq, never}
 use Rattle.model.proofs.Represent.{Rep, Reps, rep-keeps, reps-keeps, rep-tree, reps-tree, head-of, args-of}
 use Rattle.model.proofs.Post.{Post, post-ok, post-map, post-bind, or-bind, same-bind, that-bind, post-that, post-choose}
 use Rattle.model.proofs.Agree.{agree-post}
 use Rattle.model.proofs.Evaluation.{Binds, binds-keeps, binds-append, Stands, Found, Covers, covers-keeps, covers-none, covers-cons, stands-same, World, After, keeps, stay, then, Made, add-apply}
-use Rattle.model.proofs.Facts.{Form, treeMatches, onlyIf, Wanted, wanted-agrees, matches-agrees, condition-agrees, actions-agree, merge-agrees, normal-agrees, reps-snoc}
+use Rattle.model.proofs.Facts.{Form, treeMatches, onlyIf, wanted-agrees, matches-agrees, condition-agrees, actions-agree, merge-agrees, normal-agrees, reps-snoc}
 use Rattle.model.proofs.Valid.{Valid, tree-rep, treeBindings, tree-binds}
 
 pub among-member : (q : Proposition) (qs : List Proposition) → among q qs ≡ true → List·Memᴰ q qs

@@ -4,23 +4,19 @@ use native.Mathlib.Omega.{arith}
 use native.Mathlib.Nat.{not-suc-le-zero, le-of-suc-le-suc}
 use mathlib.Core.Path.{_≡_, refl, sym, ap, subst, _∙_}
 use mathlib.Core.Logic.{_⊎_, inl, inr}
-use mathlib.Core.List.{List, [], _∷_, _++_, append-assoc, append-nil, List·Memᴰ, List·Memᴰ·head, List·Memᴰ·tail}
+use mathlib.Core.List.{List, [], _∷_, _++_, append-assoc, append-nil}
 use mathlib.Core.Bool.{Bool, true, false, _&&_, true≢false}
 use mathlib.Core.Option.{Option, none, some, Option·none-ne-some, Option·some-injective}
 use lib.ListN.{length, length-append}
 use lib.Dec.{leb, ltb}
-use Rattle.model.specs.Term.{Term, lit, var, app, sameTerm, width, widths, findTerm, getTerm}
-use Rattle.model.specs.Check.{Outcome, ok, refused, Check, refuse, Room, addNode}
-use Rattle.model.specs.Tree.{Tree, leaf, named, apply, Trees, tnil, tcons}
+use Rattle.model.specs.Term.{Term, lit, var, app, sameTerm, width, widths, findTerm, getTerm, Extends, Below, Ordered}
+use Rattle.model.specs.Check.{ok, refuse, Room, addNode}
+use Rattle.model.specs.Tree.{Tree, leaf, named, apply}
 use Rattle.model.proofs.Tests.{term-eq, term-same}
-use Rattle.model.proofs.Represent.{Rep, Reps, Keeps, Distinct}
+use Rattle.model.proofs.Represent.{Rep, Keeps, Distinct}
 use Rattle.model.proofs.Agree.{Agree, agree-ok}
 
--- a store and one that it grew to
-pub record Extends (s s′ : List Term) : Type 0 where
-  pub more : List Term
-  pub is : s′ ≡ s ++ more
-
+-- a store that grows
 pub extends-same : {s : List Term} → Extends s s
 extends-same {s} = record { more = []; is = sym (append-nil s) }
 
@@ -30,26 +26,12 @@ extends-then {s} a b = record { more = a .more ++ b .more; is = b .is ∙ ap (λ
 pub extends-length : {s s′ : List Term} → Extends s s′ → length s ≤ length s′
 extends-length {s} a = rw (a .is, length-append s (a .more)) (omega arith)
 
--- all numbers of a list lie below n
-abbrev pub Below : ℕ → List ℕ → Type 0
-Below n xs = (x : ℕ) → List·Memᴰ x xs → x < n
-
--- children are lower than their own number
-pub record Ordered (s : List Term) : Type 0 where
-  pub lower : (n f : ℕ) (xs : List ℕ) → getTerm s n ≡ some (app f xs) → Below n xs
-
 abbrev pub Children : ℕ → Term → Type 0
 Children n (lit l) = Unit {0}
 Children n (var x) = Unit {0}
 Children n (app f xs) = Below n xs
 
 -- look-ups
-pub get-left : (s u : List Term) (n : ℕ) (t : Term) → getTerm s n ≡ some t → getTerm (s ++ u) n ≡ some t
-unfolding getTerm
-get-left [] u n t e = absurd (Option·none-ne-some t e)
-get-left (x ∷ s) u zero t e = e
-get-left (x ∷ s) u (suc n) t e = get-left s u n t e
-
 pub get-last : (s : List Term) (t : Term) → getTerm (s ++ (t ∷ [])) (length s) ≡ some t
 unfolding getTerm
 get-last [] t = refl

@@ -11,7 +11,7 @@ use mathlib.Core.Option.{Option, none, some, Option·none-ne-some, Option·some-
 use lib.ListN.{length, getD, take, drop, length-append, length-take, length-map, List·getD-eq-default}
 use lib.Dec.{eqb, leb, ltb, lit<}
 use Rattle.model.specs.Cell.{Cell, noCell, sameCell, tabulate, cellsOf}
-use Rattle.model.specs.Term.{Term, lit, var, app, getTerm, termWords, cellOf, readLiteral, readTerm}
+use Rattle.model.specs.Term.{Term, lit, var, app, getTerm, termWords, cellOf, readLiteral, readTerm, Below, Ordered}
 use Rattle.model.specs.Program.{Binding, Row, Proof, references, substitution, Job}
 use Rattle.model.specs.Layout.{Sizes, sizesOf, cellCount, kindsOf, endsOf, poolOf, Tables, part, tableList, tablesOf}
 use Rattle.model.specs.Decode.{readHead, readArguments, readRow, readProof, readProgram, readJob, jobOf}
@@ -21,7 +21,7 @@ use Rattle.model.specs.Tree.{Tree, treesBy, treeOfTerm, treeIn, treeOf, 
 use Rattle.model.specs.Walk.{noProof, claimAt}
 use Rattle.model.proofs.Tests.{eq-of, eqb-same, lt-of, le-of, and-left, and-right, not-false, never, words-same}
 use Rattle.model.proofs.Represent.{Rep, Reps, Distinct}
-use Rattle.model.proofs.Store.{Below, Ordered, get-below}
+use Rattle.model.proofs.Store.{get-below}
 use Rattle.model.proofs.Evaluation.{Binds, bnil, bcons, Table, rnil, rcons, World}
 
 -- what the check relies on

@@ -2,7 +2,7 @@
 use Prim.Native.Nat.{ℕ}
 use mathlib.Core.List.{List, [], _∷_, _++_}
 use mathlib.Core.Bool.{Bool, true, false, _&&_, _||_}
-use mathlib.Core.Option.{Option, none, some}
+use mathlib.Core.Option.{Option, none}
 use lib.Dec.{eqb}
 use Rattle.model.specs.Program.{nameOld, nameNew, nameMergeFunction, Expr, Proposition, Binding, Program, Action, bind, union, run, idle, Rule, Function}
 use Rattle.model.specs.Check.{Check, _>>=_, pure, orRefuse, checkThat, Room}

@@ -1,14 +1,13 @@
 -- The answer's eight words and the words of the lent store, for every input: what the entry returns and leaves.
-use Prim.Native.Nat.{ℕ, zero, suc, _+_, _*_, _-_, _/_, max}
+use Prim.Native.Nat.{ℕ, zero, suc, _+_, _-_, max}
 use mathlib.Core.List.{List, [], _∷_, _++_, map}
-use mathlib.Core.Bool.{Bool, true, false, not}
+use mathlib.Core.Bool.{true, false}
 use mathlib.Core.Option.{Option, none, some}
-use lib.ListN.{length, getD, take, drop}
-use lib.Dec.{eqb, ltb}
+use lib.ListN.{length, getD, drop}
+use lib.Dec.{eqb}
 use Rattle.model.specs.Term.{Term, termKind, termWords, width}
 use Rattle.model.specs.Program.{Proposition, Proof, references, Job}
-use Rattle.model.specs.Check.{Refusal, Outcome, ok, refused, Room}
-use Rattle.model.specs.Layout.{Sizes, sizesOf}
+use Rattle.model.specs.Check.{Refusal, Outcome, ok, refused}
 use Rattle.model.specs.Decode.{jobOf}
 use Rattle.model.specs.Load.{Lent, loadRefusal}
 use Rattle.model.specs.Walk.{checkProof}

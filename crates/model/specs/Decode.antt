@@ -1,13 +1,13 @@
 -- What the cells of each table say. The readers are total; what they give for a cell that document 01 refuses is never used.
-use Prim.Native.Nat.{ℕ, zero, suc, _+_}
+use Prim.Native.Nat.{ℕ, zero, suc}
 use mathlib.Core.List.{List, [], _∷_, map}
-use mathlib.Core.Bool.{Bool, true, false}
-use mathlib.Core.Option.{Option, none, some}
-use lib.ListN.{length, getD, take, drop}
-use lib.Dec.{eqb, ltb}
+use mathlib.Core.Bool.{true, false}
+use mathlib.Core.Option.{none, some}
+use lib.ListN.{getD, take, drop}
+use lib.Dec.{ltb}
 use Rattle.model.specs.Cell.{Cell, noCell, tabulate}
-use Rattle.model.specs.Term.{Term, readLiteral, readTerm}
-use Rattle.model.specs.Program.{Head, literal, variable, constructor, custom, primitive, Expr, node, Exprs, nil, cons, Fact, equal, bare, Action, bind, union, run, idle, Proposition, Binding, Justification, fiat, rule, mergeFn, trans, symm, congr, containerNormalize, eval, Proof, Function, Primitive, Row, Normaliser, Rule, Program, Job}
+use Rattle.model.specs.Term.{readLiteral, readTerm}
+use Rattle.model.specs.Program.{Head, literal, variable, constructor, custom, primitive, Expr, node, Exprs, nil, cons, Fact, equal, bare, Action, bind, union, run, idle, Binding, Justification, fiat, rule, mergeFn, trans, symm, congr, containerNormalize, eval, Proof, Function, Primitive, Row, Normaliser, Rule, Program, Job}
 use Rattle.model.specs.Layout.{Tables, Sizes, sizesOf, tablesOf}
 
 -- Word i of a cell.

@@ -7,7 +7,7 @@ use lib.Dec.{eqb}
 use Rattle.model.specs.Cell.{sameWords}
 use Rattle.model.specs.Term.{Term, lit, var, app, getTerm}
 use Rattle.model.specs.Program.{Head, literal, variable, constructor, custom, primitive, Expr, node, Exprs, nil, cons, Proposition, Binding, Row, Program, Primitive}
-use Rattle.model.specs.Check.{Outcome, ok, refused, Check, _>>=_, pure, refuse, orRefuse, Room, addNode}
+use Rattle.model.specs.Check.{ok, Check, _>>=_, pure, refuse, orRefuse, Room, addNode}
 
 -- The term bound to a name: the first binding counts.
 abbrev pub lookup : List Binding → ℕ → Option ℕ

@@ -1,12 +1,11 @@
 -- The host entry and the program: a job as bytes, and a store of their own.
-use Prim.Native.Nat.{ℕ, zero, suc, _+_, _*_, _-_, _%_}
+use Prim.Native.Nat.{ℕ, _+_, _*_, _-_, _%_}
 use mathlib.Core.List.{List, [], _∷_}
-use mathlib.Core.Bool.{Bool, true, false, not, _||_}
+use mathlib.Core.Bool.{true, false, not, _||_}
 use lib.ListN.{length, getD, replicate}
 use lib.Dec.{eqb, ltb}
-use Rattle.model.specs.Check.{Refusal}
-use Rattle.model.specs.Layout.{Sizes, sizesOf}
-use Rattle.model.specs.Answer.{Arrays, Left, refusalWords, check}
+use Rattle.model.specs.Layout.{sizesOf}
+use Rattle.model.specs.Answer.{Arrays, refusalWords, check}
 
 -- The words of bytes, four each, the lowest first.
 unfoldable pub wordsOf : List ℕ → List ℕ

@@ -1,5 +1,5 @@
 -- A job's words, by document 01: twelve sizes, the cells' kinds, their ends, and the pool. Each table is a run of cells.
-use Prim.Native.Nat.{ℕ, zero, suc, _+_}
+use Prim.Native.Nat.{ℕ, _+_}
 use mathlib.Core.List.{List, [], _∷_}
 use lib.ListN.{getD, take, drop}
 use Rattle.model.specs.Cell.{Cell, cellsOf}

@@ -1,5 +1,5 @@
 -- The refusals below 20, by document 01: first by the host, then by the job's writer with the least cell, then for want of room.
-use Prim.Native.Nat.{ℕ, zero, suc, _+_, _*_, _-_, _%_, _<_}
+use Prim.Native.Nat.{ℕ, suc, _+_, _*_, _-_, _%_, _<_}
 use mathlib.Core.Path.{_≡_}
 use mathlib.Core.List.{List, [], _∷_, _++_, map}
 use mathlib.Core.Bool.{Bool, true, false, not, _&&_, _||_}
@@ -8,7 +8,7 @@ use lib.ListN.{length, getD, take, drop}
 use lib.Dec.{eqb, leb, ltb}
 use Rattle.model.specs.Cell.{Cell, noCell, sameWords, sameCell}
 use Rattle.model.specs.Term.{Term, Literal, lit, var, app, readLiteral, readTerm, widths}
-use Rattle.model.specs.Program.{Head, literal, variable, constructor, custom, primitive, Binding, Proof, references, substitution, Row, Normaliser}
+use Rattle.model.specs.Program.{Head, literal, variable, constructor, custom, primitive, Binding, Proof, references, substitution, Row}
 use Rattle.model.specs.Check.{Refusal}
 use Rattle.model.specs.Layout.{sizeWords, Sizes, sizesOf, cellCount, endsOf, Tables, tableList, tablesOf}
 use Rattle.model.specs.Decode.{word, readHead, readArguments, readPrimitive, readRow, readNormaliser, ruleFacts, ruleActions, readProof}

@@ -3,12 +3,12 @@
 use Prim.Native.Nat.{ℕ, zero, suc}
 use mathlib.Core.Path.{_≡_}
 use mathlib.Core.List.{List, [], _∷_, _++_, List·Memᴰ}
-use mathlib.Core.Bool.{Bool, true, false}
+use mathlib.Core.Bool.{true, false}
 use mathlib.Core.Option.{Option, none, some}
 use Rattle.model.specs.Term.{Literal}
 use Rattle.model.specs.Program.{Program, Fact, Rule, Job}
 use Rattle.model.specs.Fact.{factOffence, isContainerSideCondition}
-use Rattle.model.specs.Tree.{Tree, leaf, named, apply, Trees, tnil, tcons, TreePair, TreeBinding, TreeRow, treeRows, TreeValue, TreeContext, treeStart, both, snoc, treeWanted, treeCondition, treeActions, treeGlobals, treeMerge, treeNormal}
+use Rattle.model.specs.Tree.{Tree, leaf, apply, Trees, tnil, tcons, TreePair, TreeBinding, TreeRow, treeRows, TreeValue, TreeContext, treeStart, both, snoc, treeWanted, treeCondition, treeActions, treeGlobals, treeMerge, treeNormal}
 
 -- Every fact of a rule is in normal form.
 abbrev pub Normal : Program → Rule → Type 0

@@ -1,6 +1,7 @@
 -- Terms, as termdag.rs has them: a term names its children by their numbers in the table.
-use Prim.Native.Nat.{ℕ, zero, suc, _+_}
-use mathlib.Core.List.{List, [], _∷_}
+use mathlib.Core.Path.{_≡_}
+use Prim.Native.Nat.{ℕ, zero, suc, _+_, _<_}
+use mathlib.Core.List.{List, [], _∷_, _++_, List·Memᴰ}
 use mathlib.Core.Bool.{Bool, true, false, _&&_}
 use mathlib.Core.Option.{Option, none, some}
 use lib.ListN.{length, getD, drop}
@@ -78,3 +79,16 @@ unfoldable pub getTerm : List Term → ℕ → Option Term
 getTerm [] n = none
 getTerm (t ∷ ts) zero = some t
 getTerm (t ∷ ts) (suc n) = getTerm ts n
+
+-- A store and one that it grew to.
+pub record Extends (s s′ : List Term) : Type 0 where
+  pub more : List Term
+  pub is : s′ ≡ s ++ more
+
+-- All numbers of a list lie below n.
+abbrev pub Below : ℕ → List ℕ → Type 0
+Below n xs = (x : ℕ) → List·Memᴰ x xs → x < n
+
+-- Children are lower than their own number.
+pub record Ordered (s : List Term) : Type 0 where
+  pub lower : (n f : ℕ) (xs : List ℕ) → getTerm s n ≡ some (app f xs) → Below n xs

@@ -7,7 +7,7 @@ use lib.ListN.{length, getD, set}
 use lib.Dec.{eqb, ltb}
 use Rattle.model.specs.Cell.{sameWords}
 use Rattle.model.specs.Term.{Term, lit, var, app, getTerm}
-use Rattle.model.specs.Program.{nameGlobalActions, Proposition, Binding, Program, Fact, Rule, Proof, Justification, fiat, rule, mergeFn, trans, symm, congr, containerNormalize, eval, Job}
+use Rattle.model.specs.Program.{nameGlobalActions, Proposition, Binding, Program, Fact, Rule, Proof, Justification, fiat, rule, mergeFn, trans, symm, congr, containerNormalize, eval}
 use Rattle.model.specs.Check.{Check, _>>=_, pure, refuse, choose, orRefuse, checkThat, getTerms, Room, addNode}
 use Rattle.model.specs.Evaluate.{same}
 use Rattle.model.specs.Fact.{assertBodyProofNormalForm, isContainerSideCondition, checkSideCondition, checkFactMatchesProposition}

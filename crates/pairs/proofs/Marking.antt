@@ -14,8 +14,8 @@ use Rattle.model.specs.Program.{Proposition}
 use Rattle.model.specs.Check.{ok, Check}
 use Rattle.model.specs.Evaluate.{same}
 use Rattle.memo.specs.Memo.{valueAt, isNoted}
-use Rattle.marks.proofs.Subterms.{Under}
-use Rattle.marks.proofs.Closing.{Marked, Covered, set-marked, set-keeps, set-cases}
+use Rattle.marks.specs.Covering.{Under, Marked, Covered}
+use Rattle.marks.proofs.Closing.{set-marked, set-keeps, set-cases}
 use Rattle.marks.proofs.Marking.{AddsMarks}
 use Rattle.evaluate.specs.Value.{Reaches}
 use Rattle.pairs.specs.Marking.{markIf, markValues}

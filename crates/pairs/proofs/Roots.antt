@@ -5,18 +5,17 @@ use mathlib.Core.Path.{_≡_, sym, ap, _∙_}
 use mathlib.Core.List.{List, List·Memᴰ}
 use mathlib.Core.Bool.{false}
 use lib.ListN.{length}
-use Rattle.model.specs.Term.{Term}
+use Rattle.model.specs.Term.{Term, Extends, Below}
 use Rattle.model.specs.Program.{Expr, Proposition, Binding, Program}
 use Rattle.model.specs.Check.{Outcome, ok, refused, Room}
 use Rattle.model.specs.Evaluate.{Value, evalExpr}
 use Rattle.model.proofs.Post.{post-result}
-use Rattle.model.proofs.Store.{Extends, Below}
 use Rattle.model.proofs.Valid.{expressions-lower}
 use Rattle.cells.specs.declared.Fill.{Fill}
 use Rattle.termdag.specs.Store.{termsIn, roomOf}
 use Rattle.outcome.specs.declared.Checked.{Checked}
 use Rattle.outcome.proofs.Laws.{ok-of}
-use Rattle.marks.proofs.Closing.{Marked}
+use Rattle.marks.specs.Covering.{Marked}
 use Rattle.marks.proofs.Marking.{AddsMarks}
 use Rattle.load.specs.Held.{sizesIn, tablesFor}
 use Rattle.load.specs.declared.sizes.Sizes.{Sizes}

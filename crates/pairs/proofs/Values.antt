@@ -8,18 +8,19 @@ use mathlib.Core.List.{List, [], _∷_, _++_, List·Memᴰ, List·Memᴰ·head, 
 use mathlib.Core.Bool.{false}
 use lib.ListN.{length, getD}
 use Rattle.model.specs.Cell.{Cell, noCell}
-use Rattle.model.specs.Term.{Term, lit, app}
+use Rattle.model.specs.Term.{Term, lit, app, Extends, Below}
 use Rattle.model.specs.Program.{Head, literal, variable, constructor, custom, primitive, Proposition, Binding, Program}
 use Rattle.model.specs.Decode.{readHead, readArguments, argumentsBy, exprOf}
 use Rattle.model.specs.Check.{Outcome, ok, refused, Check, Room}
 use Rattle.model.specs.Evaluate.{lookup, primitiveAt, subtermsIn, same, reflexive, Value, Values, headValue, evalExpr, evalExprs}
 use Rattle.model.proofs.Post.{Post, post-ok, post-map, post-bind, post-result}
-use Rattle.model.proofs.Store.{Extends, extends-same, extends-then, Below}
+use Rattle.model.proofs.Store.{extends-same, extends-then}
 use Rattle.model.proofs.Valid.{expressions-lower}
 use Rattle.model.proofs.Fuel.{expr-node}
 use Rattle.model.proofs.Again as again
 use Rattle.model.proofs.Again.{settled-or, added, validated-settled, eval-settled}
-use Rattle.marks.proofs.Subterms.{Under, reflexive-under, under-reflexive, under-extends, under-back}
+use Rattle.marks.specs.Covering.{Under}
+use Rattle.marks.proofs.Subterms.{reflexive-under, under-reflexive, under-extends, under-back}
 use Rattle.load.specs.Held.{sizesIn, tablesFor}
 use Rattle.load.specs.declared.sizes.Sizes.{Sizes}
 use Rattle.program.specs.Ready.{Ready, programFor}

@@ -6,12 +6,12 @@ use Prim.Native.Nat.{ℕ, _+_, _<_, _≤_}
 use native.Mathlib.Omega.{arith}
 use lib.ListN.{length, set, take, drop, length-append, length-set}
 use lib.Seq.{set-append-left, take-at}
-use Rattle.model.specs.Term.{Term, app, getTerm}
+use Rattle.model.specs.Term.{Term, app, getTerm, Extends}
 use Rattle.model.specs.Program.{Proposition}
 use Rattle.model.specs.Check.{Check, andThen, _>>=_, orRefuse, Room, addNode}
 use Rattle.model.specs.Evaluate.{children}
 use Rattle.model.specs.Normalize.{App, asApp}
-use Rattle.model.proofs.Store.{Extends, extends-length, get-extends}
+use Rattle.model.proofs.Store.{extends-length, get-extends}
 use Rattle.cells.specs.Table.{put}
 use Rattle.cells.specs.declared.Fill.{Fill}
 use Rattle.termdag.specs.Store.{termsIn, Stored, roomOf}

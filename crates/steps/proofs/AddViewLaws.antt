@@ -9,14 +9,14 @@ use native.Mathlib.Omega.{arith}
 use lib.Dec.{eqb, ltb}
 use lib.ListN.{length, getD, set, take}
 use borrow.Author.Tests.{eqb-true, eqb-false}
-use Rattle.model.specs.Term.{Term, app, getTerm}
+use Rattle.model.specs.Term.{Term, app, getTerm, Below, Ordered}
 use Rattle.model.specs.Program.{Proposition}
 use Rattle.model.specs.Check.{Check, checkThat, addNode}
 use Rattle.model.specs.Evaluate.{children, same}
 use Rattle.model.specs.Action.{sameProposition, among}
 use Rattle.model.specs.Walk.{last, front}
 use Rattle.model.proofs.Post.{post-result}
-use Rattle.model.proofs.Store.{Below, Ordered, Added}
+use Rattle.model.proofs.Store.{Added}
 use Rattle.model.proofs.Again.{added, child-lower}
 use Rattle.cells.specs.declared.Fill.{Fill}
 use Rattle.termdag.specs.Store.{termsIn, roomOf}
@@ -25,7 +25,8 @@ use Rattle.outcome.specs.declared.Refusal.{Refusal}
 use Rattle.outcome.specs.declared.Checked.{Checked}
 use Rattle.outcome.proofs.Laws.{ok-of, does-here, does-then, does-stop}
 use Rattle.marks.specs.Marks.{close}
-use Rattle.marks.proofs.Marking.{Marks, marks-extends, marks-closed}
+use Rattle.marks.specs.Covering.{Marks}
+use Rattle.marks.proofs.Marking.{marks-extends, marks-closed}
 use Rattle.marks.proofs.Laws.{terms-length}
 use Rattle.heads.specs.Heading.{claimedBy}
 use Rattle.steps.specs.Concluding.{addView}

@@ -8,13 +8,13 @@ use native.Mathlib.Omega.{arith}
 use lib.ListN.{length, getD, take, drop}
 use types.Run.{OneOf}
 use denote.Enum.Declared.{tagOf}
-use Rattle.model.specs.Term.{Term}
+use Rattle.model.specs.Term.{Term, Extends}
 use Rattle.model.specs.Program as program
 use Rattle.model.specs.Program.{Program, Binding}
 use Rattle.model.specs.Check.{Outcome}
 use Rattle.model.specs.Walk.{noProof, claimAt}
 use Rattle.model.proofs.Post.{post-result}
-use Rattle.model.proofs.Store.{Extends, extends-same}
+use Rattle.model.proofs.Store.{extends-same}
 use Rattle.cells.specs.declared.Fill.{Fill}
 use Rattle.decode.specs.View.{propositionOf, justificationOf}
 use Rattle.decode.specs.declared.Proposition.{Proposition}

@@ -7,7 +7,7 @@ use Prim.Native.Nat.{ℕ, zero, suc, _<_, _≤_}
 use native.Mathlib.Omega.{arith}
 use lib.Dec.{eqb, ltb}
 use lib.ListN.{length, getD, set}
-use Rattle.model.specs.Term.{Term, lit, var, app, getTerm}
+use Rattle.model.specs.Term.{Term, lit, var, app, getTerm, Extends, Below, Ordered}
 use Rattle.model.specs.Program.{nameOld, nameNew, nameMergeFunction, Proposition, Binding, Program}
 use Rattle.model.specs.Check.{Outcome, Room}
 use Rattle.model.specs.Evaluate.{children, same, Value}
@@ -15,7 +15,7 @@ use Rattle.model.specs.Action.{among, mergeOf, mergeBindings, runMerge}
 use Rattle.model.specs.Normalize.{App, asApp}
 use Rattle.model.specs.Walk.{front}
 use Rattle.model.proofs.Post.{Post, post-map, post-bind, same-bind, or-bind, that-bind, post-that}
-use Rattle.model.proofs.Store.{Extends, extends-then, extends-length, get-inside, Below, Ordered}
+use Rattle.model.proofs.Store.{extends-then, extends-length, get-inside}
 use Rattle.model.proofs.Again.{added, child-lower, eval-settled}
 use Rattle.evaluate.specs.Evaluation.{Sane}
 use Rattle.steps.specs.Concluding.{Merging, childMatches, congrClaims, congrApp, congrStep, addView, mergeViews, mergeStep}

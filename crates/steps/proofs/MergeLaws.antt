@@ -9,7 +9,7 @@ use native.Mathlib.Omega.{arith}
 use lib.Dec.{eqb}
 use lib.ListN.{length, length-replicate}
 use Rattle.model.specs.Cell.{sameWords}
-use Rattle.model.specs.Term.{Term, lit, var, app, getTerm}
+use Rattle.model.specs.Term.{Term, lit, var, app, getTerm, Ordered}
 use Rattle.model.specs.Program.{nameOld, nameNew, Proposition, Binding, Program}
 use Rattle.model.specs.Check.{Outcome, Check, andThen, _>>=_, pure, orRefuse, checkThat, getTerms, Room}
 use Rattle.model.specs.Evaluate.{children, Value}
@@ -17,7 +17,7 @@ use Rattle.model.specs.Action.{mergeBindings, runMerge}
 use Rattle.model.specs.Normalize.{App, asApp}
 use Rattle.model.specs.Walk.{last, front, checkViews, checkBothApps}
 use Rattle.model.proofs.Post.{Post, post-ok, post-bind, post-result, or-bind, that-bind, post-that}
-use Rattle.model.proofs.Store.{get-extends, Ordered}
+use Rattle.model.proofs.Store.{get-extends}
 use Rattle.model.proofs.Again.{child-lower}
 use Rattle.cells.specs.declared.Fill.{Fill}
 use Rattle.termdag.specs.Store.{termsIn, roomOf}
@@ -25,7 +25,8 @@ use Rattle.outcome.specs.Does.{outcomeOf, Does}
 use Rattle.outcome.specs.declared.Refusal.{Refusal}
 use Rattle.outcome.specs.declared.Checked.{Checked}
 use Rattle.outcome.proofs.Laws.{ok-of, does-here, does-then, does-stop}
-use Rattle.marks.proofs.Marking.{Marks, marks-cleared}
+use Rattle.marks.specs.Covering.{Marks}
+use Rattle.marks.proofs.Marking.{marks-cleared}
 use Rattle.load.specs.declared.sizes.Sizes.{Sizes}
 use Rattle.program.specs.Ready.{programFor}
 use Rattle.evaluate.specs.Evaluation.{Checks}

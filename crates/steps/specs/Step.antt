@@ -6,7 +6,7 @@ use mathlib.Core.Bool.{Bool, true, false}
 use mathlib.Core.Option.{Option, none, some}
 use lib.Dec.{eqb}
 use lib.ListN.{length, getD, take, drop}
-use Rattle.model.specs.Term.{Term, getTerm, readTerm}
+use Rattle.model.specs.Term.{Term, getTerm, readTerm, Extends, Ordered}
 use Rattle.model.specs.Program as program
 use Rattle.model.specs.Program.{Binding}
 use Rattle.model.specs.Check.{Room}
@@ -14,7 +14,6 @@ use Rattle.model.specs.Evaluate.{children}
 use Rattle.model.specs.Action.{among}
 use Rattle.model.specs.Normalize.{App}
 use Rattle.model.specs.Walk.{front, noProof, claimAt}
-use Rattle.model.proofs.Store.{Extends, Ordered}
 use Rattle.cells.specs.declared.Fill.{Fill}
 use Rattle.decode.specs.View.{justificationOf}
 use Rattle.decode.specs.declared.Justification.{Justification}
@@ -23,7 +22,7 @@ use Rattle.memo.specs.Memo.{Past}
 use Rattle.outcome.specs.Does.{Grown, passed, outcomeOf, Does}
 use Rattle.outcome.specs.declared.Refusal.{Refusal}
 use Rattle.outcome.specs.declared.Checked.{Checked}
-use Rattle.marks.proofs.Marking.{Marks}
+use Rattle.marks.specs.Covering.{Marks}
 use Rattle.load.specs.Held.{tablesFor}
 use Rattle.load.specs.declared.sizes.Sizes.{Sizes}
 use Rattle.program.specs.Ready.{Ready, programFor}

@@ -8,14 +8,13 @@ use native.Mathlib.Nat.{not-suc-le-zero, le-of-suc-le-suc}
 use native.Mathlib.Omega.{arith}
 use lib.ListN.{length, getD, take, drop, drop-of-length-le, length-map}
 use lib.Seq.{getD-drop}
-use Rattle.model.specs.Term.{Term}
+use Rattle.model.specs.Term.{Term, Extends}
 use Rattle.model.specs.Program.{Proposition, Binding, Program, Fact, Rule, Proof}
 use Rattle.model.specs.Cell.{noCell}
 use Rattle.model.specs.Decode.{ruleFacts, readBindings}
 use Rattle.model.specs.Check.{Check, andThen, pure, Room}
 use Rattle.model.specs.Fact.{isContainerSideCondition, checkFactMatchesProposition}
 use Rattle.model.specs.Walk.{noProof, claimAt}
-use Rattle.model.proofs.Store.{Extends}
 use Rattle.model.proofs.Post.{post-result}
 use Rattle.cells.specs.declared.Fill.{Fill}
 use Rattle.termdag.specs.Store.{termsIn, roomOf}

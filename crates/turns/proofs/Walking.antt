@@ -12,7 +12,8 @@ use Rattle.model.specs.Program.{Proposition}
 use Rattle.model.specs.Decode.{readBindings}
 use Rattle.model.specs.Check.{Check, andThen, Room}
 use Rattle.model.specs.Walk.{member}
-use Rattle.model.proofs.Store.{Extends, extends-same, extends-then}
+use Rattle.model.specs.Term.{Extends}
+use Rattle.model.proofs.Store.{extends-same, extends-then}
 use Rattle.cells.specs.declared.Fill.{Fill}
 use Rattle.termdag.specs.Store.{termsIn, roomOf}
 use Rattle.memo.specs.Memo.{Past}

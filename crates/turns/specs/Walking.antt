@@ -6,13 +6,12 @@ use mathlib.Core.List.{List, [], _∷_, map}
 use mathlib.Core.Bool.{true, false}
 use lib.Dec.{eqb}
 use lib.ListN.{length, getD, take}
-use Rattle.model.specs.Term.{readTerm}
+use Rattle.model.specs.Term.{readTerm, Extends}
 use Rattle.model.specs.Program.{Proposition, Binding, Program, Rule, Proof, rule, references}
 use Rattle.model.specs.Decode.{readBindings}
 use Rattle.model.specs.Check.{Outcome, Check, _>>=_, pure, Room}
 use Rattle.model.specs.Action.{ActionContext, checkRuleProducesEquality}
 use Rattle.model.specs.Walk.{noProof, member, checkPremises}
-use Rattle.model.proofs.Store.{Extends}
 use Rattle.cells.specs.declared.Fill.{Fill}
 use Rattle.termdag.specs.Store.{termsIn, Stored, roomOf}
 use Rattle.memo.specs.Memo.{Past}

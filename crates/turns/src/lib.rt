@@ -25,7 +25,7 @@ ghost use mathlib.Core.Bool.{true, false};
 ghost use Rattle.model.specs.Fact.{isContainerSideCondition};
 ghost use lib.ListN.{length, getD};
 ghost use Rattle.termdag.specs.Store.{termsIn, Stored, roomOf};
-ghost use Rattle.model.proofs.Store.{Extends};
+ghost use Rattle.model.specs.Term.{Extends};
 ghost use Rattle.memo.specs.Memo.{Past};
 ghost use Rattle.outcome.specs.Does.{passed};
 ghost use Rattle.normal_form.specs.Search.{Searched};

@@ -8,14 +8,13 @@ use lib.Dec.{eqb, ltb, lit<}
 use borrow.Author.Tests.{ltb-true, ltb-false}
 use lib.ListN.{length, getD, set, take, length-set, length-map, List·getD-eq-default}
 use lib.Seq.{take-set-le}
-use Rattle.model.specs.Term.{Term}
+use Rattle.model.specs.Term.{Term, Below}
 use Rattle.model.specs.Program.{Proposition, Program, Proof, Justification, references, substitution}
 use Rattle.model.specs.Decode.{readProof}
 use Rattle.model.specs.Check.{Outcome, Check, andThen, _>>=_, pure, choose, Room}
 use Rattle.model.specs.Walk.{noProof, claimAt, member, checkJustification, checkProofWithContext}
 use Rattle.model.specs.Load.{below, proofRefers}
 use Rattle.model.proofs.Tests.{and-left, and-right}
-use Rattle.model.proofs.Store.{Below}
 use Rattle.model.specs.Action.{ActionContext}
 use Rattle.model.proofs.Fuel.{walk-fuel}
 use Rattle.cells.specs.declared.Fill.{Fill}
