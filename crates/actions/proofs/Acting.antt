@@ -36,11 +36,11 @@ abbrev acted : Refusal → Effect → Fill → Acted
 acted r e f = record { refusal = r; effect = e; fill = f }
 
 -- a pair among two lists
-or-no : (a : Bool) → (a || false) ≡ a
+pub or-no : (a : Bool) → (a || false) ≡ a
 or-no true = refl
 or-no false = refl
 
-or-assoc : (a b c : Bool) → (a || (b || c)) ≡ ((a || b) || c)
+pub or-assoc : (a b c : Bool) → (a || (b || c)) ≡ ((a || b) || c)
 or-assoc true b c = refl
 or-assoc false b c = refl
 

@@ -23,7 +23,7 @@ use Rattle.outcome.specs.declared.Checked.{Checked}
 use Rattle.outcome.proofs.Laws.{ok-of, refused-of}
 use Rattle.marks.specs.Covering.{Marks}
 use Rattle.marks.proofs.Marking.{marks-extends, marks-adds}
-use Rattle.marks.proofs.Laws.{terms-length}
+use Rattle.termdag.proofs.Laws.{terms-length}
 use Rattle.load.specs.declared.sizes.Sizes.{Sizes}
 use Rattle.program.specs.Ready.{Ready, programFor}
 use Rattle.program.specs.Read.{exprFor, argumentsFor}

@@ -1,17 +1,17 @@
 -- Laws of words and of kinds.
-use mathlib.Core.Path.{_≡_, refl, sym, ap, _∙_}
-use mathlib.Core.Bool.{Bool, true, false, not, _&&_, _||_}
-use mathlib.Core.List.{List, [], _∷_, _++_, map}
+use mathlib.Core.Path.{_≡_, refl, sym, _∙_}
+use mathlib.Core.Bool.{Bool, true, false, not, _&&_}
+use mathlib.Core.List.{List, [], _∷_, map}
 use Prim.Native.Nat.{ℕ, zero, suc, _+_, _-_, _≤_, _<_}
 use native.Mathlib.Numerals.{add-one}
 use native.Mathlib.Omega.{arith}
-use lib.Dec.{eqb, leb, ltb}
+use lib.Dec.{eqb, ltb}
 use lib.ListN.{length, getD, take, drop, length-drop, drop-of-length-le, List·getD-eq-default}
 use lib.Seq.{drop-cons, drop-length, take-all}
 use borrow.Author.Tests.{eq-eqb, ne-eqb, lt-ltb, le-ltb}
 use Rattle.cells.proofs.Laws.{to-end}
 use Rattle.model.specs.Term.{Literal, readTerm}
-use Rattle.model.specs.Program.{Binding, references, substitution}
+use Rattle.model.specs.Program.{references, substitution}
 use Rattle.model.specs.Decode.{readArguments, readBindings, readJustification}
 use Rattle.model.specs.Load.{any, bindsOnce, literalFits, termFits, exprFits, below, termRefers, exprRefers, actionRefers}
 

@@ -1,14 +1,14 @@
 -- What appending does to the cells of a table, and the contracts of `append` and `add`, case by case.
 use mathlib.Core.Path.{_≡_, refl, sym, ap, ap₂, _∙_}
 use mathlib.Core.Logic.{_≢_, inl, inr}
-use mathlib.Core.Bool.{Bool, true, false, _&&_}
+use mathlib.Core.Bool.{Bool, true, false}
 use mathlib.Core.List.{List, [], _∷_, _++_, append-assoc}
 use Prim.Native.Nat.{ℕ, zero, suc, _+_, _-_, _≤_, _<_}
-use native.Mathlib.Nat.{le-trans, zero-sub, suc-sub-suc, sub-zero}
+use native.Mathlib.Nat.{zero-sub, suc-sub-suc, sub-zero}
 use native.Mathlib.Numerals.{add-one}
 use native.Mathlib.Omega.{arith}
 use lib.ListN.{length, getD, take, drop, set, length-take, length-drop, length-set, length-append}
-use lib.Seq.{paste, take-append-le, take-take, take-at, drop-at, take-length, take-nil, length-take-le, getD-set-same, getD-set-other, drop-set-lt, drop-drop}
+use lib.Seq.{paste, take-append-le, take-take, take-at, drop-at, take-length, take-nil, length-take-le, getD-set-same, getD-set-other, drop-set-lt}
 use borrow.Author.Tests.{lt-ltb, le-ltb, le-leb, lt-leb}
 use borrow.Author.Count.{below-more}
 use Rattle.model.specs.Cell.{Cell, noCell, tabulate, startOf, wordsAt, cellAt, cellsOf}

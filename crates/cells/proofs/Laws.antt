@@ -9,11 +9,11 @@ use native.Mathlib.Numerals.{add-one}
 use native.Mathlib.Omega.{arith}
 use lib.Dec.{eqb}
 use borrow.Author.Tests.{eq-eqb, ne-eqb, eqb-true}
-use lib.ListN.{length, getD, take, drop, length-take, length-drop, length-append, drop-of-length-le, List·getD-append}
+use lib.ListN.{length, getD, take, drop, length-take, length-drop, drop-of-length-le, List·getD-append}
 use lib.Seq.{drop-cons, getD-at, take-length}
 use Rattle.model.specs.Cell.{Cell, noCell, sameWords, sameCell, tabulate, startOf, wordsAt, cellAt, cellsOf}
-use Rattle.model.proofs.Tests.{and-false, eqb-same, words-same}
-use Rattle.model.proofs.Valid.{length-tabulate}
+use Rattle.model.proofs.Tests.{and-false, and-left, and-right, words-eq}
+use Rattle.model.proofs.Valid.{length-tabulate, cell-same}
 use Rattle.cells.specs.Table.{Formed, findFrom, findCell, Once}
 use Rattle.cells.specs.declared.Fill.{Fill}
 use Rattle.cells.specs.declared.Found.{Found}
@@ -123,22 +123,12 @@ pub cells-fewer : (K E P : List ℕ) (m n i : ℕ) → m ≤ n → i < m → get
 cells-fewer K E P m n i h l = cell-at K E P m i l ∙ sym (cell-at K E P n i (omega arith))
 
 -- the test of equality decides it
-and-both : (t u : Bool) → (t && u) ≡ true → (t ≡ true) × (u ≡ true)
-and-both true u e = (refl, e)
-and-both false u e = let z : false ≡ true = e in (z, cc)
-
-pub same-words-eq : (a b : List ℕ) → sameWords a b ≡ true → a ≡ b
-same-words-eq [] [] e = refl
-same-words-eq [] (y ∷ b) e = cc
-same-words-eq (x ∷ a) [] e = cc
-same-words-eq (x ∷ a) (y ∷ b) e =
-    let h = and-both (eqb x y) (sameWords a b) e in
-    λ i. eqb-true x y (h .0) i ∷ same-words-eq a b (h .1) i
-
 pub same-cell-eq : (a b : Cell) → sameCell a b ≡ true → a ≡ b
 same-cell-eq a b e =
-    let h = and-both (eqb (a .kind) (b .kind)) (sameWords (a .words) (b .words)) e in
-    λ i. record { kind = eqb-true (a .kind) (b .kind) (h .0) i; words = same-words-eq (a .words) (b .words) (h .1) i }
+    λ i. record {
+      kind = eqb-true (a .kind) (b .kind) (and-left (eqb (a .kind) (b .kind)) (sameWords (a .words) (b .words)) e) i;
+      words = words-eq (a .words) (b .words) (and-right (eqb (a .kind) (b .kind)) (sameWords (a .words) (b .words)) e) i;
+    }
 
 -- a number that was found is below the length, and the cell's own
 Hit : (k : ℕ) (cs : List Cell) (c : Cell) (i : ℕ) → Type 0
@@ -190,13 +180,10 @@ near-found cs c n once h e =
     q ∙ ap Found.At (once .one i n (g .0) h (g .1 ∙ sym (same-cell-eq (getD cs n noCell) c e)))
 
 -- where none is found, none is equal
-same-cell-self : (c : Cell) → sameCell c c ≡ true
-same-cell-self c = λ i. eqb-same (c .kind) i && words-same (c .words) i
-
 pub never-found : (cs : List Cell) (c : Cell) (i : ℕ) → findCell cs c ≡ Found.Nothing → i < length cs → getD cs i noCell ≡ c → ⊥
 unfolding SomeFound
 never-found cs c i e h q =
-    let (n, g) = some-found cs c 0 i h (ap (λ (x : Cell). sameCell x c) q ∙ same-cell-self c) in
+    let (n, g) = some-found cs c 0 i h (ap (λ (x : Cell). sameCell x c) q ∙ cell-same c) in
     let z : _≡_ {A = Found} Found.Nothing (Found.At n) = sym e ∙ g in
     let y : _≡_ {A = ℕ} 0 1 = cc in
     omega arith

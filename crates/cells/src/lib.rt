@@ -39,7 +39,7 @@ pub fn wide(x: u32) -> usize
 }
 
 // Where the words of cell i start in the pool.
-fn start(ends: &[u32], i: usize) -> usize
+pub fn start(ends: &[u32], i: usize) -> usize
     requires { ⌜ i ≤ length (now ends) ⌝ }
     ensures { λ r. ⌜ r ≡ startOf (now (ends .entry)) i ⌝ }
 {

@@ -9,12 +9,10 @@ use Rattle.load.specs.Held.{tablesFor}
 use Rattle.load.specs.declared.sizes.Sizes.{Sizes}
 use Rattle.program.specs.Ready.{Ready, programFor}
 use Rattle.evaluate.specs.Evaluation.{Sane}
-use Rattle.context.specs.Contexts.{Few}
 
 -- An admitted job, a store that has its terms, and scratch of two words for each cell of the store and one for each proof.
 pub record Given (K E P : List ℕ) (z : Sizes) (k e p : List ℕ) (f : Fill) (W : List ℕ) : Type 0 where
   pub ready : Ready K E P z
-  pub few : Few z
   pub stored : Stored k e p f
   pub sane : Sane (programFor K E P z) [] (termsIn k e p f)
   pub terms : Extends (map readTerm (tablesFor K E P z .terms)) (termsIn k e p f)

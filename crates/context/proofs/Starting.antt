@@ -30,8 +30,8 @@ use Rattle.outcome.proofs.Laws.{grown-same, grown-then, room-same, ok-of, refus
 use Rattle.marks.specs.Marks.{close}
 use Rattle.marks.specs.Covering.{Marks}
 use Rattle.marks.proofs.Marking.{marks-closed}
-use Rattle.marks.proofs.Laws.{terms-length}
-use Rattle.load.specs.Held.{sizesIn}
+use Rattle.termdag.proofs.Laws.{terms-length}
+use Rattle.load.specs.Held.{sizesIn, Limits}
 use Rattle.load.specs.declared.sizes.Sizes.{Sizes}
 use Rattle.program.specs.Ready.{programFor, optionOf}
 use Rattle.program.specs.Read.{actionFor}
@@ -42,7 +42,7 @@ use Rattle.actions.specs.Acting.{Standing, Acts, Pushed, effectBindings}
 use Rattle.actions.specs.declared.Acted.{Acted}
 use Rattle.actions.proofs.Acting.{among-append, standing-after}
 use Rattle.context.specs.declared.Globals.{Globals}
-use Rattle.context.specs.Contexts.{Few, unionsHave, Even, Joined, Turned, Collected, Context}
+use Rattle.context.specs.Contexts.{unionsHave, Even, Joined, Turned, Collected, Context}
 
 abbrev globals : Refusal → ℕ → ℕ → Fill → Globals
 globals r b u f = record { refusal = r; bindings = b; unions = u; fill = f }
@@ -197,7 +197,7 @@ module _ (K E P : List ℕ) (z : Sizes) where
           ∙ ap (λ (as′ : List Action). runs (roomOf k₀ p₀) as′ (has σ (H .pairs)) s) (sym (globals-from K E P z i h))
           ∙ H .run
 
-      pub stops : Few z → (r .refusal .number ≡ 0 → ⊥) → Collected prog k₀ e₀ p₀ f₀ k₁ e₁ p₁ r memo₁ m₁ T₁ U₁
+      pub stops : Limits z → (r .refusal .number ≡ 0 → ⊥) → Collected prog k₀ e₀ p₀ f₀ k₁ e₁ p₁ r memo₁ m₁ T₁ U₁
       stops w x = record {
         context = startContext [];
         does = does-after (H .grown) (does-stop (startContext []) (runs (roomOf k₀ p₀) later) (t .does (H .pairs)) x) next;
@@ -208,7 +208,7 @@ module _ (K E P : List ℕ) (z : Sizes) where
         marks = λ y. absurd (x y);
         others = λ y. absurd (x y);
         table = let a = t .most in let b = H .high in omega arith;
-        unions = let a = t .unions in let b = H .few in let c = w .few in omega arith;
+        unions = let a = t .unions in let b = H .few in let c = w .globals in omega arith;
       }
 
       pub turns : r .refusal .number ≡ 0 → length memo₁ ≡ length memo → length m₁ ≡ length m → length T₁ ≡ length T → length U₁ ≡ length U
@@ -240,7 +240,7 @@ module _ (K E P : List ℕ) (z : Sizes) where
           after : ActionContext
           after = has (readBindings (drop (r .bindings) T₁)) (H .pairs ++ t .pairs)
 
-    pub finishes : Few z → z .globals ≤ i → Collected prog k₀ e₀ p₀ f₀ k e p (globals passed at n f) memo m T U
+    pub finishes : Limits z → z .globals ≤ i → Collected prog k₀ e₀ p₀ f₀ k e p (globals passed at n f) memo m T U
     finishes w h = record {
       context = has σ (H .pairs);
       does = record {
@@ -256,7 +256,7 @@ module _ (K E P : List ℕ) (z : Sizes) where
       marks = λ _. H .marks;
       others = λ _. H .others;
       table = H .high;
-      unions = let a = H .few in let b = w .few in let c = H .upto in omega arith;
+      unions = let a = H .few in let b = w .globals in let c = H .upto in omega arith;
     }
 
 -- no rule name twice
@@ -321,28 +321,3 @@ module _ {prog : Program} {k e p : List ℕ} {f : Fill} {l : Looked} (q : option
       table = C .table;
       unions = C .unions;
     }
-
--- the sizes of a job that loads
-refused-no : (b : Bool) (n : ℕ) → refusedIf b n ≡ none → b ≡ false
-unfolding refusedIf
-refused-no false n h = refl
-refused-no true n h = absurd (Option·none-ne-some _ (sym h))
-
-pub few-of : (z : Sizes) → tooLarge (sizesIn z) ≡ false → Few z
-few-of z h =
-    let a1 = or-left _ (ltb 131072 (z .pool)) h in
-    let a2 = or-left _ (ltb 4096 (z .proofs)) a1 in
-    let a3 = or-left _ (ltb 4096 (z .rules)) a2 in
-    let a4 = or-left _ (ltb 4096 (z .normalisers)) a3 in
-    let a5 = or-left _ (ltb 4096 (z .rows)) a4 in
-    let a6 = or-left _ (ltb 4096 (z .primitives)) a5 in
-    let a7 = or-left _ (ltb 4096 (z .functions)) a6 in
-    let front : Bool = ltb 16384 (z .terms) || ltb 4096 (z .expressions) || ltb 4096 (z .facts) || ltb 4096 (z .actions) in
-    record {
-      few = ltb-false 256 (z .globals) (or-right front (ltb 256 (z .globals)) (or-left _ (ltb (z .actions) (z .globals)) a7));
-      first = ltb-false (z .actions) (z .globals) (or-right (front || ltb 256 (z .globals)) (ltb (z .actions) (z .globals)) a7);
-    }
-
-pub loads-few : (ws : List ℕ) (asked : ℕ) (l : Lent) → loadRefusal ws asked l ≡ none → (z : Sizes) → sizesIn z ≡ sizesOf ws → Few z
-unfolding loadRefusal
-loads-few ws asked l a z s = few-of z (ap tooLarge s ∙ refused-no _ 2 (pass (loadTests ws (sizesOf ws) (tablesOf ws) asked l) a _ (List·Memᴰ·tail (List·Memᴰ·head refl))))

@@ -11,15 +11,8 @@ use Rattle.model.specs.Program.{Proposition}
 use Rattle.model.specs.Action.{sameProposition, among}
 use Rattle.actions.specs.Acting.{effectHas}
 use Rattle.actions.specs.declared.Effect.{Effect}
+use Rattle.actions.proofs.Acting.{or-no, or-assoc}
 use Rattle.context.specs.Contexts.{unionsHave, Even, Joined, GlobalPairs}
-
-or-no : (a : Bool) → (a || false) ≡ a
-or-no true = refl
-or-no false = refl
-
-or-assoc : (a b c : Bool) → (a || (b || c)) ≡ ((a || b) || c)
-or-assoc true b c = refl
-or-assoc false b c = refl
 
 -- a union behind the others
 has-append : (a b : ℕ) (q : Proposition) (h : ℕ) (ws : List ℕ) → length ws ≡ h + h → unionsHave (ws ++ (a ∷ b ∷ [])) q ≡ (unionsHave ws q || effectHas (Effect.Union a b) q)

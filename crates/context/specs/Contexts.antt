@@ -22,11 +22,6 @@ use Rattle.actions.specs.Acting.{effectHas}
 use Rattle.actions.specs.declared.Effect.{Effect}
 use Rattle.context.specs.declared.Globals.{Globals}
 
--- The global actions are few, and the first of all actions.
-pub record Few (z : Sizes) : Type 0 where
-  pub few : z .globals ≤ 256
-  pub first : z .globals ≤ z .actions
-
 -- Two words make a union: the pair is one of the two of a union.
 abbrev pub unionsHave : List ℕ → Proposition → Bool
 unionsHave [] q = false

@@ -25,7 +25,7 @@ ghost use Rattle.program.specs.Ready.{programFor};
 ghost use Rattle.program.specs.Read.{actionFor};
 ghost use Rattle.marks.specs.Covering.{Marks};
 ghost use Rattle.actions.specs.Acting.{Standing};
-ghost use Rattle.context.specs.Contexts.{Few, unionsHave, Even, Joined, GlobalPairs, Turned, Collected, Context};
+ghost use Rattle.context.specs.Contexts.{unionsHave, Even, Joined, GlobalPairs, Turned, Collected, Context};
 
 // What the global actions leave: where the bindings start in their table, the words of unions in theirs, and the fill of the store.
 pub struct Globals {
@@ -162,7 +162,6 @@ fn global_actions(
     unions: &mut [u32],
 ) -> Globals
     requires { ⌜ Standing (now kinds) (now ends) (now pool) z [] (now skinds) (now sends) (now spool) fill (now memo) (now marks) ⌝ }
-    requires { ⌜ Few z ⌝ }
     requires { ⌜ Marks (termsIn (now skinds) (now sends) (now spool) fill) (now marks) [] ⌝ }
     requires { ⌜ length (now table) ≡ 512 ⌝ }
     requires { ⌜ length (now unions) ≡ 512 ⌝ }
@@ -227,7 +226,6 @@ pub fn new_context(
     unions: &mut [u32],
 ) -> Globals
     requires { ⌜ Standing (now kinds) (now ends) (now pool) z [] (now skinds) (now sends) (now spool) fill (now memo) (now marks) ⌝ }
-    requires { ⌜ Few z ⌝ }
     requires { ⌜ length (now table) ≡ 512 ⌝ }
     requires { ⌜ length (now unions) ≡ 512 ⌝ }
     ensures { λ r. ⌜ Context (programFor (now (kinds .entry)) (now (ends .entry)) (now (pool .entry)) z) (now (skinds .entry)) (now (sends .entry)) (now (spool .entry)) fill (now (skinds .exit)) (now (sends .exit)) (now (spool .exit)) r (now (memo .exit)) (now (marks .exit)) (now (table .exit)) (now (unions .exit)) ⌝ }

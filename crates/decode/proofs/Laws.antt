@@ -1,15 +1,15 @@
 -- What the readers give, case by case.
-use mathlib.Core.Path.{_≡_, refl, sym, ap, _∙_}
-use mathlib.Core.List.{List, [], _∷_}
-use Prim.Native.Nat.{ℕ, zero, suc, _+_, _*_, _-_, _≤_, _<_}
+use mathlib.Core.Path.{_≡_, sym, ap, _∙_}
+use mathlib.Core.List.{List, []}
+use Prim.Native.Nat.{ℕ, zero, suc, _+_, _-_, _≤_, _<_}
 use native.Mathlib.Omega.{arith}
 use native.Mathlib.Nat.{sub-zero, suc-sub-suc, not-suc-le-zero, le-of-suc-le-suc}
-use lib.ListN.{length, getD, take, drop, length-drop}
-use lib.Seq.{take-length, drop-drop}
+use lib.ListN.{length, take, drop}
+use lib.Seq.{drop-drop}
 use borrow.Author.Tests.{lt-ltb, le-ltb}
 use Rattle.cells.proofs.Laws.{to-end}
-use Rattle.model.specs.Decode.{readArguments, readBindings}
-use Rattle.decode.specs.View.{cell, noBinding}
+use Rattle.model.specs.Decode.{readArguments}
+use Rattle.decode.specs.View.{cell}
 
 -- none of the kinds below n, as the last arm of a match has it
 abbrev pub Others : ℕ → ℕ → Type 0
@@ -46,13 +46,3 @@ arguments-none k ws h = rw (lt-ltb k 2 h, readArguments)
 
 pub arguments-some : (k : ℕ) (ws : List ℕ) → 2 ≤ k → drop 1 ws ≡ readArguments (cell k ws)
 arguments-some k ws h = rw (le-ltb k 2 h, readArguments)
-
--- binding i is pair i
-pub pair-at : (ws : List ℕ) (i : ℕ) → 2 * i + 1 < length ws → record { name = getD ws (2 * i) 0; term = getD ws (2 * i + 1) 0 } ≡ getD (readBindings ws) i noBinding
-pair-at [] i h = absurd (not-suc-le-zero h)
-pair-at (x ∷ []) i h = absurd (omega arith)
-pair-at (x ∷ t ∷ ws) zero h = refl
-pair-at (x ∷ t ∷ ws) (suc i) h =
-    let e : 2 * suc i ≡ suc (suc (2 * i)) = omega arith in
-    let f : 2 * suc i + 1 ≡ suc (suc (2 * i + 1)) = omega arith in
-    rw (f, e) (pair-at ws i (omega arith))

@@ -21,7 +21,6 @@ use Rattle.decode.specs.declared.Normaliser.{Normaliser}
 use Rattle.decode.specs.declared.Proposition.{Proposition}
 use Rattle.decode.specs.declared.RuleStep.{RuleStep}
 use Rattle.decode.specs.declared.Justification.{Justification}
-use Rattle.decode.specs.declared.Binding.{Binding}
 
 -- The cell of a kind and its words.
 abbrev pub cell : ℕ → List ℕ → Cell
@@ -106,11 +105,3 @@ rulePairs c = drop (word c 3) (drop 4 (c .words))
 pub record Justifies (r : Justification) (c : Cell) : Type 0 where
   pub is : justificationOf r (rulePremises c) (rulePairs c) ≡ readJustification c
   pub premises : (s : RuleStep) → r ≡ Justification.Rule s → s .premises ≡ word c 3
-
--- A binding.
-abbrev pub bindingOf : Binding → program.Binding
-bindingOf b = record { name = b .name; term = b .term }
-
--- What a look-up past the last binding gives.
-abbrev pub noBinding : program.Binding
-noBinding = record { name = 0; term = 0 }

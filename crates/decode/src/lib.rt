@@ -7,7 +7,7 @@ ghost use Rattle.model.specs.Term.{readLiteral, readTerm};
 ghost use Rattle.model.specs.Program as program;
 ghost use Rattle.model.specs.Program.{nameOld, nameNew, nameGlobalActions, nameMergeFunction};
 ghost use Rattle.model.specs.Decode.{readHead, readArguments, readFact, readAction, readFunction, readPrimitive, readRow, readNormaliser, ruleFacts, ruleActions, readRule, readBindings, readProof};
-ghost use Rattle.decode.specs.View.{cell, literalOf, termOf, headOf, factOf, actionOf, functionOf, primitiveOf, rowOf, normaliserOf, propositionOf, rulePremises, rulePairs, Justifies, bindingOf, noBinding};
+ghost use Rattle.decode.specs.View.{cell, literalOf, termOf, headOf, factOf, actionOf, functionOf, primitiveOf, rowOf, normaliserOf, propositionOf, rulePremises, rulePairs, Justifies};
 
 // A name, by the number that a job gives it.
 pub struct Name {
@@ -129,12 +129,6 @@ pub enum Justification {
     Congr(CongrStep),
     ContainerNormalize(u32),
     Eval,
-}
-
-// A name bound to a term.
-pub struct Binding {
-    pub name: u32,
-    pub term: u32,
 }
 
 // The numbers of the reserved names, as the definitions have them.
@@ -396,16 +390,4 @@ pub fn rule_pairs(words: &[u32]) -> &[u32]
     ensures { λ r. ⌜ now r ≡ rulePairs (cell 1 (now (words .entry))) ⌝ }
 {
     behind(words, 3)
-}
-
-// Binding i of a substitution's pairs.
-pub fn read_binding(pairs: &[u32], i: usize) -> Binding
-    requires { ⌜ 2 * i + 1 < length (now pairs) ⌝ }
-    ensures { λ r. ⌜ bindingOf r ≡ getD (readBindings (now (pairs .entry))) i noBinding ⌝ }
-{
-    let k = 2 * i;
-    Binding {
-        name: pairs[k],
-        term: pairs[k + 1],
-    }
 }

@@ -21,7 +21,6 @@ use Rattle.load.specs.Held.{tablesFor}
 use Rattle.load.specs.declared.sizes.Sizes.{Sizes}
 use Rattle.program.specs.Ready.{Ready, programFor}
 use Rattle.program.specs.Read.{proofsFor, ClaimAt}
-use Rattle.context.proofs.Starting.{loads-few}
 use Rattle.prepare.specs.declared.Prepared.{Prepared}
 use Rattle.prepare.specs.Prepares.{arraysOf, Whole, Prepares}
 use Rattle.prepare.proofs.Jobs.{tables-for}
@@ -72,7 +71,6 @@ module _ {ws : List ℕ} {asked : ℕ} {K E P : List ℕ} {scratch : ℕ} {K₁ 
           let T = S .started n in
           by-parts (λ a b c. Given a b c (p .z) K₁ E₁ P₁ (p .fill) W) (record {
             ready = T .ready;
-            few = loads-few ws asked (lentBy (arraysOf K E P) scratch) (prepared-none S n) (p .z) (T .whole .sizes);
             stored = T .stored;
             sane = T .sane;
             terms = terms-first;

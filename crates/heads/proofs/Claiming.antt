@@ -23,7 +23,7 @@ use Rattle.outcome.proofs.Laws.{does-here, does-then, does-stop}
 use Rattle.marks.specs.Marks.{zeros, close}
 use Rattle.marks.specs.Covering.{Marks}
 use Rattle.marks.proofs.Marking.{marks-cleared, marks-closed}
-use Rattle.marks.proofs.Laws.{terms-length}
+use Rattle.termdag.proofs.Laws.{terms-length}
 use Rattle.load.specs.Held.{tablesFor}
 use Rattle.load.specs.declared.sizes.Sizes.{Sizes}
 use Rattle.program.specs.Ready.{programFor, ruleFor}

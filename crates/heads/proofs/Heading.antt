@@ -28,7 +28,7 @@ use Rattle.outcome.proofs.Laws.{ok-of, refused-of, grown-same, grown-then, room
 use Rattle.marks.specs.Marks.{zeros, close}
 use Rattle.marks.specs.Covering.{Marks}
 use Rattle.marks.proofs.Marking.{marks-cleared, marks-closed}
-use Rattle.marks.proofs.Laws.{terms-length}
+use Rattle.termdag.proofs.Laws.{terms-length}
 use Rattle.load.specs.declared.sizes.Sizes.{Sizes}
 use Rattle.program.specs.Ready.{Ready, programFor}
 use Rattle.program.specs.Read.{actionFor}

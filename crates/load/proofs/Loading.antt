@@ -1,6 +1,6 @@
 -- Laws of loading as a whole: what rising ends give, the tests in their order, and the room that the terms take.
 use mathlib.Core.Path.{_≡_, refl, sym, ap, ap₂, subst, _∙_}
-use mathlib.Core.Bool.{Bool, true, false, not, _||_}
+use mathlib.Core.Bool.{Bool, true, false, _||_}
 use mathlib.Core.List.{List, [], _∷_, _++_, map, List·Memᴰ, List·Memᴰ·head, List·Memᴰ·tail}
 use mathlib.Core.Option.{Option, none, some, Option·none-ne-some}
 use Prim.Native.Nat.{ℕ, zero, suc, _+_, _*_, _-_, _≤_, _<_}
@@ -129,7 +129,7 @@ fits-total (c ∷ cs) h =
     ap₂ _+_ e (fits-total cs (λ k l. h (suc k) (omega arith)))
 
 module _ {A : Type 0} (f : ℕ → A) where
-  take-tabulate : (n k : ℕ) → k ≤ n → take k (tabulate n f) ≡ tabulate k f
+  pub take-tabulate : (n k : ℕ) → k ≤ n → take k (tabulate n f) ≡ tabulate k f
   unfolding tabulate
   take-tabulate zero k h = let e : 0 ≡ k = omega arith in take-all k [] (omega arith) ∙ ap (λ (i : ℕ). tabulate i f) e
   take-tabulate (suc n) k h = go (decLt n k) (take-tabulate n k)
@@ -157,7 +157,7 @@ module _ {K E P : List ℕ} {z : SizesHeld} (H : Held K E P z) (l : Lent) where
       ap (λ (n : ℕ). roomLacks (sizesIn z) n l) w
 
 -- a job's words
-or-no : (a b : Bool) → (a || b) ≡ false → (a ≡ false) × (b ≡ false)
+pub or-no : (a b : Bool) → (a || b) ≡ false → (a ≡ false) × (b ≡ false)
 or-no a b h = (or-left a b h, or-right a b h)
 
 pub limits-of : (z : SizesHeld) → tooLarge (sizesIn z) ≡ false → Limits z
@@ -179,6 +179,8 @@ limits-of z h =
       expressions = ltb-false 4096 (z .expressions) (a12 .1);
       facts = ltb-false 4096 (z .facts) (a11 .1);
       actions = ltb-false 4096 (z .actions) (a10 .1);
+      globals = ltb-false 256 (z .globals) (a9 .1);
+      first = ltb-false (z .actions) (z .globals) (a8 .1);
       functions = ltb-false 4096 (z .functions) (a7 .1);
       primitives = ltb-false 4096 (z .primitives) (a6 .1);
       rows = ltb-false 4096 (z .rows) (a5 .1);
@@ -254,7 +256,7 @@ module _ (ws : List ℕ) (z : SizesHeld) (n : ℕ) (s : sizesIn z ≡ sizesOf ws
   cut-refusal l = λ i. cellRefusal (ends-cut i) (s i) (tablesIn (s i) (cellsOf (kinds-cut i) (ends-cut i) (pool-cut i) (cellCount (s i)))) l
 
 -- a job that loads: its arrays, as the code cuts them, hold its cells, and its tables pass
-refused-no : (b : Bool) (n : ℕ) → refusedIf b n ≡ none → b ≡ false
+pub refused-no : (b : Bool) (n : ℕ) → refusedIf b n ≡ none → b ≡ false
 unfolding refusedIf
 refused-no false n h = refl
 refused-no true n h = absurd (Option·none-ne-some _ (sym h))
@@ -263,7 +265,7 @@ module _ (ws : List ℕ) (asked : ℕ) (l : Lent) (a : loadRefusal ws asked l �
   abbrev tests : List (Unit {0} → Option Refusal)
   tests = loadTests ws (sizesOf ws) (tablesOf ws) asked l
 
-  test-passes : (t : Unit {0} → Option Refusal) → List·Memᴰ t tests → t tt ≡ none
+  pub test-passes : (t : Unit {0} → Option Refusal) → List·Memᴰ t tests → t tt ≡ none
   unfolding loadRefusal
   test-passes t m = pass tests a t m
 

@@ -1,16 +1,15 @@
 -- Laws of the rounds 6 to 9, of rising ends and of the room.
-use mathlib.Core.Path.{_≡_, refl, sym, ap, _∙_}
+use mathlib.Core.Path.{_≡_, refl, ap, _∙_}
 use mathlib.Core.Bool.{Bool, true, false, not, _&&_, _||_}
-use mathlib.Core.List.{List, [], _∷_, _++_, map}
+use mathlib.Core.List.{List, [], _∷_}
 use mathlib.Core.Option.{Option, none, some}
-use Prim.Native.Nat.{ℕ, zero, suc, _+_, _*_, _-_, _≤_, _<_, _^_}
+use Prim.Native.Nat.{ℕ, zero, suc, _+_, _*_, _-_, _≤_, _<_}
 use native.Mathlib.Numerals.{add-one}
 use native.Mathlib.Omega.{arith}
 use lib.Dec.{eqb, leb, ltb}
-use lib.ListN.{length, getD, take, drop, drop-of-length-le}
+use lib.ListN.{length, getD, drop, drop-of-length-le}
 use lib.Seq.{drop-cons}
-use borrow.Author.Tests.{lt-ltb, le-ltb, le-leb, lt-leb, leb-true}
-use Rattle.model.specs.Cell.{Cell, startOf}
+use borrow.Author.Tests.{lt-ltb, le-ltb, le-leb, lt-leb}
 use Rattle.model.specs.Layout.{Sizes, Tables, tableList}
 use Rattle.model.specs.Check.{Refusal}
 use Rattle.model.specs.Load.{Lent, endsRise, marks, firstMarked, firstRefusal, firstFailing}
@@ -77,3 +76,11 @@ or-true false = refl
 
 pub room-many : (z : Sizes) (words : ℕ) (l : Lent) → 65536 < l .kinds → true ≡ roomLacks z words l
 room-many z words l h = rw (lt-ltb 65536 (l .kinds) h, or-true)
+
+or-false : (b : Bool) → (b || false) ≡ b
+or-false true = refl
+or-false false = refl
+
+pub room-few : (z : Sizes) (words : ℕ) (l : Lent) → l .kinds ≤ 65536
+    → (ltb (l .kinds) (z .terms) || ltb (l .pool) words || ltb 1048576 (l .pool) || not (eqb (l .kinds) (l .ends)) || ltb (l .scratch) (2 * (l .kinds + z .proofs))) ≡ roomLacks z words l
+room-few z words l h = rw (le-ltb 65536 (l .kinds) h, or-false)

@@ -5,17 +5,17 @@ use mathlib.Core.List.{List, [], _∷_, _++_}
 use Prim.Native.Nat.{ℕ, zero, suc, _+_, _-_, _≤_, _<_}
 use native.Mathlib.Numerals.{add-one}
 use native.Mathlib.Omega.{arith}
-use lib.Dec.{eqb, leb, ltb}
+use lib.Dec.{eqb, ltb}
 use lib.ListN.{length, getD, take, drop, length-take, length-drop, drop-of-length-le, List·getD-eq-default}
 use lib.Seq.{getD-take, getD-drop, drop-cons, take-take}
-use borrow.Author.Tests.{eq-eqb, ne-eqb, lt-ltb, le-ltb, le-leb, lt-leb}
-use Rattle.model.specs.Cell.{Cell, noCell, cellAt, cellsOf}
+use borrow.Author.Tests.{ne-eqb, le-ltb, le-leb, lt-leb}
+use Rattle.model.specs.Cell.{Cell, noCell, cellsOf}
 use Rattle.model.specs.Layout.{Sizes, Tables, part, tablesIn, tableList, cellCount, firstFact, firstAction, firstFunction, firstPrimitive, firstRow, firstNormaliser, firstRule, firstProof}
-use Rattle.model.specs.Decode.{word, readArguments, readPrimitive}
-use Rattle.model.specs.Load.{any, failsFrom, marks, isFirst, sameHead, counts, isSetCall, setFits, actionFits, validates, passed, fitTests, validTests, onceTests}
+use Rattle.model.specs.Decode.{readArguments, readPrimitive}
+use Rattle.model.specs.Load.{any, failsFrom, marks, isFirst, sameHead, counts, isSetCall, setFits, validates, passed, fitTests, validTests, onceTests}
 use Rattle.cells.proofs.Laws.{cell-at}
 use Rattle.cells.specs.declared.Found.{Found}
-use Rattle.load.specs.Held.{countsOf, sumOf, cellNumber, fixedCounts, alikeBy, firstAmong, testsFor, firstFound}
+use Rattle.load.specs.Held.{countsOf, cellNumber, fixedCounts, alikeBy, firstAmong, testsFor, firstFound}
 
 -- a cell of a table is a cell of the job
 pub part-at : (cs : List Cell) (from count i : ℕ) → i < count → getD (part cs from count) i noCell ≡ getD cs (from + i) noCell

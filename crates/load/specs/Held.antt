@@ -59,6 +59,8 @@ pub record Limits (z : SizesHeld) : Type 0 where
   pub expressions : z .expressions ≤ 4096
   pub facts : z .facts ≤ 4096
   pub actions : z .actions ≤ 4096
+  pub globals : z .globals ≤ 256
+  pub first : z .globals ≤ z .actions
   pub functions : z .functions ≤ 4096
   pub primitives : z .primitives ≤ 4096
   pub rows : z .rows ≤ 4096

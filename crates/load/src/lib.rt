@@ -10,6 +10,7 @@ use crate::sizes::too_large;
 use crate::sizes::wrong_length;
 use crate::tables::first_marked;
 use cells::Found;
+use cells::start;
 use cells::wide;
 ghost use mathlib.Core.Path.{_≡_};
 ghost use mathlib.Core.Bool.{Bool, true, false};
@@ -61,17 +62,6 @@ pub fn writer_refusal(kinds: &[u32], ends: &[u32], pool: &[u32], z: Sizes) -> Lo
     Loaded::Admitted
 }
 
-// The pool words of the first n cells.
-pub fn words_of(ends: &[u32], n: usize) -> usize
-    requires { ⌜ n ≤ length (now ends) ⌝ }
-    ensures { λ r. ⌜ r ≡ startOf (now (ends .entry)) n ⌝ }
-{
-    if n == 0 {
-        return 0;
-    }
-    wide(ends[n - 1])
-}
-
 // 10: too little room, too much, unequal arrays, or scratch short.
 pub fn no_room(
     z: Sizes,
@@ -89,7 +79,6 @@ pub fn no_room(
     }
     (kinds < z.terms)
         | (pool < words)
-        | (65536 < kinds)
         | (1048576 < pool)
         | (kinds != ends)
         | (scratch < 2 * (kinds + z.proofs))
@@ -115,7 +104,7 @@ pub fn load_cells(
     let w = writer_refusal(kinds, ends, pool, z);
     match w {
         Loaded::Admitted => {
-            let words = words_of(ends, z.terms);
+            let words = start(ends, z.terms);
             if no_room(z, words, lent_kinds, lent_ends, lent_pool, scratch) {
                 Loaded::Host(10)
             } else {

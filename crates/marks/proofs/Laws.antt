@@ -79,8 +79,3 @@ module _ {s : List Term} {n : ℕ} {m₀ : List ℕ} {i : ℕ} {m : List ℕ} (C
   pub closed-all : i ≡ 0 → m ≡ close s n m₀
   unfolding close
   closed-all e = sym (C .rest ∙ rw (e, close))
-
--- as many terms as cells
-pub terms-length : (K E P : List ℕ) (f : Fill) → length (termsIn K E P f) ≡ f .cells
-unfolding termsIn
-terms-length K E P f = length-map (cellsOf K E P (f .cells)) readTerm ∙ cells-length K E P (f .cells)

@@ -128,7 +128,7 @@ term-cell c e = go (c .kind) (c .words) e
     go (suc (suc zero)) ws e = ap (λ (us : List ℕ). record { kind = 2; words = us }) (some-words ws ws e)
     go (suc (suc (suc k))) ws e = never e
 
-cell-same : (c : Cell) → sameCell c c ≡ true
+pub cell-same : (c : Cell) → sameCell c c ≡ true
 cell-same c = rw (eqb-same (c .kind)) (words-same (c .words))
 
 any-take : (f : Cell → Bool) (cs : List Cell) (m n : ℕ) → m < n → m < length cs → f (getD cs m noCell) ≡ true → any f (take n cs) ≡ true

@@ -2,9 +2,8 @@
 use mathlib.Core.Path.{_≡_, refl, sym, ap, subst, _∙_}
 use mathlib.Core.Bool.{Bool, true, false}
 use mathlib.Core.List.{List, [], _∷_}
-use Prim.Native.Nat.{ℕ, zero, suc, _≤_}
+use Prim.Native.Nat.{ℕ, zero, suc}
 use native.Mathlib.Omega.{arith}
-use lib.ListN.{length, take, drop}
 use Rattle.model.specs.Term.{Term}
 use Rattle.model.specs.Check.{Outcome, ok, refused, Check, andThen, pure, Room}
 use Rattle.cells.specs.declared.Fill.{Fill}
@@ -14,7 +13,7 @@ use Rattle.termdag.specs.Store.{termsIn, Stored, roomOf, Adds}
 use Rattle.termdag.proofs.Loading.{drop-later}
 use Rattle.outcome.specs.declared.Refusal.{Refusal}
 use Rattle.outcome.specs.declared.Checked.{Checked}
-use Rattle.outcome.specs.Does.{passed, refusal, checkedBy, checkedOf, refusalOf, outcomeBy, outcomeOf, Grown, Does}
+use Rattle.outcome.specs.Does.{refusal, checkedBy, checkedOf, refusalOf, outcomeBy, outcomeOf, Grown, Does}
 
 -- the store's growth
 pub grown-same : {K E P : List ℕ} {f : Fill} → Stored K E P f → Grown K E P f K E P f

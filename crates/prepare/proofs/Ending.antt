@@ -17,6 +17,7 @@ use Rattle.model.specs.Walk.{checkProof}
 use Rattle.model.specs.Answer.{height, refusalWords, Arrays, stored, left, checkedBy, checked, loaded, lentBy, check, entry}
 use Rattle.cells.specs.declared.Fill.{Fill}
 use Rattle.cells.proofs.Laws.{cells-length}
+use Rattle.termdag.proofs.Laws.{terms-length}
 use Rattle.termdag.specs.Store.{termsIn, roomOf}
 use Rattle.termdag.proofs.Loading.{drop-later}
 use Rattle.termdag.proofs.Words.{store-words}
@@ -38,11 +39,6 @@ grown-stored {K = K} {E = E} {P = P} {K₁ = K₁} {E₁ = E₁} {P₁ = P₁} {
     (G .kinds ∙ drop-later (f .cells) (g .cells) K₁ K (G .moreCells) (S .kinds))
     (G .ends ∙ drop-later (f .cells) (g .cells) E₁ E (G .moreCells) (S .ends))
     (G .pool ∙ drop-later (f .words) (g .words) P₁ P (G .moreWords) (S .pool))
-
--- so many terms as cells
-terms-count : (K E P : List ℕ) (f : Fill) → length (termsIn K E P f) ≡ f .cells
-unfolding termsIn
-terms-count K E P f = length-map (cellsOf K E P (f .cells)) readTerm ∙ cells-length K E P (f .cells)
 
 -- what is left, where the number returned is the answer's first word
 pub left-by : {x : ℕ} {A words : List ℕ} (a : Arrays) → A ≡ words → x ≡ getD A 0 0 → record { number = x; answer = A; arrays = a } ≡ left words a
@@ -106,13 +102,13 @@ module _ {ws : List ℕ} {asked : ℕ} {K E P : List ℕ} {scratch : ℕ} {K₁ 
       -- the proof passes
       pub entry-passed : r .number ≡ 0 → left (0 ∷ g .cells ∷ q .lhs ∷ q .rhs ∷ height (proofsFor (kindsOf ws) (endsOf ws) (poolOf ws) (p .z)) asked ∷ 0 ∷ 0 ∷ 0 ∷ []) (arraysOf K₂ E₂ P₂) ≡ entry ws asked (arraysOf K E P) scratch answer
       entry-passed h =
-          (λ i. left (0 ∷ sym (terms-count K₂ E₂ P₂ g) i ∷ q .lhs ∷ q .rhs ∷ height (job-proofs ws (p .z) (S .started n .whole .sizes) i) asked ∷ 0 ∷ 0 ∷ 0 ∷ []) (sym over-lent i))
+          (λ i. left (0 ∷ sym (terms-length K₂ E₂ P₂ g) i ∷ q .lhs ∷ q .rhs ∷ height (job-proofs ws (p .z) (S .started n .whole .sizes) i) asked ∷ 0 ∷ 0 ∷ 0 ∷ []) (sym over-lent i))
           ∙ ap (checkedBy (jobOf ws .proofs) asked (arraysOf K E P)) (sym (ok-of r q s h))
           ∙ entry-outcome
 
       -- the proof is refused
       pub entry-stopped : (r .number ≡ 0 → ⊥) → left (refusalWords (refusalOf r) (g .cells)) (arraysOf K₂ E₂ P₂) ≡ entry ws asked (arraysOf K E P) scratch answer
       entry-stopped h =
-          (λ i. left (refusalWords (refusalOf r) (sym (terms-count K₂ E₂ P₂ g) i)) (sym over-lent i))
+          (λ i. left (refusalWords (refusalOf r) (sym (terms-length K₂ E₂ P₂ g) i)) (sym over-lent i))
           ∙ ap (checkedBy (jobOf ws .proofs) asked (arraysOf K E P)) (sym (refused-of r q s h))
           ∙ entry-outcome

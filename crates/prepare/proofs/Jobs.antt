@@ -26,7 +26,7 @@ use Rattle.termdag.specs.Store.{termsIn, Loadable, Loaded}
 use Rattle.termdag.proofs.Laws.{once-of}
 use Rattle.load.specs.declared.sizes.Sizes.{Sizes as SizesHeld}
 use Rattle.load.specs.Held.{sizesIn, fillOf, tablesFor, writerTests, roomLacks}
-use Rattle.load.proofs.Loading.{limits-of, sizes-words, inside, kinds-cut, ends-cut, pool-cut, room-is, right-length, loads-held, loads-pass}
+use Rattle.load.proofs.Loading.{limits-of, sizes-words, inside, kinds-cut, ends-cut, pool-cut, room-is, right-length, loads-held, loads-pass, or-no, refused-no, test-passes, take-tabulate}
 use Rattle.program.specs.Ready.{Ready, programFor}
 use Rattle.program.specs.Read.{proofsFor}
 use Rattle.evaluate.specs.Evaluation.{Sane}
@@ -45,19 +45,6 @@ module _ {ws : List ℕ} {z : SizesHeld} (W : Whole ws z) (n : ℕ) (e : n ≡ c
 
   pub pool-part : take (length ws - (12 + n + n)) (drop (12 + n + n) ws) ≡ poolOf ws
   pool-part = pool-cut ws z n (W .sizes) e (W .long)
-
--- the first of what is tabulated
-module _ {A : Type 0} (f : ℕ → A) where
-  take-tabulate : (n k : ℕ) → k ≤ n → take k (tabulate n f) ≡ tabulate k f
-  unfolding tabulate
-  take-tabulate zero k h = let e : 0 ≡ k = omega arith in take-all k [] (omega arith) ∙ ap (λ (i : ℕ). tabulate i f) e
-  take-tabulate (suc n) k h = go (decLt n k) (take-tabulate n k)
-    where
-      go : Dec (n < k) → (k ≤ n → take k (tabulate n f) ≡ tabulate k f) → take k (tabulate n f ++ (f n ∷ [])) ≡ tabulate k f
-      go (yes l) r =
-          let e : suc n ≡ k = omega arith in
-          take-all k (tabulate (suc n) f) (omega (arith, length-tabulate (suc n) f)) ∙ ap (λ (i : ℕ). tabulate i f) e
-      go (no l) r = take-append-le k (tabulate n f) (f n ∷ []) (omega (arith, length-tabulate n f)) ∙ r (omega arith)
 
 -- the program, the proofs and the terms of the job's arrays are the job's
 module _ (ws : List ℕ) (z : SizesHeld) (s : sizesIn z ≡ sizesOf ws) where
@@ -87,11 +74,6 @@ fits-cells [] h = refl
 fits-cells (c ∷ cs) h = λ i. sym (term-cell c (h 0 (omega arith))) i ∷ fits-cells cs (λ k l. h (suc k) (omega arith)) i
 
 -- what loading tests
-refused-no : (b : Bool) (n : ℕ) → refusedIf b n ≡ none → b ≡ false
-unfolding refusedIf
-refused-no false n h = refl
-refused-no true n h = absurd (Option·none-ne-some _ (sym h))
-
 all-none : (ts : List (Unit {0} → Option Refusal)) → ((t : Unit {0} → Option Refusal) → List·Memᴰ t ts → t tt ≡ none) → firstRefusal ts ≡ none
 all-none [] h = refl
 all-none (t ∷ ts) h = rw (h t (List·Memᴰ·head refl)) (all-none ts (λ u m. h u (List·Memᴰ·tail m)))
@@ -104,9 +86,6 @@ record Room (z : Sizes) (words : ℕ) (l : Lent) : Type 0 where
   small : l .pool ≤ 1048576
   even : l .kinds ≡ l .ends
   enough : 2 * (l .kinds + z .proofs) ≤ l .scratch
-
-or-no : (a b : Bool) → (a || b) ≡ false → (a ≡ false) × (b ≡ false)
-or-no a b h = (or-left a b h, or-right a b h)
 
 room-of : (z : Sizes) (words : ℕ) (l : Lent) → roomLacks z words l ≡ false → Room z words l
 room-of z words l h =
@@ -125,32 +104,25 @@ room-of z words l h =
     }
 
 module _ (ws : List ℕ) (asked : ℕ) (l : Lent) (a : loadRefusal ws asked l ≡ none) where
-  abbrev tests : List (Unit {0} → Option Refusal)
-  tests = loadTests ws (sizesOf ws) (tablesOf ws) asked l
-
-  test-passes : (t : Unit {0} → Option Refusal) → List·Memᴰ t tests → t tt ≡ none
-  unfolding loadRefusal
-  test-passes t m = pass tests a t m
-
   pub loads-words : 12 ≤ length ws
   loads-words = sizes-words ws (right-length ws asked l a)
 
   -- the proof asked for is there
   pub loads-asked : (z : SizesHeld) → sizesIn z ≡ sizesOf ws → asked < z .proofs
   loads-asked z s =
-      let h = leb-false (sizesOf ws .proofs) asked (refused-no _ 3 (test-passes _ (List·Memᴰ·tail (List·Memᴰ·tail (List·Memᴰ·head refl))))) in
+      let h = leb-false (sizesOf ws .proofs) asked (refused-no _ 3 (test-passes ws asked l a _ (List·Memᴰ·tail (List·Memᴰ·tail (List·Memᴰ·head refl))))) in
       subst (λ (y : Sizes). asked < y .proofs) (sym s) h
 
   writer-passes : firstRefusal (writerTests (sizesOf ws) (tablesOf ws)) ≡ none
   writer-passes = all-none (writerTests (sizesOf ws) (tablesOf ws))
-      (λ t m. test-passes t (List·Memᴰ·tail (List·Memᴰ·tail (List·Memᴰ·tail (List·Memᴰ·tail (Memᴰ·append-left ((λ _. refusedIf (noRoom (sizesOf ws) (map readTerm (tablesOf ws .terms)) l) 10) ∷ []) m))))))
+      (λ t m. test-passes ws asked l a t (List·Memᴰ·tail (List·Memᴰ·tail (List·Memᴰ·tail (List·Memᴰ·tail (Memᴰ·append-left ((λ _. refusedIf (noRoom (sizesOf ws) (map readTerm (tablesOf ws .terms)) l) 10) ∷ []) m))))))
 
   module _ (z : SizesHeld) (s : sizesIn z ≡ sizesOf ws) where
     pub loads-whole : Whole ws z
     loads-whole = record {
       sizes = s;
       long = right-length ws asked l a;
-      limits = limits-of z (ap tooLarge s ∙ refused-no _ 2 (test-passes _ (List·Memᴰ·tail (List·Memᴰ·head refl))));
+      limits = limits-of z (ap tooLarge s ∙ refused-no _ 2 (test-passes ws asked l a _ (List·Memᴰ·tail (List·Memᴰ·head refl))));
     }
 
     pub loads-ready : Ready (kindsOf ws) (endsOf ws) (poolOf ws) z
@@ -165,7 +137,7 @@ module _ (ws : List ℕ) (asked : ℕ) (l : Lent) (a : loadRefusal ws asked l �
     loads-room =
         let t = tables-for ws z s in
         let e = (λ i. firstRefusal (writerTests (s i) (t i))) ∙ writer-passes in
-        let b = test-passes _ (List·Memᴰ·tail (List·Memᴰ·tail (List·Memᴰ·tail (List·Memᴰ·tail (List·Memᴰ·tail (List·Memᴰ·tail (List·Memᴰ·tail (List·Memᴰ·tail (List·Memᴰ·head refl))))))))) in
+        let b = test-passes ws asked l a _ (List·Memᴰ·tail (List·Memᴰ·tail (List·Memᴰ·tail (List·Memᴰ·tail (List·Memᴰ·tail (List·Memᴰ·tail (List·Memᴰ·tail (List·Memᴰ·tail (List·Memᴰ·head refl))))))))) in
         room-of (sizesIn z) (startOf (endsOf ws) (z .terms)) l (sym (room-is (loads-ready .held) l e) ∙ (λ i. noRoom (s i) (map readTerm (t i .terms)) l) ∙ refused-no _ 10 b)
 
     pub loads-enough : 2 * (l .kinds + z .proofs) ≤ l .scratch

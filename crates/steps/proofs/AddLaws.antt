@@ -19,7 +19,7 @@ use Rattle.outcome.specs.Does.{refusal, outcomeOf, Does}
 use Rattle.outcome.specs.declared.Refusal.{Refusal}
 use Rattle.outcome.specs.declared.Checked.{Checked}
 use Rattle.outcome.proofs.Laws.{does-here, does-then, does-stop}
-use Rattle.marks.proofs.Laws.{terms-length}
+use Rattle.termdag.proofs.Laws.{terms-length}
 use Rattle.program.specs.Ready.{optionOf}
 use Rattle.program.specs.declared.Looked.{Looked}
 use Rattle.steps.specs.Concluding.{childMatches, congrClaims, congrApp, congrStep}

@@ -27,7 +27,7 @@ use Rattle.outcome.proofs.Laws.{ok-of, does-here, does-then, does-stop}
 use Rattle.marks.specs.Marks.{close}
 use Rattle.marks.specs.Covering.{Marks}
 use Rattle.marks.proofs.Marking.{marks-extends, marks-closed}
-use Rattle.marks.proofs.Laws.{terms-length}
+use Rattle.termdag.proofs.Laws.{terms-length}
 use Rattle.heads.specs.Heading.{claimedBy}
 use Rattle.steps.specs.Concluding.{addView}
 use Rattle.steps.specs.Step.{refusedUnless, AddsView}

@@ -22,9 +22,8 @@ use Rattle.decode.specs.View.{cell, propositionOf, justificationOf}
 use Rattle.decode.specs.declared.Proposition.{Proposition}
 use Rattle.decode.specs.declared.Justification.{Justification}
 use Rattle.termdag.specs.Store.{termsIn}
-use Rattle.termdag.proofs.Laws.{get-read}
+use Rattle.termdag.proofs.Laws.{get-read, terms-length}
 use Rattle.cells.specs.declared.Fill.{Fill}
-use Rattle.marks.proofs.Laws.{terms-length}
 use Rattle.load.specs.Held.{tablesFor}
 use Rattle.load.specs.declared.sizes.Sizes.{Sizes}
 use Rattle.program.specs.Ready.{Ready}

@@ -226,3 +226,8 @@ module _ {K E P : List ℕ} {f : Fill} (S : Stored K E P f) (t : ℕ) (h : t < f
   get-term r xs q =
       let z : getTerm (termsIn K E P f) t ≡ some (termOf r xs) = this-term ∙ ap {B = Option Term} some (sym q) in
       z ∙ ap {B = Option Term} some (view-term r xs) ∙ ap {B = Option Term} (λ (u : Option Term). some (termOf r (children u))) (sym z)
+
+-- as many terms as cells
+pub terms-length : (K E P : List ℕ) (f : Fill) → length (termsIn K E P f) ≡ f .cells
+unfolding termsIn
+terms-length K E P f = length-map (cellsOf K E P (f .cells)) readTerm ∙ cells-length K E P (f .cells)

@@ -1,8 +1,7 @@
 use mathlib.Core.List.{List}
 use Prim.Native.Nat.{ℕ}
 use Rattle.model.specs.Cell.{sameWords}
-use mathlib.Core.Path.{_≡_, refl, sym, ap, _∙_}
-use native.Mathlib.Omega.{arith}
+use mathlib.Core.Path.{sym, ap, _∙_}
 use Rattle.cells.proofs.Laws.{kind-no, kind-yes}
 use borrow.Author.Needs.{needs}
 use Rattle.cells.proofs.same.Statement.{statement}

@@ -1,4 +1,4 @@
-use mathlib.Core.Path.{_≡_, refl, sym, ap, _∙_}
+use mathlib.Core.Path.{sym, _∙_}
 use Rattle.cells.proofs.Laws.{start-pos}
 use Rattle.model.specs.Cell.{startOf}
 use borrow.Author.Needs.{needs}

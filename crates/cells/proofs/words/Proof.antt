@@ -1,5 +1,5 @@
 use Rattle.model.specs.Cell.{wordsAt}
-use mathlib.Core.Path.{_≡_, refl, sym, ap, _∙_}
+use mathlib.Core.Path.{sym}
 use native.Mathlib.Omega.{arith}
 use Rattle.cells.proofs.Laws.{rising, within, cell-words}
 use borrow.Author.Needs.{needs}

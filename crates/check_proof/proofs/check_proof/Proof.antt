@@ -49,7 +49,7 @@ slice-aggregate-new-context-4 c = search needs
 
 -- src/lib.rt:41:9
 new-context-requires : tie.Need-new-context-requires
-new-context-requires c κs = let a = c .before .before .before .before .before .before .before .before .before .before .before .before .before .before .before .before .before .args in let pre = c .before .before .before .before .before .before .before .before .before .before .before .before .before .before .before .before .before .pre in let G = pre .0 in let h = G .long in let x = G .ready .held .limits .expressions in (record { ready = G .ready; stored = G .stored; sane = G .sane; fits = omega (arith, length-replicate {A = ℕ} 8193 0); past = past-cleared 8193; cells = simp length-take (omega arith) }, (G .few, (refl, refl)))
+new-context-requires c κs = let a = c .before .before .before .before .before .before .before .before .before .before .before .before .before .before .before .before .before .args in let pre = c .before .before .before .before .before .before .before .before .before .before .before .before .before .before .before .before .before .pre in let G = pre .0 in let h = G .long in let x = G .ready .held .limits .expressions in (record { ready = G .ready; stored = G .stored; sane = G .sane; fits = omega (arith, length-replicate {A = ℕ} 8193 0); past = past-cleared 8193; cells = simp length-take (omega arith) }, (refl, refl))
 
 -- src/lib.rt:45:9
 same-length : tie.Need-same-length

@@ -1,10 +1,9 @@
 use Rattle.load.proofs.Rounds.{rise-no, rise-yes, rise-end}
 use native.Mathlib.Omega.{arith}
-use mathlib.Core.Path.{_≡_, refl, sym, ap, _∙_}
+use mathlib.Core.Path.{_≡_, refl, sym, _∙_}
 use borrow.Author.Needs.{needs}
 use Prim.Native.Nat.{_≤_, _-_}
-use lib.ListN.{length, drop, getD}
-use Prim.Native.Nat.{ℕ}
+use lib.ListN.{length, drop}
 use Rattle.model.specs.Load.{endsRise}
 use Rattle.load.proofs.ends_rise.Statement.{statement}
 use Rattle.load.proofs.ends_rise.Tie as tie

@@ -1,13 +1,10 @@
 use borrow.Author.Tests.{le-leb, lt-leb}
 use Rattle.load.proofs.Loading.{refuses-1, refuses-2, refuses-3, behind-3, sizes-words, limits-of, inside, cut-of, cut-refusal}
-use Rattle.load.specs.Held.{sizesIn}
-use mathlib.Core.Path.{_≡_, refl, sym, ap, _∙_}
-use mathlib.Core.Bool.{Bool, true, false}
+use mathlib.Core.Path.{sym, ap, _∙_}
 use native.Mathlib.Omega.{arith}
-use Prim.Native.Nat.{ℕ}
 use lib.Dec.{leb}
 use Rattle.model.specs.Layout.{Sizes}
-use Rattle.model.specs.Load.{Lent, wrongLength, tooLarge}
+use Rattle.model.specs.Load.{Lent, tooLarge}
 use borrow.Author.Needs.{needs}
 use Rattle.load.proofs.load.Statement.{statement}
 use Rattle.load.proofs.load.Tie as tie

@@ -2,7 +2,7 @@ use Prim.Native.Nat.{ℕ}
 use Rattle.model.proofs.Tests.{not-true, not-false}
 use Rattle.load.proofs.Loading.{held-of, refuses-5, refuses-writer, refuses-10, admits, room-is}
 use Rattle.load.specs.Held.{sizesIn, tablesFor, refusalOf, roomLacks}
-use mathlib.Core.Path.{_≡_, refl, sym, ap, _∙_}
+use mathlib.Core.Path.{sym, ap, _∙_}
 use native.Mathlib.Omega.{arith}
 use Rattle.model.specs.Load.{Lent}
 use borrow.Author.Needs.{needs}
@@ -24,8 +24,8 @@ writer-refusal-requires c κs = held-of (c .before .before .before .before .befo
 enum-told : tie.Need-enum-told
 enum-told c = search needs
 
-words-of-requires : tie.Need-words-of-requires
-words-of-requires c κs = let h = held-of (c .before .before .before .before .before .before .before .before .pre) (sym (c .before .before .before .before .ends-rise .ensures) ∙ not-false (c .before .before .before .before .ends-rise .result) (c .before .before .before .if1 .left)) in omega (arith, c .before .before .before .before .before .before .before .before .pre .ends)
+start-requires : tie.Need-start-requires
+start-requires c κs = let h = held-of (c .before .before .before .before .before .before .before .before .pre) (sym (c .before .before .before .before .ends-rise .ensures) ∙ not-false (c .before .before .before .before .ends-rise .result) (c .before .before .before .if1 .left)) in omega (arith, c .before .before .before .before .before .before .before .before .pre .ends)
 
 no-room-requires : tie.Need-no-room-requires
 no-room-requires c κs = c .before .before .before .before .before .before .before .before .before .pre .limits
@@ -42,7 +42,7 @@ returns-2 c = let a = c .before .before .before .before .before .before .before 
     let t = tablesFor (a .kinds .now) (a .ends .now) (a .pool .now) (a .z) in
     let e = sym (c .before .before .before .before .before .before .before .ends-rise .ensures) ∙ not-false (c .before .before .before .before .before .before .before .ends-rise .result) (c .before .before .before .before .before .before .if1 .left) in
     let w = sym (c .before .before .before .before .before .writer-refusal .ensures) ∙ ap refusalOf (c .before .before .before .enum-told .given .1) in
-    let n = ap (λ (k : ℕ). roomLacks (sizesIn (a .z)) k l) (sym (c .before .before .words-of .ensures)) ∙ sym (c .before .no-room .ensures) ∙ c .if2 .taken in
+    let n = ap (λ (k : ℕ). roomLacks (sizesIn (a .z)) k l) (sym (c .before .before .start .ensures)) ∙ sym (c .before .no-room .ensures) ∙ c .if2 .taken in
     refuses-10 (a .ends .now) (sizesIn (a .z)) t l e w (room-is (held-of (c .before .before .before .before .before .before .before .before .before .before .before .pre) e) l w ∙ n)
 
 returns-3 : tie.Need-returns-3
@@ -51,7 +51,7 @@ returns-3 c = let a = c .before .before .before .before .before .before .before 
     let t = tablesFor (a .kinds .now) (a .ends .now) (a .pool .now) (a .z) in
     let e = sym (c .before .before .before .before .before .before .before .ends-rise .ensures) ∙ not-false (c .before .before .before .before .before .before .before .ends-rise .result) (c .before .before .before .before .before .before .if1 .left) in
     let w = sym (c .before .before .before .before .before .writer-refusal .ensures) ∙ ap refusalOf (c .before .before .before .enum-told .given .1) in
-    let n = ap (λ (k : ℕ). roomLacks (sizesIn (a .z)) k l) (sym (c .before .before .words-of .ensures)) ∙ sym (c .before .no-room .ensures) ∙ c .if2 .left in
+    let n = ap (λ (k : ℕ). roomLacks (sizesIn (a .z)) k l) (sym (c .before .before .start .ensures)) ∙ sym (c .before .no-room .ensures) ∙ c .if2 .left in
     admits (a .ends .now) (sizesIn (a .z)) t l e w (room-is (held-of (c .before .before .before .before .before .before .before .before .before .before .before .pre) e) l w ∙ n)
 
 returns-4 : tie.Need-returns-4
@@ -78,7 +78,7 @@ load-cells-spec =
     returns
     writer-refusal-requires
     enum-told
-    words-of-requires
+    start-requires
     no-room-requires
     enum-told-2
     enum-told-3

@@ -1,6 +1,6 @@
-use Rattle.load.proofs.Rounds.{room-many}
+use Rattle.load.proofs.Rounds.{room-many, room-few}
 use Rattle.load.specs.Held.{sizesIn}
-use Rattle.model.specs.Load.{Lent}
+use native.Mathlib.Omega.{arith}
 use borrow.Author.Needs.{needs}
 use Rattle.load.proofs.no_room.Statement.{statement}
 use Rattle.load.proofs.no_room.Tie as tie
@@ -15,7 +15,7 @@ mul-result : tie.Need-mul-result
 mul-result c = search needs
 
 returns-2 : tie.Need-returns-2
-returns-2 c = search needs
+returns-2 c = let a = c .before .before .before .args in let h = c .before .before .if1 .left in room-few (sizesIn (a .z)) (a .words) (record { kinds = a .kinds; ends = a .ends; pool = a .pool; scratch = a .scratch }) (omega arith)
 
 pub no-room-spec : {M : Type 1} → statement M
 no-room-spec = tie.close (tie.spec returns add-result mul-result returns-2)

@@ -2,7 +2,7 @@ use Rattle.load.proofs.Rounds.{round-yes, round-no, rounds-end}
 use native.Mathlib.Omega.{arith}
 use mathlib.Core.Path.{_≡_, refl, sym, ap, _∙_}
 use borrow.Author.Needs.{needs}
-use Prim.Native.Nat.{ℕ, _≤_, _-_, _+_}
+use Prim.Native.Nat.{ℕ, _≤_, _-_}
 use lib.ListN.{drop}
 use Rattle.model.specs.Load.{firstRefusal, marks}
 use Rattle.model.specs.Layout.{tableList}

@@ -1,10 +1,5 @@
-use mathlib.Core.Bool.{Bool, false, _&&_}
-use mathlib.Core.Path.{_≡_}
 use native.Mathlib.Omega.{arith}
-use lib.Dec.{leb}
-use lib.ListN.{length}
-use Prim.Native.Nat.{_≤_, _<_}
-use Rattle.cell_tests.proofs.Laws.{past, call-kind, expr-unknown}
+use Rattle.cell_tests.proofs.Laws.{call-kind, expr-unknown}
 use borrow.Author.Needs.{needs}
 use Rattle.cell_tests.proofs.fit.expr_fits.Statement.{statement}
 use Rattle.cell_tests.proofs.fit.expr_fits.Tie as tie

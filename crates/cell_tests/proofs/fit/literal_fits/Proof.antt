@@ -1,15 +1,10 @@
 use Rattle.model.specs.Load.{literalFits}
 use Rattle.model.specs.Term.{readLiteral}
-use Prim.Native.Nat.{_≤_}
-use mathlib.Core.Bool.{Bool, true, false, _&&_}
-use lib.Dec.{eqb, ltb}
-use lib.ListN.{length}
-use mathlib.Core.List.{[], _∷_}
-use mathlib.Core.Path.{ap}
+use mathlib.Core.Bool.{false}
 use mathlib.Core.Path.{_≡_, sym, _∙_}
 use native.Mathlib.Omega.{arith}
 use lib.ListN.{getD}
-use Rattle.cell_tests.proofs.Laws.{past, literal-unknown}
+use Rattle.cell_tests.proofs.Laws.{literal-unknown}
 use Rattle.model.proofs.Tests.{and-true, and-false}
 use borrow.Author.Needs.{needs}
 use Rattle.cell_tests.proofs.fit.literal_fits.Statement.{statement}

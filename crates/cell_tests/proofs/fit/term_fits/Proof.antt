@@ -1,7 +1,5 @@
-use Prim.Native.Nat.{_≤_}
-use mathlib.Core.Bool.{false}
 use native.Mathlib.Omega.{arith}
-use Rattle.cell_tests.proofs.Laws.{past, term-unknown}
+use Rattle.cell_tests.proofs.Laws.{term-unknown}
 use borrow.Author.Needs.{needs}
 use Rattle.cell_tests.proofs.fit.term_fits.Statement.{statement}
 use Rattle.cell_tests.proofs.fit.term_fits.Tie as tie

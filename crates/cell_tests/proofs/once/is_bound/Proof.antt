@@ -1,14 +1,11 @@
 use native.Mathlib.Omega.{arith}
-use mathlib.Core.Path.{_≡_, refl, sym, ap, _∙_}
+use mathlib.Core.Path.{_≡_, refl, sym, _∙_}
 use Prim.Native.Nat.{_≤_, _-_, _+_}
 use lib.ListN.{length, drop}
-use mathlib.Core.List.{map}
-use borrow.Author.Needs.{needs}
 use lib.Dec.{eqb}
 use Rattle.model.specs.Decode.{readBindings}
 use Rattle.cell_tests.proofs.Laws.{bound-yes, bound-no, bound-end}
 use Rattle.model.specs.Load.{any}
-use Rattle.model.specs.Program.{Binding}
 use Rattle.cell_tests.proofs.once.is_bound.Statement.{statement}
 use Rattle.cell_tests.proofs.once.is_bound.Tie as tie
 

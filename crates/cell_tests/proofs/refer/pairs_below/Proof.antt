@@ -1,14 +1,12 @@
 use native.Mathlib.Omega.{arith}
-use mathlib.Core.Path.{_≡_, refl, sym, ap, _∙_}
+use mathlib.Core.Path.{_≡_, refl, sym, _∙_}
 use Prim.Native.Nat.{_≤_, _-_, _+_}
 use lib.ListN.{length, drop}
 use mathlib.Core.List.{map}
 use borrow.Author.Needs.{needs}
-use lib.Dec.{eqb}
 use Rattle.model.specs.Decode.{readBindings}
 use Rattle.cell_tests.proofs.Laws.{pairs-yes, pairs-no, pairs-done}
 use Rattle.model.specs.Load.{below}
-use Rattle.model.specs.Program.{Binding}
 use Rattle.cell_tests.proofs.refer.pairs_below.Statement.{statement}
 use Rattle.cell_tests.proofs.refer.pairs_below.Tie as tie
 

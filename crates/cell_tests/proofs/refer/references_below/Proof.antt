@@ -1,6 +1,6 @@
 use Rattle.model.proofs.Tests.{and-true}
 use Rattle.cell_tests.proofs.Laws.{no-references}
-use mathlib.Core.Path.{_≡_, refl, sym, ap, _∙_}
+use mathlib.Core.Path.{_∙_}
 use borrow.Author.Needs.{needs}
 use Rattle.cell_tests.proofs.refer.references_below.Statement.{statement}
 use Rattle.cell_tests.proofs.refer.references_below.Tie as tie

@@ -1,5 +1,5 @@
 use Rattle.cell_tests.proofs.Laws.{no-substitution}
-use mathlib.Core.Path.{_≡_, refl, sym, ap, _∙_}
+use mathlib.Core.Path.{ap}
 use mathlib.Core.List.{List, map}
 use Rattle.model.specs.Program.{Binding}
 use Rattle.model.specs.Load.{below}

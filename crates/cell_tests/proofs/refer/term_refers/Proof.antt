@@ -1,6 +1,5 @@
 use Rattle.cell_tests.proofs.Laws.{term-leaf, term-app}
 use native.Mathlib.Omega.{arith}
-use mathlib.Core.Path.{_≡_, refl, sym, ap, _∙_}
 use borrow.Author.Needs.{needs}
 use Rattle.cell_tests.proofs.refer.term_refers.Statement.{statement}
 use Rattle.cell_tests.proofs.refer.term_refers.Tie as tie

@@ -1,4 +1,3 @@
-use mathlib.Core.List.{List}
 use native.Mathlib.Omega.{arith}
 use Rattle.cell_tests.proofs.Laws.{past}
 use borrow.Author.Needs.{needs}

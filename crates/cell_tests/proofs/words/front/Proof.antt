@@ -1,4 +1,3 @@
-use mathlib.Core.Path.{ap}
 use native.Mathlib.Nat.{sub-zero}
 use Rattle.cell_tests.proofs.Laws.{front-none}
 use native.Mathlib.Omega.{arith}

@@ -1,8 +1,8 @@
 use Rattle.load.proofs.ByteLaws.{words-least, words-count, word-at, paste-front}
 use Rattle.model.specs.Host.{wordsOf}
-use mathlib.Core.Path.{_≡_, refl, sym, ap, _∙_}
+use mathlib.Core.Path.{_≡_, refl, ap, _∙_}
 use native.Mathlib.Omega.{arith}
-use Prim.Native.Nat.{ℕ, _≤_, _-_, _+_, _*_}
+use Prim.Native.Nat.{_≤_, _-_}
 use lib.ListN.{length, length-set}
 use lib.Seq.{paste, paste-zero}
 use Rattle.cells.proofs.Appending.{put-paste}

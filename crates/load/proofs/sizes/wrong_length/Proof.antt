@@ -1,10 +1,10 @@
 use Prim.Native.Nat.{_+_, _*_}
-use mathlib.Core.Bool.{true, false, not, _||_}
+use mathlib.Core.Bool.{not}
 use mathlib.Core.Path.{ap}
 use native.Mathlib.Omega.{arith}
 use borrow.Author.Tests.{lt-ltb, le-ltb}
 use lib.ListN.{length}
-use lib.Dec.{ltb, eqb}
+use lib.Dec.{eqb}
 use Rattle.model.specs.Layout.{Sizes, cellCount}
 use borrow.Author.Needs.{needs}
 use Rattle.load.proofs.sizes.wrong_length.Statement.{statement}

@@ -1,6 +1,5 @@
 use Rattle.load.proofs.TableLaws.{alike-other}
-use mathlib.Core.Path.{_≡_, refl, sym, ap, _∙_}
-use Rattle.model.specs.Cell.{Cell, noCell, cellsOf}
+use mathlib.Core.Path.{_∙_}
 use borrow.Author.Needs.{needs}
 use Rattle.load.proofs.tables.alike.Statement.{statement}
 use Rattle.load.proofs.tables.alike.Tie as tie

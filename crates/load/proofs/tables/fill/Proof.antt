@@ -1,4 +1,4 @@
-use mathlib.Core.Path.{_≡_, refl, sym, ap, _∙_}
+use mathlib.Core.Path.{ap}
 use Rattle.cells.specs.declared.Fill.{Fill}
 use borrow.Author.Needs.{needs}
 use Rattle.load.proofs.tables.fill.Statement.{statement}

@@ -1,17 +1,15 @@
 use Rattle.model.proofs.Tests.{not-true, not-false}
 use Rattle.load.proofs.TableLaws.{table-length, table-cell, found-yes, found-no, found-end, place-inside}
 use native.Mathlib.Omega.{arith}
-use mathlib.Core.Path.{_≡_, refl, sym, ap, _∙_}
-use Rattle.load.specs.Held.{sizesIn, tablesFor, testsFor, firstFound, countsOf, cellNumber}
-use Rattle.model.specs.Cell.{Cell, noCell, cellsOf}
+use mathlib.Core.Path.{_≡_, sym, ap, _∙_}
+use Rattle.load.specs.Held.{sizesIn, tablesFor, testsFor, firstFound}
+use Rattle.model.specs.Cell.{noCell, cellsOf}
 use Rattle.model.specs.Layout.{cellCount, tableList}
-use Prim.Native.Nat.{ℕ, _+_, _-_, _<_, _≤_}
+use Prim.Native.Nat.{ℕ, _+_, _-_, _≤_}
 use lib.ListN.{getD, length, drop}
-use mathlib.Core.List.{List, []}
-use mathlib.Core.Bool.{Bool, true, false}
+use mathlib.Core.List.{[]}
 use Rattle.cells.proofs.Laws.{cells-length}
 use Rattle.model.specs.Load.{passed, failsFrom}
-use borrow.Author.Needs.{needs}
 use Rattle.load.proofs.tables.first_failing.Statement.{statement}
 use Rattle.load.proofs.tables.first_failing.Tie as tie
 

@@ -2,16 +2,14 @@ use Rattle.load.proofs.TableLaws.{tables-yes, tables-no, tables-end, te
 use native.Mathlib.Omega.{arith}
 use mathlib.Core.Path.{_≡_, refl, sym, ap, _∙_}
 use Rattle.load.specs.Held.{sizesIn, tablesFor, testsFor, firstFound, countsOf, cellNumber}
-use Rattle.model.specs.Cell.{Cell, noCell, cellsOf}
+use Rattle.model.specs.Cell.{cellsOf}
 use Rattle.model.specs.Layout.{cellCount, tableList}
 use Prim.Native.Nat.{ℕ, _+_, _-_, _<_, _≤_}
 use lib.ListN.{getD, length, drop}
 use mathlib.Core.List.{List, []}
-use mathlib.Core.Bool.{Bool}
 use Rattle.cells.proofs.Laws.{cells-length}
-use Rattle.model.specs.Load.{passed, failsFrom, marks}
+use Rattle.model.specs.Load.{marks}
 use borrow.Author.Needs.{needs}
-use Rattle.cells.specs.declared.Found.{Found}
 use Rattle.load.proofs.tables.first_marked.Statement.{statement}
 use Rattle.load.proofs.tables.first_marked.Tie as tie
 

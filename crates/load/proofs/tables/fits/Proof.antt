@@ -1,5 +1,5 @@
 use Rattle.load.proofs.TableLaws.{fixed-table}
-use mathlib.Core.Path.{_≡_, refl, sym, ap, _∙_}
+use mathlib.Core.Path.{_∙_}
 use Rattle.load.specs.Held.{tablesFor}
 use borrow.Author.Needs.{needs}
 use Rattle.load.proofs.tables.fits.Statement.{statement}

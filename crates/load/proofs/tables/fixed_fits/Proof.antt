@@ -1,7 +1,6 @@
 use Rattle.load.proofs.TableLaws.{fixed-rest}
-use mathlib.Core.Path.{_≡_, refl, sym, ap, _∙_}
+use mathlib.Core.Path.{ap, _∙_}
 use Rattle.model.specs.Load.{counts}
-use Rattle.model.specs.Cell.{Cell}
 use mathlib.Core.List.{List}
 use Prim.Native.Nat.{ℕ}
 use borrow.Author.Needs.{needs}

@@ -1,8 +1,8 @@
 use Rattle.load.proofs.TableLaws.{primitive-held, primitive-out}
 use native.Mathlib.Omega.{arith}
-use mathlib.Core.Path.{_≡_, refl, sym, ap, _∙_}
-use Rattle.load.specs.Held.{sizesIn, tablesFor, fillOf, alikeBy}
-use Rattle.model.specs.Cell.{Cell, noCell, cellsOf}
+use mathlib.Core.Path.{sym, ap}
+use Rattle.load.specs.Held.{sizesIn}
+use Rattle.model.specs.Cell.{Cell, cellsOf}
 use Rattle.model.specs.Layout.{cellCount}
 use Rattle.cells.proofs.Laws.{cell-at}
 use Prim.Native.Nat.{_+_, _<_}

@@ -1,15 +1,14 @@
 use Rattle.load.proofs.TableLaws.{held-cell, earlier-yes, earlier-no, earlier-end}
 use native.Mathlib.Omega.{arith}
 use mathlib.Core.Path.{_≡_, refl, sym, ap, ap₂, _∙_}
-use Rattle.load.specs.Held.{sizesIn, fillOf, alikeBy, firstAmong}
+use Rattle.load.specs.Held.{sizesIn, alikeBy, firstAmong}
 use Rattle.model.specs.Cell.{Cell, noCell, cellsOf}
 use Rattle.model.specs.Layout.{cellCount}
 use Rattle.cells.proofs.Laws.{cells-length}
 use Rattle.cells.specs.declared.Fill.{Fill}
 use borrow.Author.Needs.{needs}
-use Prim.Native.Nat.{ℕ, _+_, _-_, _≤_, _<_}
+use Prim.Native.Nat.{_+_, _-_, _≤_}
 use lib.ListN.{length, getD, take, drop}
-use mathlib.Core.List.{List}
 use mathlib.Core.Bool.{Bool, not}
 use Rattle.model.specs.Load.{any}
 use Rattle.load.proofs.tables.is_first.Statement.{statement}

@@ -1,8 +1,8 @@
 use Rattle.load.proofs.TableLaws.{place-inside, first-in, once-other}
 use native.Mathlib.Omega.{arith}
-use mathlib.Core.Path.{_≡_, refl, sym, ap, _∙_}
+use mathlib.Core.Path.{ap, _∙_}
 use Rattle.load.specs.Held.{sizesIn, tablesFor, cellHeld, alikeBy}
-use Rattle.model.specs.Cell.{Cell, noCell, cellsOf}
+use Rattle.model.specs.Cell.{Cell, cellsOf}
 use Rattle.model.specs.Layout.{cellCount}
 use Rattle.model.specs.Load.{bindsOnce}
 use Rattle.model.specs.Program.{substitution}

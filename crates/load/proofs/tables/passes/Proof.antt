@@ -1,12 +1,12 @@
 use Rattle.load.proofs.TableLaws.{place-inside, held-cell, last-round}
 use native.Mathlib.Omega.{arith}
-use mathlib.Core.Path.{_≡_, refl, sym, ap, _∙_}
-use Rattle.load.specs.Held.{sizesIn, tablesFor, cellHeld, alikeBy}
+use mathlib.Core.Path.{ap, _∙_}
+use Rattle.load.specs.Held.{sizesIn, tablesFor, cellHeld}
 use Rattle.model.specs.Cell.{Cell, noCell, cellsOf}
 use Rattle.model.specs.Layout.{cellCount}
 use Prim.Native.Nat.{ℕ, _+_, _<_}
 use lib.ListN.{getD}
-use Rattle.model.specs.Load.{passed, fitTests, referTests, validTests, onceTests}
+use Rattle.model.specs.Load.{passed, fitTests, referTests, validTests}
 use Rattle.cells.specs.declared.Fill.{Fill}
 use mathlib.Core.List.{List}
 use mathlib.Core.Bool.{Bool}

@@ -1,7 +1,5 @@
 use Rattle.cell_tests.proofs.Laws.{no-substitution}
-use mathlib.Core.Path.{_≡_, refl, sym, ap, _∙_}
-use mathlib.Core.List.{List}
-use Rattle.model.specs.Program.{Binding}
+use mathlib.Core.Path.{ap}
 use Rattle.model.specs.Load.{bindsOnce}
 use borrow.Author.Needs.{needs}
 use Rattle.load.proofs.tables.proof_once.Statement.{statement}

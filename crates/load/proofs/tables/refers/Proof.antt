@@ -1,9 +1,6 @@
 use Rattle.load.proofs.TableLaws.{last-table}
-use native.Mathlib.Omega.{arith}
-use mathlib.Core.Path.{_≡_, refl, sym, ap, _∙_}
-use Prim.Native.Nat.{ℕ}
+use mathlib.Core.Path.{ap, _∙_}
 use Rattle.model.specs.Load.{below}
-use mathlib.Core.List.{List}
 use borrow.Author.Needs.{needs}
 use Rattle.load.proofs.tables.refers.Statement.{statement}
 use Rattle.load.proofs.tables.refers.Tie as tie

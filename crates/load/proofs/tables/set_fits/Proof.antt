@@ -1,18 +1,13 @@
-use Rattle.load.proofs.TableLaws.{set-other, set-out, set-in, set-call, exprs-length, part-at, set-held}
+use Rattle.load.proofs.TableLaws.{set-other, set-out, exprs-length, set-held}
 use native.Mathlib.Omega.{arith}
-use mathlib.Core.Path.{_≡_, refl, sym, ap, _∙_}
-use lib.ListN.{length, getD, drop}
-use Prim.Native.Nat.{ℕ, _+_, _<_, _≤_}
-use mathlib.Core.List.{List}
-use mathlib.Core.Bool.{Bool, _&&_}
-use lib.Dec.{ltb}
+use mathlib.Core.Path.{_≡_, sym, ap, _∙_}
+use lib.ListN.{getD, drop}
+use Prim.Native.Nat.{ℕ, _+_, _≤_}
 use Rattle.cells.proofs.Laws.{cells-length, cell-at}
 use Rattle.cells.specs.declared.Fill.{Fill}
-use Rattle.cells.specs.Table.{Formed}
-use Rattle.load.specs.Held.{sizesIn, tablesFor, fillOf}
-use Rattle.model.specs.Cell.{Cell, noCell, cellsOf, cellAt}
+use Rattle.load.specs.Held.{sizesIn, tablesFor}
+use Rattle.model.specs.Cell.{Cell, noCell, cellsOf}
 use Rattle.model.specs.Layout.{cellCount}
-use Rattle.model.specs.Load.{isSetCall}
 use borrow.Author.Needs.{needs}
 use Rattle.load.proofs.tables.set_fits.Statement.{statement}
 use Rattle.load.proofs.tables.set_fits.Tie as tie

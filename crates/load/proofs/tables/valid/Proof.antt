@@ -1,6 +1,5 @@
 use Rattle.load.proofs.TableLaws.{valid-other}
-use mathlib.Core.Path.{_≡_, refl, sym, ap, _∙_}
-use Rattle.load.specs.Held.{sizesIn, tablesFor, fillOf, alikeBy}
+use Rattle.load.specs.Held.{tablesFor}
 use borrow.Author.Needs.{needs}
 use Rattle.load.proofs.tables.valid.Statement.{statement}
 use Rattle.load.proofs.tables.valid.Tie as tie
