@@ -27,8 +27,13 @@ extern "C" {
    leaves it as it is. */
 uint32_t sizercobalt_check_bytes(const uint8_t *job, size_t job_length, uint32_t asked, uint32_t *answer, size_t answer_length);
 
-/* Checks proof `asked` of a job given as words, with a lent store: `kinds` and `ends` of C words, `pool` of W words, `scratch` of at least 2 * (C + J) words. On 0
-   and from 20 up the store holds the job's terms and those that the check added; below 20 it is as it was. `scratch` is left with anything. */
+/* The largest store that can be lent: C and W. */
+#define SIZERCOBALT_MOST_CELLS 65536
+#define SIZERCOBALT_MOST_POOL 1048576
+
+/* Checks proof `asked` of a job given as words, with a lent store: `kinds` and `ends` of C words, `pool` of W words, `scratch` of at least 2 * (C + J) words; other
+   lengths return 10. Returns the number: 0 accepted. `answer` is as above. On 0 and from 20 up the store holds the job's terms and those that the check added; below
+   20 it is as it was. `scratch` is left with anything, and what it held before makes no difference. */
 uint32_t sizercobalt_check(const uint32_t *job, size_t job_length, uint32_t asked, uint32_t *kinds, size_t kinds_length, uint32_t *ends, size_t ends_length,
                            uint32_t *pool, size_t pool_length, uint32_t *scratch, size_t scratch_length, uint32_t *answer, size_t answer_length);
 

@@ -72,16 +72,21 @@ impl Call {
     pub fn by_library(&self, scratch: u32) -> Left {
         let mut left = self.lent();
         left.number = match &self.input {
-            Input::Words(case) => sizercobalt::check(
-                &case.job,
-                case.asked,
-                &mut left.kinds,
-                &mut left.ends,
-                &mut left.pool,
-                &mut dirty(scratch, case.scratch),
-                &mut left.answer,
-            ),
-            Input::Bytes { job, asked } => sizercobalt::check_bytes(job, *asked, &mut left.answer),
+            // SAFETY, here and below: the runs have threads with that stack.
+            Input::Words(case) => unsafe {
+                sizercobalt::check_here(
+                    &case.job,
+                    case.asked,
+                    &mut left.kinds,
+                    &mut left.ends,
+                    &mut left.pool,
+                    &mut dirty(scratch, case.scratch),
+                    &mut left.answer,
+                )
+            },
+            Input::Bytes { job, asked } => unsafe {
+                sizercobalt::check_bytes_here(job, *asked, &mut left.answer)
+            },
         };
         left
     }

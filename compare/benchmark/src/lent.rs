@@ -41,18 +41,21 @@ impl<'a> Lent<'a> {
     /// From the words to the answer, by ours.
     pub fn ours(&mut self, entry: Entry) {
         match entry {
-            Entry::Words => sizercobalt::check(
-                &self.case.job,
-                self.case.asked,
-                &mut self.kinds,
-                &mut self.ends,
-                &mut self.pool,
-                &mut self.scratch,
-                &mut self.answer,
-            ),
-            Entry::Bytes => {
-                sizercobalt::check_bytes(&self.bytes, self.case.asked, &mut self.answer)
-            }
+            // SAFETY, here and below: the main thread and those of the tests have 8 MiB; with less, as `hostile --stacks` tries, the process ends.
+            Entry::Words => unsafe {
+                sizercobalt::check_here(
+                    &self.case.job,
+                    self.case.asked,
+                    &mut self.kinds,
+                    &mut self.ends,
+                    &mut self.pool,
+                    &mut self.scratch,
+                    &mut self.answer,
+                )
+            },
+            Entry::Bytes => unsafe {
+                sizercobalt::check_bytes_here(&self.bytes, self.case.asked, &mut self.answer)
+            },
         };
     }
 

@@ -3,34 +3,34 @@ use mathlib.Core.Path.{_≡_, refl, sym, ap, subst, subst⁻¹, _∙_}
 use mathlib.Core.Logic.{_⊎_, inl, inr}
 use mathlib.Core.Bool.{Bool, true, false, _||_}
 use mathlib.Core.List.{List, [], _∷_, _++_, append-assoc, append-nil, List·Memᴰ, List·Memᴰ·not-nil, List·Memᴰ·cases-cons, List·Memᴰ·append-cases, Memᴰ·append-left, Memᴰ·append-right}
-use Prim.Native.Nat.{ℕ, zero, suc, _+_, _-_, _<_, _≤_}
+use Prim.Native.Nat.{ℕ, suc, _+_, _-_, _<_, _≤_}
 use native.Mathlib.Omega.{arith}
 use lib.ListN.{length, getD, set, drop, length-set}
 use lib.Seq.{drop-cons, getD-set-same, getD-set-other, drop-set-lt}
 use Rattle.model.specs.Decode.{readBindings}
-use Rattle.model.specs.Term.{Term, Extends}
+use Rattle.model.specs.Term.{Term}
 use Rattle.model.specs.Program.{Expr, Proposition, Binding, Program, Action, bind, union, run, idle}
-use Rattle.model.specs.Check.{Outcome, ok, refused, Check, andThen, pure, _>>=_, Room}
+use Rattle.model.specs.Check.{Outcome, ok, pure, _>>=_}
 use Rattle.model.specs.Evaluate.{same, Value, evalExpr}
-use Rattle.model.specs.Action.{ActionContext, processAction, sameProposition, among}
+use Rattle.model.specs.Action.{ActionContext, sameProposition, among}
 use Rattle.model.proofs.Store.{extends-same, extends-then}
 use Rattle.cells.specs.declared.Fill.{Fill}
 use Rattle.decode.specs.View.{actionOf}
 use Rattle.decode.specs.declared.Action as view
-use Rattle.termdag.specs.Store.{termsIn, Stored, roomOf}
+use Rattle.termdag.specs.Store.{termsIn, roomOf}
 use Rattle.memo.specs.Memo.{Past}
-use Rattle.outcome.specs.Does.{passed, Grown, Does}
+use Rattle.outcome.specs.Does.{passed, Grown}
 use Rattle.outcome.specs.declared.Refusal.{Refusal}
 use Rattle.outcome.specs.declared.Checked.{Checked}
 use Rattle.outcome.proofs.Laws.{does-here, does-then, does-stop, does-map}
 use Rattle.marks.specs.Covering.{Marks}
 use Rattle.marks.proofs.Marking.{marks-same}
 use Rattle.load.specs.declared.sizes.Sizes.{Sizes}
-use Rattle.program.specs.Ready.{Ready, programFor}
+use Rattle.program.specs.Ready.{programFor}
 use Rattle.evaluate.specs.Evaluation.{Sane}
 use Rattle.actions.specs.declared.Effect.{Effect}
 use Rattle.actions.specs.declared.Acted.{Acted}
-use Rattle.actions.specs.Acting.{Standing, effectBindings, effectHas, Yields, Acts, Pushed}
+use Rattle.actions.specs.Acting.{Standing, effectBindings, Yields, Acts, Pushed}
 
 abbrev acted : Refusal → Effect → Fill → Acted
 acted r e f = record { refusal = r; effect = e; fill = f }

@@ -1,38 +1,35 @@
 -- One evaluation of an action, refused or with a value.
-use mathlib.Core.Path.{_≡_, refl, sym, ap, subst, _∙_}
+use mathlib.Core.Path.{_≡_, refl, sym, ap, _∙_}
 use mathlib.Core.Bool.{Bool, true, false, _||_}
-use mathlib.Core.List.{List, [], _∷_, _++_, List·Memᴰ, List·Memᴰ·head, List·Memᴰ·tail}
-use Prim.Native.Nat.{ℕ, _+_, _<_, _≤_}
+use mathlib.Core.List.{List, [], _∷_, List·Memᴰ, List·Memᴰ·head, List·Memᴰ·tail}
+use Prim.Native.Nat.{ℕ, _<_, _≤_}
 use native.Mathlib.Omega.{arith}
 use lib.Dec.{eqb}
 use borrow.Author.Tests.{eqb-true}
 use lib.ListN.{length}
 use Rattle.model.specs.Term.{Term}
-use Rattle.model.specs.Program.{Expr, Proposition, Binding, Program}
-use Rattle.model.specs.Check.{Outcome, ok, refused, Check, andThen, Room}
+use Rattle.model.specs.Program.{Proposition, Binding, Program}
+use Rattle.model.specs.Check.{Outcome, ok, refused}
 use Rattle.model.specs.Evaluate.{same, Value, evalExpr}
 use Rattle.model.specs.Action.{sameProposition, among}
 use Rattle.model.proofs.Tests.{and-left, and-right}
 use Rattle.model.proofs.Store.{extends-same}
 use Rattle.cells.specs.declared.Fill.{Fill}
-use Rattle.termdag.specs.Store.{termsIn, Stored, roomOf}
-use Rattle.memo.specs.Memo.{Past}
-use Rattle.outcome.specs.Does.{refusalOf, outcomeOf, Grown, Does}
+use Rattle.termdag.specs.Store.{termsIn, roomOf}
+use Rattle.outcome.specs.Does.{refusalOf}
 use Rattle.outcome.specs.declared.Refusal.{Refusal}
 use Rattle.outcome.specs.declared.Checked.{Checked}
 use Rattle.outcome.proofs.Laws.{ok-of, refused-of}
-use Rattle.marks.specs.Covering.{Marks}
 use Rattle.marks.proofs.Marking.{marks-extends, marks-adds}
 use Rattle.termdag.proofs.Laws.{terms-length}
 use Rattle.load.specs.declared.sizes.Sizes.{Sizes}
-use Rattle.program.specs.Ready.{Ready, programFor}
+use Rattle.program.specs.Ready.{programFor}
 use Rattle.program.specs.Read.{exprFor, argumentsFor}
 use Rattle.evaluate.specs.Value.{termOutcome, valueOf, evalFor, valueFor, here}
 use Rattle.evaluate.proofs.Settling.{value-term, term-again}
-use Rattle.evaluate.specs.Evaluation.{Sane, EvaluatesRoot}
-use Rattle.pairs.specs.Marking.{markValues}
+use Rattle.evaluate.specs.Evaluation.{EvaluatesRoot}
 use Rattle.pairs.proofs.Values.{pairs-values}
-use Rattle.marks.proofs.Subterms as Subterms
+use Rattle.marks.specs.Covering as Covering
 use Rattle.pairs.proofs.Roots.{root-evaluated, root-adds}
 use Rattle.actions.specs.Acting.{Standing, markedIf, Yields}
 
@@ -109,7 +106,7 @@ module _ (rule : ℕ) {K E P : List ℕ} {z : Sizes} {σ : List Binding} {e : �
         reaches = here refl;
         term = r .value;
         value = term-again false (roomOf k p) prog rule σ (exprFor K E P z e) s₀ s₁ s₁ (r .value) is-term extends-same;
-        under = Subterms.here refl;
+        under = Covering.here refl;
       })
 
       room : length s₁ ≤ length m

@@ -4,12 +4,12 @@ use lib.ListN.{length, drop}
 use mathlib.Core.Path.{_≡_}
 use mathlib.Core.List.{List, _∷_, _++_, List·Memᴰ}
 use mathlib.Core.Bool.{Bool, true, false, _||_}
-use Rattle.model.specs.Term.{Term, Extends}
+use Rattle.model.specs.Term.{Extends}
 use Rattle.model.specs.Program.{Proposition, Binding, Program, Action}
 use Rattle.model.specs.Decode.{readBindings}
-use Rattle.model.specs.Check.{Outcome, Room}
+use Rattle.model.specs.Check.{Outcome}
 use Rattle.model.specs.Evaluate.{same, Value}
-use Rattle.model.specs.Action.{ActionContext, processAction, sameProposition, among}
+use Rattle.model.specs.Action.{processAction, sameProposition, among}
 use Rattle.termdag.specs.Store.{termsIn, Stored, roomOf}
 use Rattle.cells.specs.declared.Fill.{Fill}
 use Rattle.memo.specs.Memo.{Past}

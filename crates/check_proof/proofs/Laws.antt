@@ -1,18 +1,17 @@
 -- The global actions, then the walk from no proof checked.
 use mathlib.Core.Path.{_≡_, refl, sym, ap, subst, subst⁻¹, _∙_}
-use mathlib.Core.Bool.{Bool, true, false}
-use mathlib.Core.List.{List, [], _∷_, _++_, append-nil}
+use mathlib.Core.List.{List, [], _++_, append-nil}
 use Prim.Native.Nat.{ℕ, suc, _+_, _-_, _<_, _≤_}
 use native.Mathlib.Omega.{arith}
 use lib.Dec.{eqb, lit<}
 use lib.ListN.{length, getD, take, drop, length-map, length-drop, length-append, drop-of-length-le}
 use lib.Seq.{getD-drop, take-take, take-at, drop-at, length-take-le}
 use borrow.Rule.Slice.PartMut.{midOf, putMid, same-len-mid, take-put}
-use Rattle.model.specs.Term.{Term, Extends}
+use Rattle.model.specs.Term.{Term}
 use Rattle.model.specs.Program as program
 use Rattle.model.specs.Program.{Binding, Program, Proof}
 use Rattle.model.specs.Decode.{readBindings, readProof}
-use Rattle.model.specs.Check.{Outcome, Check, andThen, _>>=_, pure, Room}
+use Rattle.model.specs.Check.{Check, andThen, _>>=_, pure, Room}
 use Rattle.model.specs.Action.{ActionContext}
 use Rattle.model.specs.Walk.{claimAt, newContext, checkProofWithContext, checkProof}
 use Rattle.model.proofs.Store.{extends-then}
@@ -20,14 +19,14 @@ use Rattle.cells.specs.declared.Fill.{Fill}
 use Rattle.cells.proofs.Laws.{to-end}
 use Rattle.termdag.specs.Store.{termsIn, roomOf}
 use Rattle.memo.specs.Memo.{Past}
-use Rattle.outcome.specs.Does.{Grown, Does}
+use Rattle.outcome.specs.Does.{Does}
 use Rattle.outcome.specs.declared.Refusal.{Refusal}
 use Rattle.outcome.proofs.Laws.{does-then, does-stop, does-map}
 use Rattle.marks.specs.Marks.{zeros}
 use Rattle.marks.proofs.Closing.{zeros-at}
 use Rattle.load.specs.Held.{tablesFor}
 use Rattle.load.specs.declared.sizes.Sizes.{Sizes}
-use Rattle.program.specs.Ready.{Ready, programFor}
+use Rattle.program.specs.Ready.{programFor}
 use Rattle.program.specs.Read.{proofsFor}
 use Rattle.program.proofs.Laws.{table-long}
 use Rattle.normal_form.specs.Search.{Searched}

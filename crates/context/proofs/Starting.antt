@@ -1,26 +1,20 @@
 -- The global actions one after another, and the context that they leave.
 use mathlib.Core.Path.{_≡_, refl, sym, ap, subst, _∙_}
-use mathlib.Core.Bool.{Bool, true, false, _||_}
-use mathlib.Core.Option.{none, Option·none-ne-some}
-use mathlib.Core.List.{List, [], _∷_, _++_, append-nil, List·Memᴰ·head, List·Memᴰ·tail}
+use mathlib.Core.Bool.{Bool, true, _||_}
+use mathlib.Core.List.{List, [], _∷_, _++_, append-nil}
 use Prim.Native.Nat.{ℕ, suc, _+_, _-_, _<_, _≤_}
 use native.Mathlib.Omega.{arith}
 use native.Mathlib.Numerals.{add-one}
-use lib.Dec.{ltb}
 use lib.ListN.{length, take, drop, drop-of-length-le}
 use lib.Seq.{drop-cons}
-use borrow.Author.Tests.{ltb-false}
 use Rattle.model.specs.Term.{Term, Extends}
 use Rattle.model.specs.Program.{nameGlobalActions, Proposition, Binding, Program, Action, idle}
-use Rattle.model.specs.Layout.{sizesOf, tablesOf}
 use Rattle.model.specs.Decode.{readBindings, readProgram}
 use Rattle.model.specs.Check.{Outcome, ok, refused, Check, andThen, Room}
 use Rattle.model.specs.Action.{ActionContext, startContext, processAction, processActions, among}
-use Rattle.model.specs.Load.{Lent, tooLarge, refusedIf, loadTests, loadRefusal}
 use Rattle.model.specs.Walk.{duplicateRuleName, noDuplicate, newContext}
 use Rattle.model.proofs.Store.{extends-same, extends-then}
-use Rattle.model.proofs.Valid.{length-tabulate, pass}
-use Rattle.model.proofs.Tests.{or-left, or-right}
+use Rattle.model.proofs.Valid.{length-tabulate}
 use Rattle.cells.specs.declared.Fill.{Fill}
 use Rattle.cells.proofs.Laws.{to-end, getD-tabulate}
 use Rattle.termdag.specs.Store.{termsIn, Stored, roomOf}
@@ -31,7 +25,7 @@ use Rattle.marks.specs.Marks.{close}
 use Rattle.marks.specs.Covering.{Marks}
 use Rattle.marks.proofs.Marking.{marks-closed}
 use Rattle.termdag.proofs.Laws.{terms-length}
-use Rattle.load.specs.Held.{sizesIn, Limits}
+use Rattle.load.specs.Held.{Limits}
 use Rattle.load.specs.declared.sizes.Sizes.{Sizes}
 use Rattle.program.specs.Ready.{programFor, optionOf}
 use Rattle.program.specs.Read.{actionFor}

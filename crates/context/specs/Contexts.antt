@@ -16,7 +16,6 @@ use Rattle.termdag.specs.Store.{termsIn, roomOf}
 use Rattle.memo.specs.Memo.{Past}
 use Rattle.outcome.specs.Does.{Does}
 use Rattle.marks.specs.Covering.{Marks}
-use Rattle.load.specs.declared.sizes.Sizes.{Sizes}
 use Rattle.evaluate.specs.Evaluation.{Sane}
 use Rattle.actions.specs.Acting.{effectHas}
 use Rattle.actions.specs.declared.Effect.{Effect}

@@ -9,7 +9,7 @@ use Rattle.model.specs.Program.{Proof}
 use Rattle.model.specs.Layout.{Tables, kindsOf, endsOf, poolOf}
 use Rattle.model.specs.Decode.{readJob}
 use Rattle.model.specs.Walk.{claimAt, checkProof}
-use Rattle.model.specs.Answer.{height, refusalWords, left, lentBy, entry}
+use Rattle.model.specs.Answer.{height, refusalWords, left, entry}
 use Rattle.model.proofs.Store.{extends-same}
 use Rattle.decode.specs.declared.Proposition.{Proposition}
 use Rattle.cells.specs.declared.Fill.{Fill}
@@ -24,7 +24,7 @@ use Rattle.program.specs.Read.{proofsFor, ClaimAt}
 use Rattle.prepare.specs.declared.Prepared.{Prepared}
 use Rattle.prepare.specs.Prepares.{arraysOf, Whole, Prepares}
 use Rattle.prepare.proofs.Jobs.{tables-for}
-use Rattle.prepare.proofs.Ending.{left-by, prepared-none, entry-refused, entry-passed, entry-stopped}
+use Rattle.prepare.proofs.Ending.{left-by, entry-refused, entry-passed, entry-stopped}
 use Rattle.check_proof.specs.Checking.{Given}
 use Rattle.entry.specs.Told.{toldBy, toldWords}
 

@@ -3,7 +3,7 @@ use Prim.Native.Nat.{ℕ}
 use mathlib.Core.Path.{_≡_, sym, ap, _∙_}
 use mathlib.Core.List.{List}
 use Rattle.model.specs.Decode.{jobOf}
-use Rattle.model.specs.Answer.{Left, entry}
+use Rattle.model.specs.Answer.{entry}
 use Rattle.model.specs.Tree.{Tree}
 use Rattle.model.specs.Relation.{ClosedFor}
 use Rattle.model.proofs.Sound.{ClaimRelated, accepted}

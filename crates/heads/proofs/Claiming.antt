@@ -11,17 +11,14 @@ use Rattle.model.specs.Cell.{noCell}
 use Rattle.model.specs.Term.{Term, Extends}
 use Rattle.model.specs.Program.{Proposition, Binding, Program, Action, Rule}
 use Rattle.model.specs.Decode.{ruleActions}
-use Rattle.model.specs.Check.{Outcome, Check, andThen, checkThat, Room}
-use Rattle.model.specs.Evaluate.{same}
-use Rattle.model.specs.Action.{ActionContext, startContext, processActions, among, checkRuleProducesEquality}
+use Rattle.model.specs.Check.{Check, andThen, checkThat, Room}
+use Rattle.model.specs.Action.{startContext, processActions, among, checkRuleProducesEquality}
 use Rattle.cells.specs.declared.Fill.{Fill}
-use Rattle.termdag.specs.Store.{termsIn, Stored, roomOf}
+use Rattle.termdag.specs.Store.{termsIn, roomOf}
 use Rattle.outcome.specs.Does.{outcomeOf, Does}
-use Rattle.outcome.specs.declared.Refusal.{Refusal}
 use Rattle.outcome.specs.declared.Checked.{Checked}
 use Rattle.outcome.proofs.Laws.{does-here, does-then, does-stop}
 use Rattle.marks.specs.Marks.{zeros, close}
-use Rattle.marks.specs.Covering.{Marks}
 use Rattle.marks.proofs.Marking.{marks-cleared, marks-closed}
 use Rattle.termdag.proofs.Laws.{terms-length}
 use Rattle.load.specs.Held.{tablesFor}
@@ -29,7 +26,7 @@ use Rattle.load.specs.declared.sizes.Sizes.{Sizes}
 use Rattle.program.specs.Ready.{programFor, ruleFor}
 use Rattle.program.specs.Read.{actionFor}
 use Rattle.program.proofs.Reading.{rule-for}
-use Rattle.evaluate.specs.Evaluation.{Sane, Checks}
+use Rattle.evaluate.specs.Evaluation.{Sane}
 use Rattle.heads.specs.declared.Headed.{Headed}
 use Rattle.heads.specs.Heading.{clearedIf, claimedBy, Heads, Produces}
 

@@ -2,44 +2,36 @@
 use mathlib.Core.Path.{_≡_, refl, sym, ap, subst, subst⁻¹, _∙_}
 use mathlib.Core.Bool.{Bool, true, false, _||_}
 use mathlib.Core.List.{List, [], _∷_, _++_, map, append-nil}
-use Prim.Native.Nat.{ℕ, zero, suc, _+_, _-_, _<_, _≤_}
+use Prim.Native.Nat.{ℕ, suc, _+_, _-_, _<_, _≤_}
 use native.Mathlib.Numerals.{add-one}
 use native.Mathlib.Omega.{arith}
-use lib.Dec.{eqb, ltb}
-use borrow.Author.Tests.{eqb-true, eqb-false}
 use lib.ListN.{length, getD, take, drop, drop-of-length-le}
 use lib.Seq.{drop-cons, drop-at, length-take-le}
 use Rattle.cells.specs.Table.{put}
 use Rattle.cells.proofs.Laws.{to-end}
 use Rattle.model.specs.Term.{Term, Extends}
-use Rattle.model.specs.Program.{Proposition, Binding, Program, Action, Rule}
+use Rattle.model.specs.Program.{Proposition, Binding, Program, Action}
 use Rattle.model.specs.Decode.{readBindings}
-use Rattle.model.specs.Check.{Outcome, ok, refused, Check, andThen, checkThat, Room}
-use Rattle.model.specs.Evaluate.{same}
-use Rattle.model.specs.Action.{ActionContext, startContext, processAction, processActions, among, checkRuleProducesEquality}
+use Rattle.model.specs.Check.{Outcome, ok, refused, andThen, checkThat, Room}
+use Rattle.model.specs.Action.{ActionContext, startContext, processAction, processActions, among}
 use Rattle.model.proofs.Store.{extends-same, extends-then, extends-length}
 use Rattle.cells.specs.declared.Fill.{Fill}
-use Rattle.termdag.specs.Store.{termsIn, Stored, roomOf}
-use Rattle.memo.specs.Memo.{Past}
-use Rattle.outcome.specs.Does.{passed, refusalOf, outcomeOf, Grown, Does}
-use Rattle.outcome.specs.declared.Refusal.{Refusal}
+use Rattle.termdag.specs.Store.{termsIn, roomOf}
+use Rattle.outcome.specs.Does.{passed, outcomeOf, Grown}
 use Rattle.outcome.specs.declared.Checked.{Checked}
-use Rattle.outcome.proofs.Laws.{ok-of, refused-of, grown-same, grown-then, room-same, does-here, does-then, does-stop}
-use Rattle.marks.specs.Marks.{zeros, close}
+use Rattle.outcome.proofs.Laws.{ok-of, refused-of, grown-same, grown-then, room-same}
 use Rattle.marks.specs.Covering.{Marks}
-use Rattle.marks.proofs.Marking.{marks-cleared, marks-closed}
-use Rattle.termdag.proofs.Laws.{terms-length}
 use Rattle.load.specs.declared.sizes.Sizes.{Sizes}
-use Rattle.program.specs.Ready.{Ready, programFor}
+use Rattle.program.specs.Ready.{programFor}
 use Rattle.program.specs.Read.{actionFor}
 use Rattle.evaluate.specs.Value.{bindingsIn}
-use Rattle.evaluate.specs.Evaluation.{Sane, Checks}
+use Rattle.evaluate.specs.Evaluation.{Sane}
 use Rattle.actions.specs.declared.Effect.{Effect}
 use Rattle.actions.specs.declared.Acted.{Acted}
 use Rattle.actions.specs.Acting.{Standing, effectBindings, effectHas, Acts, Pushed}
 use Rattle.actions.proofs.Acting.{among-append, standing-after}
 use Rattle.heads.specs.declared.Headed.{Headed}
-use Rattle.heads.specs.Heading.{clearedIf, claimedBy, Heads, Produces}
+use Rattle.heads.specs.Heading.{Heads}
 
 -- bindings over others
 over-others : (e : Effect) (σ τ : List Binding) → effectBindings e σ ++ τ ≡ effectBindings e (σ ++ τ)

@@ -1,12 +1,11 @@
 -- The contracts of rule heads and merges.
-use Prim.Native.Nat.{ℕ, _<_}
+use Prim.Native.Nat.{ℕ}
 use mathlib.Core.Path.{_≡_}
 use mathlib.Core.List.{List, []}
 use mathlib.Core.Bool.{Bool, true, false}
 use lib.ListN.{length}
-use Rattle.model.specs.Term.{Term, Extends}
+use Rattle.model.specs.Term.{Extends}
 use Rattle.model.specs.Program.{Proposition, Binding, Program, Action, Rule}
-use Rattle.model.specs.Check.{Room}
 use Rattle.model.specs.Action.{ActionContext, startContext, processActions, among, checkRuleProducesEquality}
 use Rattle.termdag.specs.Store.{termsIn, roomOf}
 use Rattle.cells.specs.declared.Fill.{Fill}

@@ -1,8 +1,8 @@
 // The height of a proof: one more than the greatest among the proofs that it refers to. The heights are counted from the first proof on.
+use cell_tests::words::at;
 use cells::wide;
 use decode::Justification;
 use load::sizes::Sizes;
-use cell_tests::words::at;
 use program::read::justification_at;
 use program::read::premises_at;
 ghost use mathlib.Core.Path.{_≡_};

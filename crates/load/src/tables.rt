@@ -1,10 +1,10 @@
 // The tests of a cell in its table, for each number from 6 to 9, and the first cell that fails.
-use cell_tests::fit;
-use cell_tests::once;
-use cell_tests::refer;
 use crate::sizes::Sizes;
 use crate::sizes::cell_count;
 use crate::sizes::counts;
+use cell_tests::fit;
+use cell_tests::once;
+use cell_tests::refer;
 use cell_tests::words::all_below;
 use cell_tests::words::at;
 use cell_tests::words::rest;

@@ -16,3 +16,4 @@ pub mod Exact
 pub mod JobA
 pub mod JobB
 pub mod Example
+pub mod Premises

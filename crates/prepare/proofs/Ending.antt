@@ -5,10 +5,9 @@ use mathlib.Core.List.{List, [], _∷_}
 use mathlib.Core.Option.{none, some}
 use Prim.Native.Nat.{ℕ, zero, suc}
 use lib.Dec.{eqb}
-use lib.ListN.{length, getD, length-map}
+use lib.ListN.{length, getD}
 use borrow.Author.Tests.{eq-eqb, ne-eqb}
-use Rattle.model.specs.Cell.{cellsOf}
-use Rattle.model.specs.Term.{Term, readTerm}
+use Rattle.model.specs.Term.{Term}
 use Rattle.model.specs.Program.{Proposition}
 use Rattle.model.specs.Layout.{kindsOf, endsOf, poolOf}
 use Rattle.model.specs.Decode.{jobOf}
@@ -16,7 +15,6 @@ use Rattle.model.specs.Load.{loadRefusal}
 use Rattle.model.specs.Walk.{checkProof}
 use Rattle.model.specs.Answer.{height, refusalWords, Arrays, stored, left, checkedBy, checked, loaded, lentBy, check, entry}
 use Rattle.cells.specs.declared.Fill.{Fill}
-use Rattle.cells.proofs.Laws.{cells-length}
 use Rattle.termdag.proofs.Laws.{terms-length}
 use Rattle.termdag.specs.Store.{termsIn, roomOf}
 use Rattle.termdag.proofs.Loading.{drop-later}

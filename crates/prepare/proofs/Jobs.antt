@@ -1,26 +1,24 @@
 -- The arrays of a job that loads: its program, its proofs and its terms, and the room that there is for them.
 use mathlib.Core.Path.{_≡_, refl, sym, ap, subst, _∙_}
-use mathlib.Core.Bool.{Bool, true, false, not, _||_}
-use mathlib.Core.List.{List, [], _∷_, _++_, map, List·Memᴰ, List·Memᴰ·head, List·Memᴰ·tail, List·Memᴰ·not-nil, Memᴰ·append-left}
-use mathlib.Core.Option.{Option, none, Option·none-ne-some}
-use Prim.Native.Nat.{ℕ, zero, suc, _+_, _*_, _-_, _≤_, _<_}
+use mathlib.Core.Bool.{true, false, not}
+use mathlib.Core.List.{List, [], _∷_, map, List·Memᴰ, List·Memᴰ·head, List·Memᴰ·tail, List·Memᴰ·not-nil, Memᴰ·append-left}
+use mathlib.Core.Option.{Option, none}
+use Prim.Native.Nat.{ℕ, suc, _+_, _*_, _-_, _≤_, _<_}
 use native.Mathlib.Omega.{arith}
-use native.Mathlib.Decide.{decLt}
 use lib.Dec.{eqb, ltb, lit<}
 use lib.ListN.{length, getD, take, drop}
-use lib.Seq.{take-append-le, take-all}
 use borrow.Author.Tests.{ltb-false, leb-false}
-use Rattle.model.specs.Cell.{Cell, noCell, tabulate, startOf, cellAt, cellsOf}
+use Rattle.model.specs.Cell.{Cell, noCell, startOf, cellAt, cellsOf}
 use Rattle.model.specs.Term.{Term, cellOf, readTerm}
 use Rattle.model.specs.Program.{Program}
 use Rattle.model.specs.Layout.{Sizes, sizesOf, cellCount, kindsOf, endsOf, poolOf, Tables, tablesIn, tablesOf}
 use Rattle.model.specs.Decode.{readProof, readProgram, readJob, jobOf}
 use Rattle.model.specs.Check.{Refusal}
-use Rattle.model.specs.Load.{Lent, tooLarge, noRoom, refusedIf, termFits, firstRefusal, loadTests, loadRefusal}
+use Rattle.model.specs.Load.{Lent, tooLarge, noRoom, refusedIf, termFits, firstRefusal, loadRefusal}
 use Rattle.model.specs.Answer.{lentBy}
-use Rattle.model.proofs.Tests.{eq-of, or-left, or-right, not-false}
+use Rattle.model.proofs.Tests.{eq-of, not-false}
 use Rattle.model.proofs.Represent.{Distinct}
-use Rattle.model.proofs.Valid.{term-cell, pass, loads-valid, length-tabulate}
+use Rattle.model.proofs.Valid.{term-cell, loads-valid}
 use Rattle.cells.specs.declared.Fill.{Fill}
 use Rattle.termdag.specs.Store.{termsIn, Loadable, Loaded}
 use Rattle.termdag.proofs.Laws.{once-of}

@@ -1,6 +1,7 @@
 // Look-ups in the tables of an admitted job's program, and the normal form of a container.
 pub mod read;
 
+use cell_tests::words::at;
 use cells::Fill;
 use cells::Found;
 use cells::same_words;
@@ -17,7 +18,6 @@ use decode::row_arguments;
 use decode::rule_name;
 use load::sizes::Sizes;
 use load::tables::fill;
-use cell_tests::words::at;
 ghost use mathlib.Core.Path.{_≡_};
 ghost use mathlib.Core.List.{List, []};
 ghost use mathlib.Core.Option.{some};
