@@ -24,7 +24,7 @@ use Rattle.program.specs.Read.{proofsFor, ClaimAt}
 use Rattle.prepare.specs.declared.Prepared.{Prepared}
 use Rattle.prepare.specs.Prepares.{arraysOf, Whole, Prepares}
 use Rattle.prepare.proofs.Jobs.{tables-for}
-use Rattle.prepare.proofs.Ending.{left-by, entry-refused, entry-passed, entry-stopped}
+use Rattle.entry.proofs.Ending.{left-by, entry-refused, entry-passed, entry-stopped}
 use Rattle.check_proof.specs.Checking.{Given}
 use Rattle.entry.specs.Told.{toldBy, toldWords}
 

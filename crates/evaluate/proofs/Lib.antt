@@ -1,5 +1,5 @@
 pub mod Checking
 pub mod Collecting
-pub mod Heads
+pub mod HeadValues
 pub mod Settling
 pub mod Turns

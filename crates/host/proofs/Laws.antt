@@ -16,7 +16,7 @@ use Rattle.model.specs.Load.{loadRefusal}
 use Rattle.model.specs.Answer.{Arrays, Left, lentBy, refusalWords, checkedBy, checked, loaded, check, entry}
 use Rattle.model.specs.Host.{wordsOf, ownArrays, ownScratch, hostAnswer, Answered, hostEntry}
 use Rattle.cells.specs.Table.{put}
-use Rattle.prepare.proofs.Ending.{entry-check}
+use Rattle.entry.proofs.Ending.{entry-check}
 
 -- the number of a check is its answer's first word
 pub first-word : (ws : List ℕ) (p : ℕ) (a : Arrays) (scratch : ℕ) → check ws p a scratch .number ≡ getD (check ws p a scratch .answer) 0 0

@@ -12,7 +12,7 @@ use Rattle.model.specs.Host.{wordsOf, ownArrays, ownScratch, hostAnswer, Answer
 use Rattle.model.specs.Tree.{Tree}
 use Rattle.model.specs.Relation.{ClosedFor}
 use Rattle.model.proofs.Sound.{ClaimRelated, accepted}
-use Rattle.prepare.proofs.Ending.{entry-check}
+use Rattle.entry.proofs.Ending.{entry-check}
 use Rattle.host.proofs.Laws.{first-word}
 
 -- The first premise is what `sizercobalt_check_bytes`'s contract says of every call. Whatever bytes, asked proof and answer's buffer are handed in, if the number

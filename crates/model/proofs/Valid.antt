@@ -72,7 +72,7 @@ passes f cs u k h = subst (λ (j : ℕ). f j (getD cs k noCell) ≡ true) (omega
 
 -- a place of what was read is a place of the cells
 module _ {A : Type 0} (read : Cell → A) where
-  read-at : (cs : List Cell) (d : A) (k : ℕ) → k < length cs → getD (map read cs) k d ≡ read (getD cs k noCell)
+  pub read-at : (cs : List Cell) (d : A) (k : ℕ) → k < length cs → getD (map read cs) k d ≡ read (getD cs k noCell)
   read-at [] d k h = absurd (not-suc-le-zero h)
   read-at (c ∷ cs) d zero h = refl
   read-at (c ∷ cs) d (suc k) h = read-at cs d k (le-of-suc-le-suc h)
@@ -92,7 +92,7 @@ term-at [] n t e = absurd (Option·none-ne-some t e)
 term-at (c ∷ cs) zero t e = (omega arith, Option·some-injective (readTerm c) t e)
 term-at (c ∷ cs) (suc n) t e = let h = term-at cs n t e in (omega (arith, h .0), h .1)
 
-below-of : (n : ℕ) (xs : List ℕ) → below n xs ≡ true → Below n xs
+pub below-of : (n : ℕ) (xs : List ℕ) → below n xs ≡ true → Below n xs
 below-of n [] e x m = absurd (List·Memᴰ·not-nil m)
 below-of n (y ∷ ys) e x m = go (List·Memᴰ·cases-cons m) (below-of n ys (and-right (ltb y n) _ e))
   where

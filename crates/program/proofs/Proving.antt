@@ -2,18 +2,18 @@
 use mathlib.Core.Path.{_≡_, refl, sym, ap, subst, _∙_}
 use mathlib.Core.Logic.{_⊎_, inl, inr}
 use mathlib.Core.Bool.{true, false, not, _&&_}
-use mathlib.Core.List.{List, [], _∷_, map, List·Memᴰ, List·Memᴰ·not-nil, List·Memᴰ·cases-cons, Memᴰ·map}
+use mathlib.Core.List.{List, [], _∷_, map, List·Memᴰ, Memᴰ·map}
 use Prim.Native.Nat.{ℕ, zero, suc, _+_, _≤_, _<_, _%_}
 use native.Mathlib.Omega.{arith}
-use native.Mathlib.Nat.{not-suc-le-zero, le-of-suc-le-suc}
 use lib.Dec.{eqb, leb, ltb, lit<}
 use lib.ListN.{length, getD, drop, length-take, length-drop}
-use Rattle.model.specs.Cell.{Cell, noCell}
+use Rattle.model.specs.Cell.{Cell}
 use Rattle.model.specs.Program as program
 use Rattle.model.specs.Program.{Binding, references, substitution}
 use Rattle.model.specs.Decode.{word, readBindings, readJustification, readProof}
 use Rattle.model.specs.Load.{counts, below, ruleProofFits, proofFits, proofRefers}
 use Rattle.model.specs.Walk.{noProof}
+use Rattle.model.proofs.Valid.{read-at, below-of}
 use Rattle.model.proofs.Tests.{or-cases, not-true, eq-of, lt-of, le-of, and-left, and-right, never}
 use Rattle.decode.specs.View.{cell, propositionOf, justificationOf, rulePremises, rulePairs, Justifies}
 use Rattle.decode.specs.declared.Proposition.{Proposition}
@@ -24,21 +24,6 @@ use Rattle.program.specs.Ready.{Ready}
 use Rattle.program.specs.Read.{proofsFor, proofCell, premisesFor, pairsFor, ClaimAt, JustificationAt, PremisesAt, SubstitutionAt}
 use Rattle.program.proofs.Laws.{table-long, fits}
 use Rattle.program.proofs.Reading.{below-at, refers}
-
--- a place of what was read is a place of the cells
-pub read-at : {A : Type 0} (read : Cell → A) (cs : List Cell) (d : A) (k : ℕ) → k < length cs → getD (map read cs) k d ≡ read (getD cs k noCell)
-read-at read [] d k h = absurd (not-suc-le-zero h)
-read-at read (c ∷ cs) d zero h = refl
-read-at read (c ∷ cs) d (suc k) h = read-at read cs d k (le-of-suc-le-suc h)
-
--- a member of a list whose numbers lie below n
-pub below-in : (n : ℕ) (xs : List ℕ) → below n xs ≡ true → (x : ℕ) → List·Memᴰ x xs → x < n
-below-in n [] e x m = absurd (List·Memᴰ·not-nil m)
-below-in n (y ∷ ys) e x m = go (List·Memᴰ·cases-cons m) (below-in n ys (and-right (ltb y n) _ e) x)
-  where
-    go : (x ≡ y) ⊎ List·Memᴰ x ys → (List·Memᴰ x ys → x < n) → x < n
-    go (inl h) k = rw h (lt-of y n (and-left _ _ e))
-    go (inr m) k = k m
 
 -- the operand counts of the kinds of proofs but a rule's, and the least that a justification needs
 abbrev proofCounts : List ℕ
@@ -125,11 +110,11 @@ module _ (terms i : ℕ) (q : program.Proof) (e : proofRefers terms i q ≡ true
   rhs-within : q .claim .rhs < terms
   rhs-within = lt-of (q .claim .rhs) terms (and-right (ltb (q .claim .lhs) terms) _ sides)
 
-  references-below : below i (references (q .justification)) ≡ true
+  pub references-below : below i (references (q .justification)) ≡ true
   references-below = and-right (ltb (q .claim .lhs) terms && ltb (q .claim .rhs) terms) _ front
 
   substitution-within : (b : Binding) → List·Memᴰ b (substitution (q .justification)) → b .term < terms
-  substitution-within b m = below-in terms (map (λ b. b .term) (substitution (q .justification)))
+  substitution-within b m = below-of terms (map (λ b. b .term) (substitution (q .justification)))
       (and-right (ltb (q .claim .lhs) terms && ltb (q .claim .rhs) terms && below i (references (q .justification))) _ e) (b .term) (Memᴰ·map (λ (c : Binding). c .term) m)
 
 -- the proofs of an admitted job, as they are read
@@ -166,7 +151,7 @@ module _ {K E P : List ℕ} {z : Sizes} (R : Ready K E P z) (p : ℕ) (h : p < z
         let s : justificationOf r (premisesFor K E P z p) (pairsFor K E P z p) ≡ readJustification (proofCell K E P z p) = subst (λ (x : Cell). justificationOf r (rulePremises x) (rulePairs x) ≡ readJustification x) q (j .is) in
         record {
           is = s ∙ ap (λ (x : program.Proof). x .justification) (sym proof-for);
-          lower = below-in p (references (getD (proofsFor K E P z) p noProof .justification))
+          lower = below-of p (references (getD (proofsFor K E P z) p noProof .justification))
               (ap (λ (x : program.Proof). below p (references (x .justification))) proof-for ∙ references-below (z .terms) p (readProof (proofCell K E P z p)) proof-refers);
           isRule = λ t e. rule-kind (proofCell K E P z p) (ap (λ (x : Justification). justificationOf x (premisesFor K E P z p) (pairsFor K E P z p)) (sym e) ∙ s);
         }

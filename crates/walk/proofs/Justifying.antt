@@ -1,7 +1,7 @@
 -- A rule's step, any other step, and the walk itself.
 use mathlib.Core.Path.{_≡_, refl, sym, ap, subst, subst⁻¹, _∙_}
-use mathlib.Core.Bool.{Bool, true, false, _&&_}
-use mathlib.Core.List.{List, _∷_, map, List·Memᴰ, List·Memᴰ·not-nil}
+use mathlib.Core.Bool.{Bool, true, false}
+use mathlib.Core.List.{List, _∷_, List·Memᴰ, List·Memᴰ·not-nil}
 use Prim.Native.Nat.{ℕ, suc, _+_, _-_, _<_, _≤_}
 use native.Mathlib.Omega.{arith}
 use lib.Dec.{eqb, ltb, lit<}
@@ -9,12 +9,11 @@ use borrow.Author.Tests.{ltb-true, ltb-false}
 use lib.ListN.{length, getD, set, take, length-set, length-map, List·getD-eq-default}
 use lib.Seq.{take-set-le}
 use Rattle.model.specs.Term.{Term, Below}
-use Rattle.model.specs.Program.{Proposition, Program, Proof, Justification, references, substitution}
+use Rattle.model.specs.Program.{Proposition, Program, Proof, Justification, references}
 use Rattle.model.specs.Decode.{readProof}
 use Rattle.model.specs.Check.{Outcome, Check, andThen, _>>=_, pure, choose, Room}
 use Rattle.model.specs.Walk.{noProof, claimAt, member, checkJustification, checkProofWithContext}
-use Rattle.model.specs.Load.{below, proofRefers}
-use Rattle.model.proofs.Tests.{and-left, and-right}
+use Rattle.model.specs.Load.{below}
 use Rattle.model.specs.Action.{ActionContext}
 use Rattle.model.proofs.Fuel.{walk-fuel}
 use Rattle.cells.specs.declared.Fill.{Fill}
@@ -29,7 +28,8 @@ use Rattle.program.specs.Ready.{Ready, programFor}
 use Rattle.program.specs.Read.{proofsFor, proofCell}
 use Rattle.program.proofs.Laws.{table-long}
 use Rattle.program.proofs.Reading.{refers}
-use Rattle.program.proofs.Proving.{below-in, proof-for}
+use Rattle.model.proofs.Valid.{below-of}
+use Rattle.program.proofs.Proving.{references-below, proof-for}
 use Rattle.turns.specs.Walking.{Flags, Ground, Walks, contextOf}
 use Rattle.turns.proofs.Walking.{walks-here, flags-set}
 
@@ -118,16 +118,13 @@ module _ (K E P : List ℕ) (z : Sizes) (F G U : List ℕ) (p : ℕ) where
           }
 
 -- fuel beyond the number changes nothing: references are lower
-lower-proof : (terms i : ℕ) (q : Proof) → proofRefers terms i q ≡ true → below i (references (q .justification)) ≡ true
-lower-proof terms i q e = and-right (ltb (q .claim .lhs) terms && ltb (q .claim .rhs) terms) _ (and-left _ (below terms (map (λ b. b .term) (substitution (q .justification)))) e)
-
 lower-for : {K E P : List ℕ} {z : Sizes} → Ready K E P z → (p : ℕ) → Below p (references (getD (proofsFor K E P z) p noProof .justification))
 lower-for {K} {E} {P} {z} R p = go (ltb p (z .proofs)) refl
   where
     go : (b : Bool) → ltb p (z .proofs) ≡ b → Below p (references (getD (proofsFor K E P z) p noProof .justification))
     go true e x m =
         let h = ltb-true p (z .proofs) e in
-        below-in p _ (ap (λ (x : Proof). below p (references (x .justification))) (proof-for R p h) ∙ lower-proof (z .terms) p (readProof (proofCell K E P z p)) (refers R 9 (lit< tt) p h)) x m
+        below-of p _ (ap (λ (x : Proof). below p (references (x .justification))) (proof-for R p h) ∙ references-below (z .terms) p (readProof (proofCell K E P z p)) (refers R 9 (lit< tt) p h)) x m
     go false e x m =
         let h = ltb-false p (z .proofs) e in
         let l : length (proofsFor K E P z) ≡ z .proofs = length-map (tablesFor K E P z .proofs) readProof ∙ table-long K E P z 9 (lit< tt) in

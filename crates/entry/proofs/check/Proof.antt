@@ -2,7 +2,7 @@ use mathlib.Core.Path.{refl, sym, subst, _∙_}
 use lib.ListN.{length}
 use Rattle.prepare.specs.Prepares.{arraysOf}
 use Prim.Native.Nat.{ℕ, _<_}
-use Rattle.prepare.proofs.Ending.{entry-unwritten}
+use Rattle.entry.proofs.Ending.{entry-unwritten}
 use Rattle.entry.proofs.Laws.{refuses, whole, job-ready, job-given, terms-word, tells}
 use borrow.Author.Needs.{needs}
 use Rattle.entry.proofs.check.Statement.{statement}

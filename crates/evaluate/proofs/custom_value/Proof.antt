@@ -1,4 +1,4 @@
-use Rattle.evaluate.proofs.Heads.{custom-fact, custom-elsewhere}
+use Rattle.evaluate.proofs.HeadValues.{custom-fact, custom-elsewhere}
 use borrow.Author.Needs.{needs}
 use Rattle.evaluate.proofs.custom_value.Statement.{statement}
 use Rattle.evaluate.proofs.custom_value.Tie as tie

@@ -1,5 +1,5 @@
 use Rattle.program.specs.Ready.{programFor}
-use Rattle.evaluate.proofs.Heads.{head-does, variable-does, number-above, by-number}
+use Rattle.evaluate.proofs.HeadValues.{head-does, variable-does, number-above, by-number}
 use borrow.Author.Needs.{needs}
 use Rattle.evaluate.proofs.head_value.Statement.{statement}
 use Rattle.evaluate.proofs.head_value.Tie as tie

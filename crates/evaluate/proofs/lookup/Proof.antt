@@ -1,4 +1,4 @@
-use Rattle.evaluate.proofs.Heads.{found-first, found-second, found-third}
+use Rattle.evaluate.proofs.HeadValues.{found-first, found-second, found-third}
 use Rattle.program.specs.Ready.{optionOf}
 use mathlib.Core.Path.{sym, ap, _∙_}
 use borrow.Author.Needs.{needs}

@@ -1,4 +1,4 @@
-use Rattle.evaluate.proofs.Heads.{validate-does}
+use Rattle.evaluate.proofs.HeadValues.{validate-does}
 use borrow.Author.Needs.{needs}
 use Rattle.evaluate.proofs.validate.Statement.{statement}
 use Rattle.evaluate.proofs.validate.Tie as tie

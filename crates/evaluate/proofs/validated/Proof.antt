@@ -1,5 +1,5 @@
 use Rattle.program.specs.Ready.{programFor, optionOf}
-use Rattle.evaluate.proofs.Heads.{without-validator, validator-some, validator-none}
+use Rattle.evaluate.proofs.HeadValues.{without-validator, validator-some, validator-none}
 use Rattle.model.proofs.Tests.{not-true, not-false}
 use Rattle.decode.specs.View.{primitiveOf}
 use Rattle.model.specs.Evaluate.{primitiveAt}

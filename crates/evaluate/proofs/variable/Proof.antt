@@ -1,4 +1,4 @@
-use Rattle.evaluate.proofs.Heads.{given-some, given-none}
+use Rattle.evaluate.proofs.HeadValues.{given-some, given-none}
 use Rattle.program.specs.Ready.{optionOf}
 use mathlib.Core.Path.{sym, ap, _∙_}
 use borrow.Author.Needs.{needs}
