@@ -16,7 +16,6 @@ use Rattle.model.specs.Action.{ActionContext}
 use Rattle.model.specs.Walk.{claimAt, newContext, checkProofWithContext, checkProof}
 use Rattle.model.proofs.Store.{extends-then}
 use Rattle.cells.specs.declared.Fill.{Fill}
-use Rattle.cells.proofs.Laws.{to-end}
 use Rattle.termdag.specs.Store.{termsIn, roomOf}
 use Rattle.memo.specs.Memo.{Past}
 use Rattle.outcome.specs.Does.{Does}
@@ -110,10 +109,6 @@ module _ {K E P : List ℕ} {z : Sizes} {k e p : List ℕ} {f : Fill} {W : List 
 -- a memo that is cleared
 pub past-cleared : (n : ℕ) → Past (zeros n)
 past-cleared n = record { each = λ k. let a = zeros-at n (k + k + 1) in let b = zeros-at n 0 in omega arith }
-
--- the table from a place on, as the code lends it
-pub table-part : (T : List ℕ) (at : ℕ) → length T ≡ 512 → take (512 - at) (drop at T) ≡ drop at T
-table-part T at e = ap (λ (n : ℕ). take (n - at) (drop at T)) (sym e) ∙ to-end at T
 
 -- scratch at the walk's start: the marks of the global pairs, and no proof checked
 module _ (W M Z : List ℕ) (c l : ℕ) (lM : length M ≡ c) (h : c + c ≤ length (M ++ drop c W)) (q : l ≡ c) where

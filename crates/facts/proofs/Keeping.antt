@@ -1,44 +1,32 @@
--- Facts keep the store sane: it grows, and what bindings and rows name lies in it, a condition's new binding too.
-use mathlib.Core.Path.{_≡_, refl, sym, ap, subst, _∙_}
+-- Facts keep the store sane: it grows, and what bindings and rows name lies in it.
+use mathlib.Core.Path.{_≡_, refl, sym, subst, _∙_}
 use mathlib.Core.Logic.{_⊎_, inl, inr}
 use mathlib.Core.Bool.{true, false}
 use mathlib.Core.List.{List, [], _∷_, _++_, List·Memᴰ, List·Memᴰ·head, List·Memᴰ·tail, List·Memᴰ·not-nil, List·Memᴰ·cases-cons}
-use mathlib.Core.Option.{Option, none, some, Option·some-injective}
+use mathlib.Core.Option.{Option, none, some}
 use Prim.Native.Nat.{ℕ, _<_, _≤_}
 use native.Mathlib.Omega.{arith}
-use lib.Dec.{eqb}
 use lib.ListN.{length}
 use Rattle.model.specs.Term.{Term, app, Extends, Below, Ordered}
 use Rattle.model.specs.Program.{variable, Expr, node, Exprs, nil, cons, Fact, equal, bare, Proposition, Binding, Program}
-use Rattle.model.specs.Check.{Outcome, orRefuse, pure, Room}
-use Rattle.model.specs.Evaluate.{lookup, evalExpr, evalFactExpr, evalFactExprs}
-use Rattle.model.specs.Fact.{FunctionFact, headOf, variableOf, argsOf, functionFact, bindOutput, compareSides, evalSideBy, checkSideCondition, wantedEquality, wanted, matchesEquality, matches, checkFactMatchesProposition}
-use Rattle.model.proofs.Post.{Post, post-ok, post-map, post-bind, post-result, or-bind, that-bind, post-that}
+use Rattle.model.specs.Check.{Outcome, orRefuse, Room}
+use Rattle.model.specs.Evaluate.{lookup, evalFactExpr, evalFactExprs}
+use Rattle.model.specs.Fact.{FunctionFact, argsOf, functionFact, wantedEquality, wanted, matchesEquality, matches, checkFactMatchesProposition}
+use Rattle.model.proofs.Post.{Post, post-ok, post-map, post-bind, post-that}
 use Rattle.model.proofs.Store.{extends-same, extends-then, extends-length}
 use Rattle.model.proofs.Again.{added}
-use Rattle.evaluate.specs.Value.{termOutcome, headTerm, evalTerm, evalTerms}
+use Rattle.evaluate.specs.Value.{headTerm, evalTerm, evalTerms}
 use Rattle.evaluate.specs.Evaluation.{Sane}
-use Rattle.evaluate.proofs.Checking.{term-then, value-fact, value-elsewhere}
+use Rattle.evaluate.proofs.Checking.{value-fact}
 use Rattle.evaluate.proofs.Settling.{value-term, term-sane}
 
--- a larger store, and one more binding
+-- a larger store
 sane-grows : {prog : Program} {σ : List Binding} {s s′ : List Term} → Extends s s′ → Ordered s′ → Sane prog σ s → Sane prog σ s′
 sane-grows {prog} {σ} {s} {s′} x o w = let l : length s ≤ length s′ = extends-length x in record {
   ordered = o;
   bound = λ b m. let h = w .bound b m in omega arith;
   rows = λ r m. let h = w .rows r m in omega arith;
 }
-
-pub sane-bind : {prog : Program} {σ : List Binding} {s : List Term} (x t : ℕ) → t < length s → Sane prog σ s → Sane prog (record { name = x; term = t } ∷ σ) s
-sane-bind {prog} {σ} {s} x t h w = record {
-  ordered = w .ordered;
-  bound = λ b m. go b (List·Memᴰ·cases-cons m);
-  rows = w .rows;
-}
-  where
-    go : (b : Binding) → (b ≡ record { name = x; term = t }) ⊎ List·Memᴰ b σ → b .term < length s
-    go b (inl e) = subst (λ (c : Binding). c .term < length s) (sym e) h
-    go b (inr m) = w .bound b m
 
 below-last : (n v : ℕ) (ts : List ℕ) → v < n → Below n ts → Below n (ts ++ (v ∷ []))
 below-last n v [] h b x m = go (List·Memᴰ·cases-cons m)
@@ -64,45 +52,10 @@ module _ (room : Room) (prog : Program) (rule : ℕ) (σ : List Binding) where
   abbrev Inside : List Term → ℕ → List Term → Type 0
   Inside s t s′ = Extends s s′ × Sane prog σ s′ × (t < length s′)
 
-  bound-inside : {s : List Term} (x t : ℕ) → Sane prog σ s → lookup σ x ≡ some t → t < length s
-  unfolding evalTerm evalTerms headTerm orRefuse
-  bound-inside {s} x t w e = post-result (term-sane false room prog rule σ (node 0 (variable x) nil) w) (ap (λ (o : Option ℕ). orRefuse o 45 (rule ∷ x ∷ []) s) e) .2
-
-  -- a condition's side
-  abbrev Valued : List Term → Option ℕ → List Term → Type 0
-  Valued s o s′ = Extends s s′ × Sane prog σ s′ × ((t : ℕ) → o ≡ some t → t < length s′)
-
-  side-sane : (e : Expr) (o : Option ℕ) {s : List Term} → Sane prog σ s → Post (evalSideBy room prog rule σ e o s) (Valued s)
-  side-sane e (some x) w = post-ok (extends-same, w, λ t q. bound-inside x t w q)
-  side-sane e none {s} w =
-      let value : Post (termOutcome (evalExpr room prog rule σ e s)) (Inside s) = subst (λ (o : Outcome ℕ). Post o (Inside s)) (sym (value-term false room prog rule σ e s) ∙ value-elsewhere room prog rule σ e s) (term-sane false room prog rule σ e w) in
-      subst (λ (o : Outcome (Option ℕ)). Post o (Valued s)) (sym (term-then (evalExpr room prog rule σ e s) (λ t. pure (some t))))
-      (post-bind value λ t s₁ m. post-ok (m .0, m .1, λ u q. let i = Option·some-injective t u q in let h = m .2 in omega arith))
-
-  -- a condition
-  abbrev Bound : List Term → List Binding → List Term → Type 0
-  Bound s σ′ s′ = Extends s s′ × Sane prog σ′ s′
-
-  output-sane : (i : ℕ) (v : Option ℕ) (t : ℕ) {s : List Term} → t < length s → Sane prog σ s → Post (bindOutput rule i σ v t s) (Bound s)
-  output-sane i none t h w = record { holds = tt }
-  output-sane i (some x) t h w = post-ok (extends-same, sane-bind x t h w)
-
-  compare-sane : (i : ℕ) (lv a rv b : Option ℕ) {s : List Term} → ((t : ℕ) → a ≡ some t → t < length s) → ((t : ℕ) → b ≡ some t → t < length s) → Sane prog σ s
-      → Post (compareSides rule i σ lv a rv b s) (Bound s)
-  unfolding compareSides
-  compare-sane i lv none rv none h k w = record { holds = tt }
-  compare-sane i lv none rv (some y) h k w = output-sane i lv y (k y refl) w
-  compare-sane i lv (some x) rv none h k w = output-sane i rv x (h x refl) w
-  compare-sane i lv (some x) rv (some y) {s} h k w = that-bind (eqb x y) 42 _ s _ tt (λ _. post-ok (extends-same, w))
-
-  pub condition-sane : (f : Fact) {s : List Term} → Sane prog σ s → Post (checkSideCondition room prog rule σ f s) (λ σ′ s′. Extends s s′ × Sane prog σ′ s′)
-  unfolding checkSideCondition
-  condition-sane (bare i e) w = post-ok (extends-same, w)
-  condition-sane (equal i l r) w =
-      post-bind (side-sane l (variableOf (headOf l)) w) λ a s₁ m.
-      post-bind (side-sane r (variableOf (headOf r)) (m .1)) λ b s₂ n.
-      post-map (compare-sane i (variableOf (headOf l)) a (variableOf (headOf r)) b (λ t e. let h = m .2 t e in let g = extends-length (n .0) in omega arith) (n .2) (n .1)) λ σ′ s′ k.
-      (extends-then (m .0) (extends-then (n .0) (k .0)), k .1)
+  -- a variable's value
+  variable-sane : (x : ℕ) {s : List Term} → Sane prog σ s → Post (orRefuse (lookup σ x) 45 (rule ∷ x ∷ []) s) (Inside s)
+  unfolding evalTerm evalTerms headTerm
+  variable-sane x w = term-sane false room prog rule σ (node 0 (variable x) nil) w
 
   -- values in an ordinary fact
   expr-sane : (e : Expr) {s : List Term} → Sane prog σ s → Post (evalFactExpr room prog rule σ e s) (Inside s)
@@ -126,12 +79,13 @@ module _ (room : Room) (prog : Program) (rule : ℕ) (σ : List Binding) where
       post-bind (expr-sane l w) λ a s₁ m.
       post-bind (expr-sane r (m .1)) λ b s₂ n.
       post-ok (extends-then (m .0) (n .0), n .1)
-  equality-sane l r (some f) {s} w = or-bind (lookup σ (f .variable)) 45 _ s _ tt λ v e.
-      post-bind (exprs-sane (argsOf l) w) λ ts s₁ m.
+  equality-sane l r (some f) w =
+      post-bind (variable-sane (f .variable) w) λ v s₀ k.
+      post-bind (exprs-sane (argsOf l) (k .1)) λ ts s₁ m.
       post-bind (added room (app (f .function) (ts ++ (v ∷ []))) s₁) λ t s₂ n.
-      post-ok (extends-then (m .0) (n .0 .grows), sane-grows (n .0 .grows) (n .1 .ordered (below-last (length s₁) v ts (let h = bound-inside (f .variable) v w e in let g = extends-length (m .0) in omega arith) (m .2)) (m .1 .ordered)) (m .1))
+      post-ok (extends-then (k .0) (extends-then (m .0) (n .0 .grows)), sane-grows (n .0 .grows) (n .1 .ordered (below-last (length s₁) v ts (let h = k .2 in let g = extends-length (m .0) in omega arith) (m .2)) (m .1 .ordered)) (m .1))
 
-  pub wanted-sane : (f : Fact) {s : List Term} → Sane prog σ s → Post (wanted room prog rule σ f s) (λ w s′. Extends s s′ × Sane prog σ s′)
+  wanted-sane : (f : Fact) {s : List Term} → Sane prog σ s → Post (wanted room prog rule σ f s) (λ w s′. Extends s s′ × Sane prog σ s′)
   unfolding wanted
   wanted-sane (equal i l r) w = equality-sane l r (functionFact l r) w
   wanted-sane (bare i e) w = post-bind (expr-sane e w) λ t s₁ m. post-ok (m .0, m .1)

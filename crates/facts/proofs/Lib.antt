@@ -1,4 +1,2 @@
 pub mod Keeping
-pub mod Reading
-pub mod Sides
 pub mod Wants

@@ -1,5 +1,5 @@
 -- Ordinary facts: the values of a call's arguments, what a fact asks its premise to prove, and whether the premise proves it.
-use mathlib.Core.Path.{_≡_, refl, sym, ap, subst, _∙_}
+use mathlib.Core.Path.{_≡_, refl, sym, ap, ap₂, subst, _∙_}
 use mathlib.Core.Bool.{Bool, true, false, _&&_}
 use mathlib.Core.List.{List, [], _∷_, _++_}
 use mathlib.Core.Option.{Option, none, some}
@@ -14,7 +14,7 @@ use Rattle.model.specs.Decode.{argumentsBy}
 use Rattle.model.specs.Check.{Outcome, ok, refused, Check, andThen, pure, orRefuse, checkThat, Room, addNode}
 use Rattle.model.specs.Evaluate.{lookup, same, evalFactExpr, evalFactExprs}
 use Rattle.model.specs.Fact as model
-use Rattle.model.specs.Fact.{argsOf, functionFact, wantedEquality, wanted, matchesEquality, matches, checkFactMatchesProposition}
+use Rattle.model.specs.Fact.{argsOf, functionFact, wantedEquality, wanted, matchesEquality, matches, checkFactMatchesProposition, functionFactBy}
 use Rattle.cells.specs.declared.Fill.{Fill}
 use Rattle.decode.specs.View.{propositionOf}
 use Rattle.termdag.specs.Store.{termsIn, Stored, roomOf}
@@ -22,18 +22,23 @@ use Rattle.memo.specs.Memo.{Past}
 use Rattle.outcome.specs.Does.{passed, outcomeOf, Does}
 use Rattle.outcome.specs.declared.Refusal.{Refusal}
 use Rattle.outcome.specs.declared.Checked.{Checked}
-use Rattle.outcome.proofs.Laws.{does-here}
+use Rattle.outcome.proofs.Laws.{does-here, does-map}
 use Rattle.load.specs.declared.sizes.Sizes.{Sizes}
-use Rattle.program.specs.Ready.{programFor}
+use Rattle.program.specs.Ready.{programFor, optionOf}
+use Rattle.program.specs.declared.Looked.{Looked}
 use Rattle.program.specs.Read.{exprFor, argumentsFor}
 use Rattle.evaluate.specs.Value.{valueOf, valueFor}
 use Rattle.evaluate.specs.Evaluation.{EvaluatesRoot, Checks}
 use Rattle.evaluate.proofs.Checking.{checks-then, checks-stop, checks-does, checks-here, checks-as, value-fact}
 use Rattle.evaluate.proofs.Collecting.{each, each-is, Run, run-start, run-stop, run-turn, run-done}
-use Rattle.facts.specs.Bound.{functionFactOf}
+use Rattle.facts.specs.Call.{functionFactOf}
 use Rattle.facts.specs.declared.Asked.{Asked}
 use Rattle.facts.specs.declared.FunctionCall.{FunctionCall}
-use Rattle.facts.proofs.Sides.{checks-map}
+
+-- a value that is only rewritten
+checks-map : {A B : Type 0} (g : A → B) {K E P : List ℕ} {f : Fill} {K₁ E₁ P₁ : List ℕ} {f₁ : Fill} {r : Refusal} {a : A} {m : List ℕ} {o : Outcome A}
+    → Checks K E P f K₁ E₁ P₁ f₁ r a m o → Checks K E P f K₁ E₁ P₁ f₁ r (g a) m (andThen o (λ x. pure (g x)))
+checks-map g {a = a} d = record { does = does-map g (g a) (d .does) (λ _. refl); past = d .past }
 
 then-pure : {A : Type 0} (o : Outcome A) → andThen o pure ≡ o
 then-pure (ok a s) = refl
@@ -90,6 +95,17 @@ module _ (K E P : List ℕ) (z : Sizes) (rule : ℕ) (σ : List Binding) where
         subst (λ (x : Checked). Checks K₀ E₀ P₀ f₀ K₁ E₁ P₁ (x .fill) (x .refusal) (take (length (argumentsFor K E P z e)) vals) m whole) (sym g)
         (subst (λ (ys : List ℕ). Checks K₀ E₀ P₀ f₀ K₁ E₁ P₁ f₁ passed (take (length ys) vals) m whole) q
         (checks-does (T .past) (run-done (T .run) h (does-here (T .run .grown .stored) refl))))
+
+-- a function fact, by the function and the variable that were found
+module _ {u : Looked} {o : Option ℕ} (p : Option ℕ) (first : optionOf u ≡ o) where
+  pub call-none : u ≡ Looked.None → none ≡ functionFactBy o p
+  call-none e = ap (λ (x : Option ℕ). functionFactBy x p) (ap optionOf (sym e) ∙ first)
+
+  pub call-other : {v : Looked} {f : ℕ} → u ≡ Looked.Some f → optionOf v ≡ p → v ≡ Looked.None → none ≡ functionFactBy o p
+  call-other e second d = ap₂ functionFactBy (ap optionOf (sym e) ∙ first) (ap optionOf (sym d) ∙ second)
+
+  pub call-some : {v : Looked} {f x : ℕ} → u ≡ Looked.Some f → optionOf v ≡ p → v ≡ Looked.Some x → some (record { function = f; variable = x }) ≡ functionFactBy o p
+  call-some e second d = ap₂ functionFactBy (ap optionOf (sym e) ∙ first) (ap optionOf (sym d) ∙ second)
 
 -- what is asked for, as the code holds it
 module _ {K E P : List ℕ} {f : Fill} {K₁ E₁ P₁ : List ℕ} {m : List ℕ} {o : Outcome Proposition} where

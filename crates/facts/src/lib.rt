@@ -1,14 +1,12 @@
-// The facts of a rule's body, from proof_checker.rs: container side conditions, and ordinary facts against their premises.
+// The ordinary facts of a rule's body against their premises, from proof_checker.rs.
 use cells::Fill;
 use cells::wide;
 use decode::Fact;
 use decode::Head;
 use decode::Proposition;
 use evaluate::evaluate;
-use evaluate::lookup;
 use load::sizes::Sizes;
-use normal_form::Offence;
-use normal_form::fact_offence;
+use normal_form::variable_of;
 use outcome::Checked;
 use outcome::Refusal;
 use outcome::add_app;
@@ -19,12 +17,12 @@ use program::read::fact_at;
 use program::read::head_at;
 ghost use mathlib.Core.Path.{_≡_};
 ghost use mathlib.Core.List.{List};
-ghost use mathlib.Core.Option.{Option, none, some};
-ghost use Prim.Native.Nat.{ℕ, _+_, _<_};
+ghost use mathlib.Core.Option.{none, some};
+ghost use Prim.Native.Nat.{_+_, _<_};
 ghost use lib.Dec.{eqb};
 ghost use lib.ListN.{length, take};
 ghost use Rattle.model.specs.Term.{Term};
-ghost use Rattle.model.specs.Program.{Expr, equal, bare, Binding};
+ghost use Rattle.model.specs.Program.{Expr, equal, bare};
 ghost use Rattle.model.specs.Decode.{argumentsBy};
 ghost use Rattle.model.specs.Evaluate.{evalFactExprs};
 ghost use Rattle.model.specs.Fact as model;
@@ -34,31 +32,9 @@ ghost use Rattle.memo.specs.Memo.{Past};
 ghost use Rattle.outcome.specs.Does.{outcomeOf};
 ghost use Rattle.program.specs.Ready.{Ready, programFor, optionOf};
 ghost use Rattle.program.specs.Read.{exprFor, argumentsFor, factFor};
-ghost use Rattle.normal_form.specs.Search.{Searched};
 ghost use Rattle.evaluate.specs.Value.{bindingsIn};
 ghost use Rattle.evaluate.specs.Evaluation.{Checks};
-ghost use Rattle.facts.specs.Bound.{boundOver, functionFactOf};
-ghost use Rattle.facts.specs.declared.Binds as binds;
-
-// The value of a condition's side, if it has one.
-pub struct Side {
-    pub refusal: Refusal,
-    pub value: Looked,
-    pub fill: Fill,
-}
-
-// What a condition binds: nothing, or a name to a term.
-pub enum Binds {
-    Nothing,
-    Pair(u32, u32),
-}
-
-// What a condition gives.
-pub struct Condition {
-    pub refusal: Refusal,
-    pub binds: Binds,
-    pub fill: Fill,
-}
+ghost use Rattle.facts.specs.Call.{functionFactOf};
 
 // What a fact asks its premise to prove.
 pub struct Asked {
@@ -71,57 +47,6 @@ pub struct Asked {
 pub enum FunctionCall {
     No,
     Call(u32, u32),
-}
-
-// `assert_body_proof_normal_form`
-pub fn assert_body_proof_normal_form(
-    kinds: &[u32],
-    ends: &[u32],
-    pool: &[u32],
-    z: Sizes,
-    found: &[u32],
-    rule: u32,
-    i: u32,
-) -> Refusal
-    requires { ⌜ Ready (now kinds) (now ends) (now pool) z ⌝ }
-    requires { ⌜ Searched (now kinds) (now ends) (now pool) z (now found) ⌝ }
-    requires { ⌜ i < z .facts ⌝ }
-    ensures { λ r. ⌜ ((s : List Term) → outcomeOf r tt s ≡ model.assertBodyProofNormalForm (programFor (now (kinds .entry)) (now (ends .entry)) (now (pool .entry)) z) rule (factFor (now (kinds .entry)) (now (ends .entry)) (now (pool .entry)) z i) s) ⌝ }
-{
-    let offence = fact_offence(kinds, ends, pool, z, found, wide(i));
-    match offence {
-        Offence::None => Refusal {
-            number: 0,
-            count: 0,
-            fields: [0; 6],
-        },
-        Offence::PrimitiveNonNormalArg(e) => Refusal {
-            number: 49,
-            count: 2,
-            fields: [rule, e, 0, 0, 0, 0],
-        },
-        Offence::ContainerPrimitiveNotSideCondition(e) => Refusal {
-            number: 50,
-            count: 2,
-            fields: [rule, e, 0, 0, 0, 0],
-        },
-    }
-}
-
-// The variable that expression e is, if it is one.
-fn variable_of(kinds: &[u32], ends: &[u32], pool: &[u32], z: Sizes, e: u32) -> Looked
-    requires { ⌜ Ready (now kinds) (now ends) (now pool) z ⌝ }
-    requires { ⌜ e < z .expressions ⌝ }
-    ensures { λ r. ⌜ optionOf r ≡ model.variableOf (model.headOf (exprFor (now (kinds .entry)) (now (ends .entry)) (now (pool .entry)) z e)) ⌝ }
-{
-    let head = head_at(kinds, ends, pool, z, wide(e));
-    match head {
-        Head::Lit(_) => Looked::None,
-        Head::Var(x) => Looked::Some(x),
-        Head::Constructor(_) => Looked::None,
-        Head::Custom(_) => Looked::None,
-        Head::Primitive(_) => Looked::None,
-    }
 }
 
 // The function that expression e calls, if it is a custom call.
@@ -137,305 +62,6 @@ fn custom_of(kinds: &[u32], ends: &[u32], pool: &[u32], z: Sizes, e: u32) -> Loo
         Head::Constructor(_) => Looked::None,
         Head::Custom(f) => Looked::Some(f),
         Head::Primitive(_) => Looked::None,
-    }
-}
-
-// `eval_side`: an unbound variable has no value.
-fn eval_side(
-    kinds: &[u32],
-    ends: &[u32],
-    pool: &[u32],
-    z: Sizes,
-    bound: &[u32],
-    pairs: &[u32],
-    globals: &[u32],
-    rule: u32,
-    skinds: &mut [u32],
-    sends: &mut [u32],
-    spool: &mut [u32],
-    fill: Fill,
-    memo: &mut [u32],
-    e: u32,
-) -> Side
-    requires { ⌜ Ready (now kinds) (now ends) (now pool) z ⌝ }
-    requires { ⌜ Stored (now skinds) (now sends) (now spool) fill ⌝ }
-    requires { ⌜ z .expressions + z .expressions < length (now memo) ⌝ }
-    requires { ⌜ Past (now memo) ⌝ }
-    requires { ⌜ e < z .expressions ⌝ }
-    ensures { λ r. ⌜ Checks (now (skinds .entry)) (now (sends .entry)) (now (spool .entry)) fill (now (skinds .exit)) (now (sends .exit)) (now (spool .exit)) (r .fill) (r .refusal) (optionOf (r .value)) (now (memo .exit)) (model.evalSide (roomOf (now (skinds .entry)) (now (spool .entry))) (programFor (now (kinds .entry)) (now (ends .entry)) (now (pool .entry)) z) rule (bindingsIn (now (bound .entry)) (now (pairs .entry)) (now (globals .entry))) (exprFor (now (kinds .entry)) (now (ends .entry)) (now (pool .entry)) z e) (termsIn (now (skinds .entry)) (now (sends .entry)) (now (spool .entry)) fill)) ⌝ }
-{
-    let variable = variable_of(kinds, ends, pool, z, e);
-    if let Looked::Some(x) = variable {
-        let value = lookup(bound, pairs, globals, x);
-        return Side {
-            refusal: Refusal {
-                number: 0,
-                count: 0,
-                fields: [0; 6],
-            },
-            value,
-            fill,
-        };
-    }
-    let r = evaluate(
-        kinds,
-        ends,
-        pool,
-        z,
-        bound,
-        pairs,
-        globals,
-        rule,
-        false,
-        skinds,
-        sends,
-        spool,
-        fill,
-        memo,
-        e,
-    );
-    let refusal = r.refusal;
-    let have = r.fill;
-    Side {
-        refusal,
-        value: Looked::Some(r.value),
-        fill: have,
-    }
-}
-
-// A variable without a value is bound to the other side's.
-fn bind_output(rule: u32, i: u32, variable: Looked, t: u32, fill: Fill) -> Condition
-    ensures { λ r. ⌜ r .fill ≡ fill ⌝ }
-    ensures { λ r. ⌜ ((σ : List Binding) (s : List Term) → outcomeOf (r .refusal) (boundOver (r .binds) σ) s ≡ model.bindOutput rule i σ (optionOf variable) t s) ⌝ }
-{
-    match variable {
-        Looked::Some(x) => Condition {
-            refusal: Refusal {
-                number: 0,
-                count: 0,
-                fields: [0; 6],
-            },
-            binds: Binds::Pair(x, t),
-            fill,
-        },
-        Looked::None => Condition {
-            refusal: Refusal {
-                number: 48,
-                count: 2,
-                fields: [rule, i, 0, 0, 0, 0],
-            },
-            binds: Binds::Nothing,
-            fill,
-        },
-    }
-}
-
-// The two sides, where the left one has no value.
-fn compare_right(rule: u32, i: u32, left: Looked, b: Looked, fill: Fill) -> Condition
-    ensures { λ r. ⌜ r .fill ≡ fill ⌝ }
-    ensures { λ r. ⌜ ((σ : List Binding) (rv : Option ℕ) (s : List Term) → outcomeOf (r .refusal) (boundOver (r .binds) σ) s ≡ model.compareSides rule i σ (optionOf left) none rv (optionOf b) s) ⌝ }
-{
-    match b {
-        Looked::Some(y) => bind_output(rule, i, left, y, fill),
-        Looked::None => Condition {
-            refusal: Refusal {
-                number: 48,
-                count: 2,
-                fields: [rule, i, 0, 0, 0, 0],
-            },
-            binds: Binds::Nothing,
-            fill,
-        },
-    }
-}
-
-// Two values that must be equal.
-fn compare_values(rule: u32, i: u32, x: u32, y: u32, fill: Fill) -> Condition
-    ensures { λ r. ⌜ r .fill ≡ fill ⌝ }
-    ensures { λ r. ⌜ ((σ : List Binding) (lv rv : Option ℕ) (s : List Term) → outcomeOf (r .refusal) (boundOver (r .binds) σ) s ≡ model.compareSides rule i σ lv (some x) rv (some y) s) ⌝ }
-{
-    if x == y {
-        return Condition {
-            refusal: Refusal {
-                number: 0,
-                count: 0,
-                fields: [0; 6],
-            },
-            binds: Binds::Nothing,
-            fill,
-        };
-    }
-    Condition {
-        refusal: Refusal {
-            number: 42,
-            count: 4,
-            fields: [rule, i, x, y, 0, 0],
-        },
-        binds: Binds::Nothing,
-        fill,
-    }
-}
-
-// The two sides of a condition: each its variable, if it is one, and its value, if it has one.
-fn compare_sides(
-    rule: u32,
-    i: u32,
-    left: Looked,
-    a: Looked,
-    right: Looked,
-    b: Looked,
-    fill: Fill,
-) -> Condition
-    ensures { λ r. ⌜ r .fill ≡ fill ⌝ }
-    ensures { λ r. ⌜ ((σ : List Binding) (s : List Term) → outcomeOf (r .refusal) (boundOver (r .binds) σ) s ≡ model.compareSides rule i σ (optionOf left) (optionOf a) (optionOf right) (optionOf b) s) ⌝ }
-{
-    let Looked::Some(x) = a else {
-        return compare_right(rule, i, left, b, fill);
-    };
-    let Looked::Some(y) = b else {
-        return bind_output(rule, i, right, x, fill);
-    };
-    compare_values(rule, i, x, y, fill)
-}
-
-// A condition whose side is refused.
-fn refused_side(s: Side) -> Condition
-    ensures { λ r. ⌜ r ≡ record { refusal = s .refusal; binds = binds.Binds.Nothing; fill = s .fill } ⌝ }
-{
-    let refusal = s.refusal;
-    let fill = s.fill;
-    Condition {
-        refusal,
-        binds: Binds::Nothing,
-        fill,
-    }
-}
-
-// A side condition that is an equality: the left side, then the right one, then both.
-fn check_equality_condition(
-    kinds: &[u32],
-    ends: &[u32],
-    pool: &[u32],
-    z: Sizes,
-    bound: &[u32],
-    pairs: &[u32],
-    globals: &[u32],
-    rule: u32,
-    skinds: &mut [u32],
-    sends: &mut [u32],
-    spool: &mut [u32],
-    fill: Fill,
-    memo: &mut [u32],
-    i: u32,
-    left: u32,
-    right: u32,
-) -> Condition
-    requires { ⌜ Ready (now kinds) (now ends) (now pool) z ⌝ }
-    requires { ⌜ Stored (now skinds) (now sends) (now spool) fill ⌝ }
-    requires { ⌜ z .expressions + z .expressions < length (now memo) ⌝ }
-    requires { ⌜ Past (now memo) ⌝ }
-    requires { ⌜ left < z .expressions ⌝ }
-    requires { ⌜ right < z .expressions ⌝ }
-    ensures { λ r. ⌜ Checks (now (skinds .entry)) (now (sends .entry)) (now (spool .entry)) fill (now (skinds .exit)) (now (sends .exit)) (now (spool .exit)) (r .fill) (r .refusal) (boundOver (r .binds) (bindingsIn (now (bound .entry)) (now (pairs .entry)) (now (globals .entry)))) (now (memo .exit)) (model.checkSideCondition (roomOf (now (skinds .entry)) (now (spool .entry))) (programFor (now (kinds .entry)) (now (ends .entry)) (now (pool .entry)) z) rule (bindingsIn (now (bound .entry)) (now (pairs .entry)) (now (globals .entry))) (equal i (exprFor (now (kinds .entry)) (now (ends .entry)) (now (pool .entry)) z left) (exprFor (now (kinds .entry)) (now (ends .entry)) (now (pool .entry)) z right)) (termsIn (now (skinds .entry)) (now (sends .entry)) (now (spool .entry)) fill)) ⌝ }
-{
-    let a = eval_side(
-        kinds,
-        ends,
-        pool,
-        z,
-        bound,
-        pairs,
-        globals,
-        rule,
-        skinds,
-        sends,
-        spool,
-        fill,
-        memo,
-        left,
-    );
-    if a.refusal.number != 0 {
-        return refused_side(a);
-    }
-    let b = eval_side(
-        kinds,
-        ends,
-        pool,
-        z,
-        bound,
-        pairs,
-        globals,
-        rule,
-        skinds,
-        sends,
-        spool,
-        a.fill,
-        memo,
-        right,
-    );
-    if b.refusal.number != 0 {
-        return refused_side(b);
-    }
-    let lv = variable_of(kinds, ends, pool, z, left);
-    let rv = variable_of(kinds, ends, pool, z, right);
-    let x = a.value;
-    let y = b.value;
-    compare_sides(rule, i, lv, x, rv, y, b.fill)
-}
-
-// `check_side_condition`: what it binds. A bare one passes unevaluated.
-pub fn check_side_condition(
-    kinds: &[u32],
-    ends: &[u32],
-    pool: &[u32],
-    z: Sizes,
-    bound: &[u32],
-    pairs: &[u32],
-    globals: &[u32],
-    rule: u32,
-    skinds: &mut [u32],
-    sends: &mut [u32],
-    spool: &mut [u32],
-    fill: Fill,
-    memo: &mut [u32],
-    i: u32,
-) -> Condition
-    requires { ⌜ Ready (now kinds) (now ends) (now pool) z ⌝ }
-    requires { ⌜ Stored (now skinds) (now sends) (now spool) fill ⌝ }
-    requires { ⌜ z .expressions + z .expressions < length (now memo) ⌝ }
-    requires { ⌜ Past (now memo) ⌝ }
-    requires { ⌜ i < z .facts ⌝ }
-    ensures { λ r. ⌜ Checks (now (skinds .entry)) (now (sends .entry)) (now (spool .entry)) fill (now (skinds .exit)) (now (sends .exit)) (now (spool .exit)) (r .fill) (r .refusal) (boundOver (r .binds) (bindingsIn (now (bound .entry)) (now (pairs .entry)) (now (globals .entry)))) (now (memo .exit)) (model.checkSideCondition (roomOf (now (skinds .entry)) (now (spool .entry))) (programFor (now (kinds .entry)) (now (ends .entry)) (now (pool .entry)) z) rule (bindingsIn (now (bound .entry)) (now (pairs .entry)) (now (globals .entry))) (factFor (now (kinds .entry)) (now (ends .entry)) (now (pool .entry)) z i) (termsIn (now (skinds .entry)) (now (sends .entry)) (now (spool .entry)) fill)) ⌝ }
-{
-    let fact = fact_at(kinds, ends, pool, z, wide(i));
-    match fact {
-        Fact::Equal(l, r) => check_equality_condition(
-            kinds,
-            ends,
-            pool,
-            z,
-            bound,
-            pairs,
-            globals,
-            rule,
-            skinds,
-            sends,
-            spool,
-            fill,
-            memo,
-            i,
-            l,
-            r,
-        ),
-        Fact::Bare(_) => Condition {
-            refusal: Refusal {
-                number: 0,
-                count: 0,
-                fields: [0; 6],
-            },
-            binds: Binds::Nothing,
-            fill,
-        },
     }
 }
 

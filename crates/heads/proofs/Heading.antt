@@ -185,8 +185,8 @@ module _ (K E P : List ℕ) (z : Sizes) (rule : ℕ) (S G : List ℕ) (q : Propo
     })
 
 -- the table from a place on, as the code lends it
-pub part-is : (T : List ℕ) (at : ℕ) → length T ≡ 160 → take (160 - at) (drop at T) ≡ drop at T
-part-is T at e = ap (λ (n : ℕ). take (n - at) (drop at T)) (sym e) ∙ to-end at T
+pub part-is : {n : ℕ} (T : List ℕ) (at : ℕ) → length T ≡ n → take (n - at) (drop at T) ≡ drop at T
+part-is T at e = ap (λ (m : ℕ). take (m - at) (drop at T)) (sym e) ∙ to-end at T
 
 pub standing-part : (S G : List ℕ) {K E P : List ℕ} {z : Sizes} {X Y k e p : List ℕ} {f : Fill} {memo m : List ℕ} → X ≡ Y → Standing K E P z (bindingsIn Y S G) k e p f memo m → Standing K E P z (bindingsIn X S G) k e p f memo m
 standing-part S G {K} {E} {P} {z} {k = k} {e = e} {p = p} {f = f} {memo = memo} {m = m} q st = subst⁻¹ (λ (X : List ℕ). Standing K E P z (bindingsIn X S G) k e p f memo m) q st

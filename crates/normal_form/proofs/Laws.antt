@@ -11,12 +11,13 @@ use lib.Dec.{eqb}
 use lib.ListN.{length, getD, set, drop, drop-of-length-le, length-set}
 use lib.Seq.{drop-cons, getD-set-same, getD-set-other}
 use borrow.Author.Tests.{eq-eqb, ne-eqb, eqb-true, eqb-false}
+use Rattle.model.specs.Term.{Term}
 use Rattle.model.specs.Cell.{Cell, noCell}
 use Rattle.model.specs.Program.{Head, Expr, Program}
 use Rattle.model.specs.Decode.{readHead, argumentsBy, exprIn, exprOf}
 use Rattle.model.specs.Check.{firstOf}
 use Rattle.model.specs.Fact as fact
-use Rattle.model.specs.Fact.{isFunc, isPrimitive, isContainerPrimitive, primitiveNonNormalArg, containerPrimitiveNotSideCondition, offenceIf, argumentOffence, offence, offences, factOffence, isContainerSideCondition}
+use Rattle.model.specs.Fact.{isFunc, isPrimitive, isContainerPrimitive, primitiveNonNormalArg, containerPrimitiveNotSideCondition, offenceIf, argumentOffence, offence, offences, factOffence, noOffence, assertBodyProofNormalForm, isContainerSideCondition}
 use Rattle.model.proofs.Fuel.{expr-node}
 use Rattle.model.proofs.Valid.{expressions-lower}
 use Rattle.decode.specs.View.{headOf, factOf}
@@ -27,7 +28,8 @@ use Rattle.load.specs.declared.sizes.Sizes.{Sizes}
 use Rattle.program.specs.Ready.{Ready, programFor}
 use Rattle.program.specs.Read.{HeadAt, ArgumentsAt, FactAt}
 use Rattle.program.specs.Read.{exprFor, factFor}
-use Rattle.normal_form.specs.Search.{offenceBy, offenceIn, SearchedTo, Searched}
+use Rattle.normal_form.specs.Search.{offenceOf, offenceBy, offenceIn, SearchedTo, Searched}
+use Rattle.normal_form.specs.declared.Offence.{Offence}
 
 -- what a word says
 pub word-none : none ≡ offenceIn 0
@@ -69,7 +71,7 @@ first-both (some x) b o = refl
 
 -- an expression's head, and the offence of one under a head
 module _ (cells : List Cell) (j : ℕ) where
-  pub head-is : fact.headOf (exprOf cells j) ≡ readHead (getD cells j noCell)
+  head-is : fact.headOf (exprOf cells j) ≡ readHead (getD cells j noCell)
   unfolding exprIn
   head-is = refl
 
@@ -90,6 +92,17 @@ module _ (cells : List Cell) (j : ℕ) where
       (ap₂ (λ (a b : Bool). offenceIf (a && b) (primitiveNonNormalArg j)) ep x)
       (ap₂ (λ (a b : Bool). offenceIf (a && b) (containerPrimitiveNotSideCondition j)) eq y)
       ∙ sym (argument-is prog h)
+
+-- what is said of a head
+pub head-by : {A : Type 0} (k : Head → A) {K E P : List ℕ} {z : Sizes} {n e : ℕ} {h g : HeadView} {a : A} → HeadAt K E P z n h → n ≡ e → h ≡ g → a ≡ k (headOf g)
+    → a ≡ k (fact.headOf (exprFor K E P z e))
+head-by k {K} {E} {P} {z} {n} {e} H q p r =
+    r ∙ ap k (ap headOf (sym p) ∙ H .is ∙ sym (head-is (tablesFor K E P z .expressions) n) ∙ ap (λ (j : ℕ). fact.headOf (exprFor K E P z j)) q)
+
+-- fact i
+pub fact-by : {K E P : List ℕ} {z : Sizes} {n i : ℕ} {f g : FactView} → FactAt K E P z n f → n ≡ i → f ≡ g → factOf (exprFor K E P z) i g ≡ factFor K E P z i
+fact-by {K} {E} {P} {z} {n} {i} {f} A q p =
+    ap (factOf (exprFor K E P z) i) (sym p) ∙ subst (λ (j : ℕ). factOf (exprFor K E P z) j f ≡ factFor K E P z j) q (A .is)
 
 -- the tests' outcomes
 pub says-first : (j : ℕ) (a b : Bool) → a ≡ true → offenceIn (2 * j + 1) ≡ firstOf (offenceIf a (primitiveNonNormalArg j)) (offenceIf b (containerPrimitiveNotSideCondition j))
@@ -154,12 +167,12 @@ module _ (K E P : List ℕ) (z : Sizes) where
   -- the head of an expression
   pub container-by : (e : ℕ) (h g : HeadView) (b : Bool) → HeadAt K E P z e h → h ≡ g → b ≡ isContainerPrimitive (programFor K E P z) (headOf g)
       → b ≡ isContainerPrimitive (programFor K E P z) (fact.headOf (exprFor K E P z e))
-  container-by e h g b H q r = r ∙ ap (isContainerPrimitive (programFor K E P z)) (ap headOf (sym q) ∙ H .is ∙ sym (head-is (tablesFor K E P z .expressions) e))
+  container-by e h g b H q r = head-by (isContainerPrimitive (programFor K E P z)) H refl q r
 
   -- the sides of a fact
   module _ (i : ℕ) (f : FactView) (A : FactAt K E P z i f) where
     fact-is : (g : FactView) → f ≡ g → factOf (exprFor K E P z) i g ≡ factFor K E P z i
-    fact-is g q = ap (factOf (exprFor K E P z) i) (sym q) ∙ A .is
+    fact-is g q = fact-by A refl q
 
     pub equal-offence : (F : List ℕ) (l r n m w : ℕ) → f ≡ FactView.Equal l r → Searched K E P z F → n ≡ l → m ≡ r → offenceIn w ≡ firstOf (offenceIn (getD F n 0)) (offenceIn (getD F m 0))
         → offenceIn w ≡ factOffence (programFor K E P z) (factFor K E P z i)
@@ -184,3 +197,12 @@ module _ (K E P : List ℕ) (z : Sizes) where
         → a ≡ isContainerSideCondition (programFor K E P z) (factFor K E P z i)
     bare-side e n q en ea =
         ea ∙ ap (λ (k : ℕ). isContainerPrimitive (programFor K E P z) (fact.headOf (exprFor K E P z k))) en ∙ ap (isContainerSideCondition (programFor K E P z)) (fact-is (FactView.Bare e) q)
+
+-- normal form, by the offence that was found
+pub normal-form : (K E P : List ℕ) (z : Sizes) (rule : ℕ) (s : List Term) {n i : ℕ} {o g : Offence} → offenceOf o ≡ factOffence (programFor K E P z) (factFor K E P z n) → n ≡ i → o ≡ g
+    → noOffence rule (offenceOf g) s ≡ assertBodyProofNormalForm (programFor K E P z) rule (factFor K E P z i) s
+unfolding assertBodyProofNormalForm
+normal-form K E P z rule s d q p =
+    ap (λ (x : Offence). noOffence rule (offenceOf x) s) (sym p)
+    ∙ ap (λ (x : Option fact.Offence). noOffence rule x s) d
+    ∙ ap (λ (j : ℕ). noOffence rule (factOffence (programFor K E P z) (factFor K E P z j)) s) q

@@ -3,18 +3,23 @@ use cells::wide;
 use decode::Fact;
 use decode::Head;
 use load::sizes::Sizes;
+use outcome::Refusal;
+use program::Looked;
 use program::primitive_at;
 use program::read::arguments_at;
 use program::read::fact_at;
 use program::read::head_at;
 ghost use mathlib.Core.Path.{_≡_};
+ghost use mathlib.Core.List.{List};
 ghost use Prim.Native.Nat.{_≤_, _<_};
 ghost use lib.ListN.{length};
+ghost use Rattle.model.specs.Term.{Term};
 ghost use Rattle.model.specs.Check.{firstOf};
 ghost use Rattle.model.specs.Fact as fact;
-ghost use Rattle.model.specs.Fact.{isFunc, isPrimitive, isContainerPrimitive, argumentOffence, offence, factOffence, isContainerSideCondition};
+ghost use Rattle.model.specs.Fact.{isFunc, isPrimitive, isContainerPrimitive, argumentOffence, offence, factOffence, assertBodyProofNormalForm, variableOf, isContainerSideCondition};
 ghost use Rattle.decode.specs.View.{headOf};
-ghost use Rattle.program.specs.Ready.{Ready, programFor};
+ghost use Rattle.outcome.specs.Does.{outcomeOf};
+ghost use Rattle.program.specs.Ready.{Ready, programFor, optionOf};
 ghost use Rattle.program.specs.Read.{exprFor, factFor};
 ghost use Rattle.normal_form.specs.Search.{offenceOf, offenceIn, SearchedTo, Searched};
 
@@ -26,7 +31,7 @@ pub enum Offence {
 }
 
 // The offence that a word says.
-pub fn read_offence(w: u32) -> Offence
+fn read_offence(w: u32) -> Offence
     ensures { λ r. ⌜ offenceOf r ≡ offenceIn w ⌝ }
 {
     if w == 0 {
@@ -75,7 +80,7 @@ fn is_primitive(h: Head) -> bool
 }
 
 // A call of a primitive whose output is a container.
-pub fn is_container_primitive(kinds: &[u32], ends: &[u32], pool: &[u32], z: Sizes, e: usize) -> bool
+fn is_container_primitive(kinds: &[u32], ends: &[u32], pool: &[u32], z: Sizes, e: usize) -> bool
     requires { ⌜ Ready (now kinds) (now ends) (now pool) z ⌝ }
     requires { ⌜ e < z .expressions ⌝ }
     ensures { λ r. ⌜ r ≡ isContainerPrimitive (programFor (now (kinds .entry)) (now (ends .entry)) (now (pool .entry)) z) (fact.headOf (exprFor (now (kinds .entry)) (now (ends .entry)) (now (pool .entry)) z e)) ⌝ }
@@ -90,6 +95,22 @@ pub fn is_container_primitive(kinds: &[u32], ends: &[u32], pool: &[u32], z: Size
             let primitive = primitive_at(kinds, ends, pool, z, wide(p));
             primitive.container
         }
+    }
+}
+
+// The variable that expression e is, if it is one.
+pub fn variable_of(kinds: &[u32], ends: &[u32], pool: &[u32], z: Sizes, e: u32) -> Looked
+    requires { ⌜ Ready (now kinds) (now ends) (now pool) z ⌝ }
+    requires { ⌜ e < z .expressions ⌝ }
+    ensures { λ r. ⌜ optionOf r ≡ variableOf (fact.headOf (exprFor (now (kinds .entry)) (now (ends .entry)) (now (pool .entry)) z e)) ⌝ }
+{
+    let head = head_at(kinds, ends, pool, z, wide(e));
+    match head {
+        Head::Lit(_) => Looked::None,
+        Head::Var(x) => Looked::Some(x),
+        Head::Constructor(_) => Looked::None,
+        Head::Custom(_) => Looked::None,
+        Head::Primitive(_) => Looked::None,
     }
 }
 
@@ -153,8 +174,8 @@ pub fn find_offences(kinds: &[u32], ends: &[u32], pool: &[u32], z: Sizes, found:
     }
 }
 
-// `assert_body_proof_normal_form`: the first offence in a fact.
-pub fn fact_offence(
+// The first offence in a fact.
+fn fact_offence(
     kinds: &[u32],
     ends: &[u32],
     pool: &[u32],
@@ -171,6 +192,41 @@ pub fn fact_offence(
     match f {
         Fact::Equal(l, r) => read_offence(first_of(found[wide(l)], found[wide(r)])),
         Fact::Bare(e) => read_offence(found[wide(e)]),
+    }
+}
+
+// `assert_body_proof_normal_form`
+pub fn assert_body_proof_normal_form(
+    kinds: &[u32],
+    ends: &[u32],
+    pool: &[u32],
+    z: Sizes,
+    found: &[u32],
+    rule: u32,
+    i: u32,
+) -> Refusal
+    requires { ⌜ Ready (now kinds) (now ends) (now pool) z ⌝ }
+    requires { ⌜ Searched (now kinds) (now ends) (now pool) z (now found) ⌝ }
+    requires { ⌜ i < z .facts ⌝ }
+    ensures { λ r. ⌜ ((s : List Term) → outcomeOf r tt s ≡ assertBodyProofNormalForm (programFor (now (kinds .entry)) (now (ends .entry)) (now (pool .entry)) z) rule (factFor (now (kinds .entry)) (now (ends .entry)) (now (pool .entry)) z i) s) ⌝ }
+{
+    let offence = fact_offence(kinds, ends, pool, z, found, wide(i));
+    match offence {
+        Offence::None => Refusal {
+            number: 0,
+            count: 0,
+            fields: [0; 6],
+        },
+        Offence::PrimitiveNonNormalArg(e) => Refusal {
+            number: 49,
+            count: 2,
+            fields: [rule, e, 0, 0, 0, 0],
+        },
+        Offence::ContainerPrimitiveNotSideCondition(e) => Refusal {
+            number: 50,
+            count: 2,
+            fields: [rule, e, 0, 0, 0, 0],
+        },
     }
 }
 

@@ -1,12 +1,11 @@
 -- What a step concludes, by its justification.
 use mathlib.Core.Path.{_≡_, refl, sym, ap, ap₂, subst, _∙_}
-use mathlib.Core.Logic.{inl, inr}
-use mathlib.Core.Bool.{true, false}
+use mathlib.Core.Bool.{true}
 use mathlib.Core.List.{List, [], _∷_}
 use Prim.Native.Nat.{ℕ, _+_, _-_, _<_}
 use native.Mathlib.Omega.{arith}
 use lib.ListN.{length, getD, take, drop}
-use types.Run.{OneOf}
+use types.Run.{OneOf, miss}
 use denote.Enum.Declared.{tagOf}
 use Rattle.model.specs.Term.{Term, Extends}
 use Rattle.model.specs.Program as program
@@ -32,57 +31,23 @@ use Rattle.program.specs.Ready.{programFor}
 use Rattle.program.specs.Read.{proofsFor, premisesFor, pairsFor, ClaimAt, JustificationAt}
 use Rattle.evaluate.specs.Evaluation.{Sane, Checks}
 use Rattle.actions.specs.Acting.{Standing}
-use Rattle.steps.specs.Concluding.{congrStep, mergeStep, concludes, isRule}
+use Rattle.merges.specs.Merge.{mergeStep}
+use Rattle.merges.proofs.Keeping.{merge-keeps}
+use Rattle.steps.specs.Concluding.{congrStep, concludes}
 use Rattle.steps.specs.Step.{isPlain, PlainStep, SecondPart, Prepared, Concludes}
 use Rattle.steps.proofs.JobLaws.{first-long, claim-inside, second-long, part-same}
-use Rattle.steps.proofs.Keeping.{congr-keeps, merge-keeps}
+use Rattle.steps.proofs.Keeping.{congr-keeps}
 
 -- the arm of the steps that add no term
 pub plain-arm : (j : Justification) → OneOf (0 ∷ 1 ∷ 3 ∷ 4 ∷ 6 ∷ 7 ∷ []) (tagOf the-type j) → isPlain j ≡ true
 plain-arm Justification.Fiat h = refl
 plain-arm (Justification.Rule s) h = refl
-plain-arm (Justification.MergeFn s) h = absurd (none h)
-  where
-    none : OneOf (0 ∷ 1 ∷ 3 ∷ 4 ∷ 6 ∷ 7 ∷ []) 2 → ⊥
-    none (inl e) = omega arith
-    none (inr (inl e)) = omega arith
-    none (inr (inr (inl e))) = omega arith
-    none (inr (inr (inr (inl e)))) = omega arith
-    none (inr (inr (inr (inr (inl e))))) = omega arith
-    none (inr (inr (inr (inr (inr e))))) = omega arith
+plain-arm (Justification.MergeFn s) h = absurd (miss (0 ∷ 1 ∷ 3 ∷ 4 ∷ 6 ∷ 7 ∷ []) 2 tt h)
 plain-arm (Justification.Trans a b) h = refl
 plain-arm (Justification.Sym a) h = refl
-plain-arm (Justification.Congr s) h = absurd (none h)
-  where
-    none : OneOf (0 ∷ 1 ∷ 3 ∷ 4 ∷ 6 ∷ 7 ∷ []) 5 → ⊥
-    none (inl e) = omega arith
-    none (inr (inl e)) = omega arith
-    none (inr (inr (inl e))) = omega arith
-    none (inr (inr (inr (inl e)))) = omega arith
-    none (inr (inr (inr (inr (inl e))))) = omega arith
-    none (inr (inr (inr (inr (inr e))))) = omega arith
+plain-arm (Justification.Congr s) h = absurd (miss (0 ∷ 1 ∷ 3 ∷ 4 ∷ 6 ∷ 7 ∷ []) 5 tt h)
 plain-arm (Justification.ContainerNormalize a) h = refl
 plain-arm Justification.Eval h = refl
-
--- the arm of all that are no rule's
-pub other-arm : (j : Justification) (ps ws : List ℕ) → OneOf (0 ∷ 2 ∷ 3 ∷ 4 ∷ 5 ∷ 6 ∷ 7 ∷ []) (tagOf the-type j) → isRule (justificationOf j ps ws) ≡ false
-other-arm Justification.Fiat ps ws h = refl
-other-arm (Justification.Rule s) ps ws h = absurd (none h)
-  where
-    none : OneOf (0 ∷ 2 ∷ 3 ∷ 4 ∷ 5 ∷ 6 ∷ 7 ∷ []) 1 → ⊥
-    none (inl e) = omega arith
-    none (inr (inl e)) = omega arith
-    none (inr (inr (inl e))) = omega arith
-    none (inr (inr (inr (inl e)))) = omega arith
-    none (inr (inr (inr (inr (inl e))))) = omega arith
-    none (inr (inr (inr (inr (inr (inl e)))))) = omega arith
-    none (inr (inr (inr (inr (inr (inr e)))))) = omega arith
-other-arm (Justification.MergeFn s) ps ws h = refl
-other-arm (Justification.Trans a b) ps ws h = refl
-other-arm (Justification.Sym a) ps ws h = refl
-other-arm (Justification.Congr s) ps ws h = refl
-other-arm (Justification.ContainerNormalize a) ps ws h = refl
-other-arm Justification.Eval ps ws h = refl
 
 -- the claims that were read
 pub congr-as : (p : ℕ) (q : program.Proposition) (i : ℕ) {a b c d : program.Proposition} {k e l : List ℕ} {f : Fill} {k₁ e₁ l₁ : List ℕ} {f₁ : Fill} {r : Refusal} → a ≡ c → b ≡ d

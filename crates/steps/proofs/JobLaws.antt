@@ -1,16 +1,15 @@
 -- The terms and the proofs of a job that steps read.
 use mathlib.Core.Path.{_≡_, refl, sym, ap, subst, _∙_}
 use mathlib.Core.Bool.{true}
-use mathlib.Core.List.{List, [], _∷_, map, List·Memᴰ}
+use mathlib.Core.List.{List, map, List·Memᴰ}
 use mathlib.Core.Option.{Option, some}
 use Prim.Native.Nat.{ℕ, zero, suc, _+_, _-_, _<_, _≤_}
 use native.Mathlib.Omega.{arith}
-use native.Mathlib.Nat.{not-suc-le-zero, le-of-suc-le-suc}
 use lib.Dec.{leb, lit<}
 use lib.ListN.{length, getD, take, drop, length-drop, length-map}
 use borrow.Rule.Slice.PartMut.{putMid, mid-len, take-put, drop-put}
 use Rattle.model.specs.Cell.{Cell, noCell}
-use Rattle.model.specs.Term.{Term, getTerm, readTerm}
+use Rattle.model.specs.Term.{Term, readTerm}
 use Rattle.model.specs.Program as program
 use Rattle.model.specs.Program.{references}
 use Rattle.model.specs.Load.{termFits}
@@ -30,7 +29,8 @@ use Rattle.program.specs.Ready.{Ready}
 use Rattle.program.specs.Read.{proofsFor, proofCell, premisesFor, pairsFor, ClaimAt, JustificationAt}
 use Rattle.program.proofs.Laws.{table-long, fits}
 use Rattle.program.proofs.Proving.{claim-read}
-use Rattle.steps.specs.Step.{Small, TermsFirst, SecondPart}
+use Rattle.merges.specs.Step.{Small}
+use Rattle.steps.specs.Step.{TermsFirst, SecondPart}
 
 -- a term's cell that fits has at most 16 children
 cell-few : (c : Cell) → termFits c ≡ true → length (children (some (readTerm c))) ≤ 16

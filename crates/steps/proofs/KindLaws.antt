@@ -1,8 +1,10 @@
 -- Steps that add no term, by their justification.
-use mathlib.Core.Path.{_≡_, sym, ap, ap₂, _∙_}
-use mathlib.Core.Bool.{false, true≢false}
+use mathlib.Core.Path.{_≡_, refl, sym, ap, ap₂, _∙_}
+use mathlib.Core.Bool.{true, true≢false}
 use mathlib.Core.List.{List, [], _∷_}
 use Prim.Native.Nat.{ℕ}
+use types.Run.{OneOf, miss}
+use denote.Enum.Declared.{tagOf}
 use Rattle.model.specs.Term.{Term}
 use Rattle.model.specs.Program as program
 use Rattle.model.specs.Program.{Program}
@@ -11,8 +13,8 @@ use Rattle.model.specs.Walk.{claimAt}
 use Rattle.decode.specs.View.{justificationOf}
 use Rattle.decode.specs.declared.Proposition.{Proposition}
 use Rattle.decode.specs.declared.Justification.{Justification}
-use Rattle.decode.specs.declared.RuleStep.{RuleStep}
-use Rattle.outcome.specs.Does.{passed, refusal, outcomeOf}
+use Rattle.decode.proofs.Justification.{the-type}
+use Rattle.outcome.specs.Does.{refusal, outcomeOf}
 use Rattle.outcome.specs.declared.Refusal.{Refusal}
 use Rattle.load.specs.declared.sizes.Sizes.{Sizes}
 use Rattle.program.specs.Ready.{programFor}
@@ -35,16 +37,9 @@ module _ (K E P : List ℕ) (z : Sizes) (U m : List ℕ) (s : List Term) (p : �
   by : (g : Justification) → j ≡ g → ((room : Room) (ps : List program.Proposition) → GlobalPairs ps U m → outcomeOf r tt s ≡ concludes room prog proofs ps p q (just g) s) → PlainStep K E P z U m s p q j r
   by g e h = record { outcome = λ room ps w _. h room ps w ∙ ap (λ (x : Justification). concludes room prog proofs ps p q (just x) s) (sym e) }
 
-  pub other-step : (g : Justification) → j ≡ g → isPlain g ≡ false → PlainStep K E P z U m s p q j r
-  other-step g e h = record { outcome = λ room ps w t. absurd (true≢false (sym t ∙ ap isPlain e ∙ h)) }
-
   pub step-fiat : j ≡ Justification.Fiat → ((ps : List program.Proposition) → GlobalPairs ps U m → outcomeOf r tt s ≡ fiatStep ps p q s) → PlainStep K E P z U m s p q j r
   unfolding concludes
   step-fiat e h = by Justification.Fiat e (λ room ps w. h ps w)
-
-  pub step-rule : {t : RuleStep} → j ≡ Justification.Rule t → r ≡ passed → PlainStep K E P z U m s p q j r
-  unfolding concludes
-  step-rule {t} e h = by (Justification.Rule t) e (λ room ps w. ap (λ (x : Refusal). outcomeOf x tt s) h)
 
   pub step-trans : {x y : ℕ} (a b : program.Proposition) → j ≡ Justification.Trans x y → a ≡ claimAt proofs x → b ≡ claimAt proofs y
       → ((u : List Term) → outcomeOf r tt u ≡ transStep p q a b u) → PlainStep K E P z U m s p q j r
@@ -59,6 +54,18 @@ module _ (K E P : List ℕ) (z : Sizes) (U m : List ℕ) (s : List Term) (p : �
   unfolding concludes
   step-normalize {x} a e g h = by (Justification.ContainerNormalize x) e (λ room ps w. h ∙ ap (λ (c : program.Proposition). normalizeStep prog p q c s) g)
 
-  pub step-eval : j ≡ Justification.Eval → r ≡ refusal 41 1 (p ∷ 0 ∷ 0 ∷ 0 ∷ 0 ∷ 0 ∷ []) → PlainStep K E P z U m s p q j r
+  -- the other arm: a rule's step or `Eval`, or a step that adds a term
+  pub step-none : OneOf (1 ∷ 2 ∷ 5 ∷ 7 ∷ []) (tagOf the-type j) → r ≡ refusal 41 1 (p ∷ 0 ∷ 0 ∷ 0 ∷ 0 ∷ 0 ∷ []) → PlainStep K E P z U m s p q j r
   unfolding concludes
-  step-eval e h = by Justification.Eval e (λ room ps w. ap (λ (x : Refusal). outcomeOf x tt s) h)
+  step-none h e = record { outcome = λ room ps w t. ap (λ (x : Refusal). outcomeOf x tt s) e ∙ go j h t room ps }
+    where
+      go : (g : Justification) → OneOf (1 ∷ 2 ∷ 5 ∷ 7 ∷ []) (tagOf the-type g) → isPlain g ≡ true → (room : Room) (ps : List program.Proposition)
+          → outcomeOf (refusal 41 1 (p ∷ 0 ∷ 0 ∷ 0 ∷ 0 ∷ 0 ∷ [])) tt s ≡ concludes room prog proofs ps p q (just g) s
+      go Justification.Fiat k t room ps = absurd (miss (1 ∷ 2 ∷ 5 ∷ 7 ∷ []) 0 tt k)
+      go (Justification.Rule x) k t room ps = refl
+      go (Justification.MergeFn x) k t room ps = absurd (true≢false (sym t))
+      go (Justification.Trans a b) k t room ps = absurd (miss (1 ∷ 2 ∷ 5 ∷ 7 ∷ []) 3 tt k)
+      go (Justification.Sym a) k t room ps = absurd (miss (1 ∷ 2 ∷ 5 ∷ 7 ∷ []) 4 tt k)
+      go (Justification.Congr x) k t room ps = absurd (true≢false (sym t))
+      go (Justification.ContainerNormalize a) k t room ps = absurd (miss (1 ∷ 2 ∷ 5 ∷ 7 ∷ []) 6 tt k)
+      go Justification.Eval k t room ps = refl

@@ -1,10 +1,7 @@
-pub mod AddLaws
-pub mod AddViewLaws
 pub mod ConcludeLaws
+pub mod CongrLaws
 pub mod JobLaws
 pub mod Keeping
 pub mod KindLaws
-pub mod MergeLaws
 pub mod PlainLaws
 pub mod Splitting
-pub mod ViewLaws

@@ -11,18 +11,9 @@ use Rattle.model.specs.Check.{Outcome, ok, refused, Check, _>>=_, andThen, pure
 use Rattle.model.specs.Action.{ActionContext}
 use Rattle.model.specs.Normalize.{App, asApp, normalizeContainer}
 use Rattle.model.specs.Walk.{claimAt, checkBothApps, checkFiat, checkMergeFn, checkTrans, checkSym, checkCongr, checkContainerNormalize, checkJustification}
-use Rattle.steps.specs.Concluding.{transStep, symStep, fiatStep, normalizeStep, childMatches, congrClaims, congrApp, congrStep, mergeStep, concludes, walkEach, isRule}
-
--- one check after two others
-module _ {A B C : Type 0} where
-  pub then-assoc : (o : Outcome A) (f : A → Check B) (g : B → Check C) → andThen (andThen o f) g ≡ andThen o (λ a. f a >>= g)
-  then-assoc (ok a s) f g = refl
-  then-assoc (refused r s) f g = refl
-
-module _ {A B : Type 0} where
-  pub then-alike : (o : Outcome A) {f g : A → Check B} → ((a : A) (s : List Term) → f a s ≡ g a s) → andThen o f ≡ andThen o g
-  then-alike (ok a s) h = h a s
-  then-alike (refused r s) h = refl
+use Rattle.merges.specs.Merge.{mergeStep}
+use Rattle.model.proofs.Sequence.{then-assoc, then-alike}
+use Rattle.steps.specs.Concluding.{transStep, symStep, fiatStep, normalizeStep, childMatches, congrClaims, congrApp, congrStep, concludes, walkEach, isRule}
 
 module _ (room : Room) (prog : Program) (proofs : List Proof) (ctx : ActionContext) (sub : ℕ → List ℕ → Check (List ℕ)) (p : ℕ) (q : Proposition) where
   -- what is left of a step, and the cache

@@ -3,59 +3,27 @@ use Prim.Native.Nat.{ℕ, _+_, _≤_, _<_}
 use mathlib.Core.Path.{_≡_}
 use mathlib.Core.List.{List, [], map}
 use mathlib.Core.Bool.{Bool, true, false}
-use mathlib.Core.Option.{Option, none, some}
-use lib.Dec.{eqb}
 use lib.ListN.{length, getD, take, drop}
-use Rattle.model.specs.Term.{Term, getTerm, readTerm, Extends, Ordered}
+use Rattle.model.specs.Term.{Term, readTerm, Extends}
 use Rattle.model.specs.Program as program
 use Rattle.model.specs.Program.{Binding}
 use Rattle.model.specs.Check.{Room}
-use Rattle.model.specs.Evaluate.{children}
-use Rattle.model.specs.Action.{among}
-use Rattle.model.specs.Normalize.{App}
-use Rattle.model.specs.Walk.{front, noProof, claimAt}
+use Rattle.model.specs.Walk.{noProof, claimAt}
 use Rattle.cells.specs.declared.Fill.{Fill}
 use Rattle.decode.specs.View.{justificationOf}
 use Rattle.decode.specs.declared.Justification.{Justification}
 use Rattle.termdag.specs.Store.{termsIn, Stored, roomOf}
 use Rattle.memo.specs.Memo.{Past}
-use Rattle.outcome.specs.Does.{Grown, passed, outcomeOf, Does}
+use Rattle.outcome.specs.Does.{Grown, outcomeOf, Does}
 use Rattle.outcome.specs.declared.Refusal.{Refusal}
 use Rattle.outcome.specs.declared.Checked.{Checked}
-use Rattle.marks.specs.Covering.{Marks}
 use Rattle.load.specs.Held.{tablesFor}
 use Rattle.load.specs.declared.sizes.Sizes.{Sizes}
 use Rattle.program.specs.Ready.{Ready, programFor}
 use Rattle.program.specs.Read.{proofsFor, premisesFor, pairsFor}
 use Rattle.evaluate.specs.Evaluation.{Sane}
 use Rattle.context.specs.Contexts.{GlobalPairs}
-use Rattle.steps.specs.declared.Views.{Views}
-use Rattle.steps.specs.Concluding.{Merging, addView, concludes}
-
--- The refusal, unless the test passes.
-abbrev pub refusedUnless : Bool → Refusal → Refusal
-refusedUnless true r = passed
-refusedUnless false r = r
-
--- The application of a head, if there is one.
-abbrev pub appWith : Option ℕ → List ℕ → Option App
-appWith none xs = none
-appWith (some f) xs = some (record { head = f; args = xs })
-
--- Term t lies in the store and has at most 16 children, as every term of a job has.
-pub record Small (s : List Term) (t : ℕ) : Type 0 where
-  pub inside : t < length s
-  pub few : length (children (getTerm s t)) ≤ 16
-
--- The views as the code holds them; the inputs are read again where they are needed.
-abbrev pub mergingOf : Views → List ℕ → Merging
-mergingOf v xs = record { head = v .head; inputs = xs; old = v .old; new = v .new }
-
--- What the view of a merged value, added to the store, claims: for all pairs ps of the merge that the marks m stand for.
-pub record AddsView (p : ℕ) (q : program.Proposition) (t head value : ℕ) (k e pool : List ℕ) (f : Fill) (m k′ e′ pool′ : List ℕ) (r : Checked) : Type 0 where
-  pub does : (ps : List program.Proposition) → Ordered (termsIn k e pool f) → value < length (termsIn k e pool f) → length k ≤ length m
-      → ((q .lhs ≡ q .rhs → ⊥) → among q ps ≡ false) → (eqb (q .lhs) (q .rhs) ≡ true → Marks (termsIn k e pool f) m ps)
-      → Does k e pool f k′ e′ pool′ (r .fill) (r .refusal) tt (addView (roomOf k pool) p q head (front (children (getTerm (termsIn k e pool f) t))) value ps (termsIn k e pool f))
+use Rattle.steps.specs.Concluding.{concludes}
 
 -- A step that adds no term.
 abbrev pub isPlain : Justification → Bool

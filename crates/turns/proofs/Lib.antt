@@ -1,5 +1,4 @@
 pub mod Walking
-pub mod Binding
 pub mod Operating
 pub mod Tying
 pub mod Turns

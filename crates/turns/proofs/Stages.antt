@@ -29,8 +29,8 @@ use Rattle.load.specs.Held.{tablesFor}
 use Rattle.program.specs.Read.{proofsFor, factFor, premisesFor, pairsFor}
 use Rattle.evaluate.specs.Value.{bindingsIn}
 use Rattle.evaluate.specs.Evaluation.{Sane, Checks}
-use Rattle.facts.specs.Bound.{boundOver}
-use Rattle.facts.specs.declared.Binds.{Binds}
+use Rattle.conditions.specs.Bound.{boundOver}
+use Rattle.conditions.specs.declared.Binds.{Binds}
 use Rattle.facts.proofs.Keeping.{fact-sane}
 use Rattle.context.specs.Contexts.{GlobalPairs}
 use Rattle.heads.specs.Heading.{Produces}

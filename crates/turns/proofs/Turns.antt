@@ -16,7 +16,7 @@ use Rattle.steps.specs.Concluding.{walkEach, isRule}
 use Rattle.steps.proofs.Splitting.{justification-split}
 use Rattle.turns.specs.Walking.{checkBody}
 use Rattle.turns.specs.Turning.{ofProof, factTurns, takeTurns, finishStep}
-use Rattle.turns.proofs.Binding.{bind-assoc, bind-same}
+use Rattle.model.proofs.Sequence.{then-assoc, then-alike}
 
 module _ {B : Type 0} where
   -- a turn with what comes after it
@@ -41,7 +41,7 @@ module _ (room : Room) (prog : Program) (proofs : List Proof) (ctx : ActionConte
   fact-turns name (f ∷ fs) (p ∷ ps) l σ done s =
       turn-cases (assertBodyProofNormalForm prog name f s) (isContainerSideCondition prog f) (checkSideCondition room prog name σ f) σ
       (λ τ. sub p done >>= λ d. checkFactMatchesProposition room prog name τ f (claimAt proofs p) >>= λ _. pure (τ, d)) done (takeTurns room prog proofs name sub (factTurns fs ps))
-      ∙ bind-same (assertBodyProofNormalForm prog name f s) (λ _ u. go (λ τ d v. fact-turns name fs ps (omega arith) τ d v) (isContainerSideCondition prog f) u)
+      ∙ then-alike (assertBodyProofNormalForm prog name f s) (λ _ u. go (λ τ d v. fact-turns name fs ps (omega arith) τ d v) (isContainerSideCondition prog f) u)
     where
       rest : List Binding → List ℕ → Check (List Binding × List ℕ)
       rest τ d = checkPremises room prog proofs ctx sub name fs ps τ d
@@ -51,12 +51,12 @@ module _ (room : Room) (prog : Program) (proofs : List Proof) (ctx : ActionConte
           ((sub p done >>= λ d. checkFactMatchesProposition room prog name σ f (claimAt proofs p) >>= λ _. pure (σ, d)) >>= takeTurns room prog proofs name sub (factTurns fs ps)) u
           ≡ choose c (checkSideCondition room prog name σ f >>= λ τ. rest τ done)
           (sub p done >>= λ d. checkFactMatchesProposition room prog name σ f (claimAt proofs p) >>= λ _. rest σ d) u
-      go again true u = bind-same (checkSideCondition room prog name σ f u) (λ τ v. again τ done v)
+      go again true u = then-alike (checkSideCondition room prog name σ f u) (λ τ v. again τ done v)
       go again false u =
-          bind-assoc (sub p done u) (λ d. checkFactMatchesProposition room prog name σ f (claimAt proofs p) >>= λ _. pure (σ, d)) (takeTurns room prog proofs name sub (factTurns fs ps))
-          ∙ bind-same (sub p done u) (λ d v.
-          bind-assoc (checkFactMatchesProposition room prog name σ f (claimAt proofs p) v) (λ _. pure (σ, d)) (takeTurns room prog proofs name sub (factTurns fs ps))
-          ∙ bind-same (checkFactMatchesProposition room prog name σ f (claimAt proofs p) v) (λ _ w. again σ d w))
+          then-assoc (sub p done u) (λ d. checkFactMatchesProposition room prog name σ f (claimAt proofs p) >>= λ _. pure (σ, d)) (takeTurns room prog proofs name sub (factTurns fs ps))
+          ∙ then-alike (sub p done u) (λ d v.
+          then-assoc (checkFactMatchesProposition room prog name σ f (claimAt proofs p) v) (λ _. pure (σ, d)) (takeTurns room prog proofs name sub (factTurns fs ps))
+          ∙ then-alike (checkFactMatchesProposition room prog name σ f (claimAt proofs p) v) (λ _ w. again σ d w))
 
   -- the proofs that another step refers to
   proof-turns : (name : ℕ) (xs : List ℕ) (σ : List Binding) (done : List ℕ) (s : List Term) {B : Type 0} (g : List Binding × List ℕ → Check B)

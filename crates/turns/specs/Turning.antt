@@ -20,8 +20,8 @@ use Rattle.program.specs.Ready.{programFor, ruleFor}
 use Rattle.program.specs.Read.{proofsFor, proofCell, premisesFor, pairsFor}
 use Rattle.evaluate.specs.Value.{bindingsIn}
 use Rattle.evaluate.specs.Evaluation.{Sane}
-use Rattle.facts.specs.Bound.{boundOver}
-use Rattle.facts.specs.declared.Binds.{Binds}
+use Rattle.conditions.specs.Bound.{boundOver}
+use Rattle.conditions.specs.declared.Binds.{Binds}
 use Rattle.steps.specs.Concluding.{concludes}
 use Rattle.turns.specs.declared.Plan.{Plan}
 use Rattle.turns.specs.declared.Stage.{Stage}

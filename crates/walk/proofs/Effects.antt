@@ -5,8 +5,8 @@ use Prim.Native.Nat.{ℕ}
 use Rattle.model.specs.Program.{Binding}
 use Rattle.actions.specs.Acting.{effectBindings}
 use Rattle.actions.specs.declared.Effect.{Effect}
-use Rattle.facts.specs.Bound.{boundOver}
-use Rattle.facts.specs.declared.Binds.{Binds}
+use Rattle.conditions.specs.Bound.{boundOver}
+use Rattle.conditions.specs.declared.Binds.{Binds}
 
 pub effect-pair : {b : Binds} {x t : ℕ} → b ≡ Binds.Pair x t → (σ : List Binding) → effectBindings (Effect.Bind x t) σ ≡ boundOver b σ
 effect-pair {b} {x} {t} e σ = ap (λ (y : Binds). boundOver y σ) (sym e)

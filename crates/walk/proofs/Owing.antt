@@ -24,10 +24,9 @@ use Rattle.program.specs.Read.{proofsFor, pairsFor}
 use Rattle.evaluate.specs.Evaluation.{Sane}
 use Rattle.actions.specs.Acting.{effectBindings, Pushed}
 use Rattle.actions.specs.declared.Effect.{Effect}
-use Rattle.facts.specs.Bound.{boundOver}
-use Rattle.facts.specs.declared.Binds.{Binds}
+use Rattle.conditions.specs.Bound.{boundOver}
+use Rattle.conditions.specs.declared.Binds.{Binds}
 use Rattle.heads.proofs.Heading.{pushed-bindings, sane-fewer}
-use Rattle.cells.proofs.Laws.{to-end}
 use Rattle.outcome.specs.declared.Checked.{Checked}
 use Rattle.program.proofs.Proving.{substitution-read}
 use Rattle.turns.specs.declared.Plan.{Plan}
@@ -37,7 +36,7 @@ use Rattle.turns.specs.Walking.{Ground, Walks, contextOf}
 use Rattle.walk.specs.Start.{Starts}
 use Rattle.turns.specs.Turning.{Turn, ofProof, proofOf, noTurn, isSettled, beforeProof, afterProof, walkProof, takeTurns, endStep, finishStep, stageOf, isOver, turnsBy, headBy, bindingsBy, Planned, Plans, Advances}
 use Rattle.turns.proofs.Walking.{walks-here, walks-then, walks-stop, walks-as, walks-passed}
-use Rattle.turns.proofs.Binding.{bind-assoc, bind-same}
+use Rattle.model.proofs.Sequence.{then-assoc, then-alike}
 
 -- what is owed before a turn, and after its proof; and after a stage
 module _ (room : Room) (prog : Program) (proofs : List Proof) (name : ℕ) (sub : ℕ → List ℕ → Check (List ℕ)) (ps : List Proposition) (p : ℕ) (q : Proposition) (j : Justification) (h : Option Rule) where
@@ -67,7 +66,7 @@ module _ (room : Room) (prog : Program) (proofs : List Proof) (name : ℕ) (sub 
   before : (o : Outcome (List Binding)) (d : List ℕ) (w : List Binding → List ℕ → Check (List Binding × List ℕ)) (ts : List Turn)
       → andThen (andThen (andThen o (λ τ. w τ d)) (takeTurns room prog proofs name sub ts)) finish
       ≡ andThen (andThen o (paired d)) (λ b. w (b .0) (b .1) >>= λ x. takeTurns room prog proofs name sub ts x >>= finish)
-  before (ok τ s) d w ts = bind-assoc (w τ d s) (takeTurns room prog proofs name sub ts) finish
+  before (ok τ s) d w ts = then-assoc (w τ d s) (takeTurns room prog proofs name sub ts) finish
   before (refused r s) d w ts = refl
 
   after : (o : Outcome (Unit {0})) (σ : List Binding) (d : List ℕ) (ts : List Turn) → andThen o (λ _. takeTurns room prog proofs name sub ts (σ, d) >>= finish)
@@ -133,7 +132,7 @@ module _ (K E P : List ℕ) (z : Sizes) (F G U : List ℕ) (p : ℕ) where
     -- the rest in other words
     pub owes-as : {rest′ : Room → List Proposition → List Binding × List ℕ → Check (List ℕ)} → ((room : Room) (ps : List Proposition) (b : List Binding × List ℕ) (s : List Term) → rest room ps b s ≡ rest′ room ps b s)
         → Owes k₀ e₀ p₀ f₀ W₀ k e q f memo W σ rest′
-    owes-as h = record { part = O .part; walks = O .walks; same = λ ps done. sym (bind-same (O .part (roomOf k₀ p₀) ps done (termsIn k₀ e₀ p₀ f₀)) (h (roomOf k₀ p₀) ps)) ∙ O .same ps done }
+    owes-as h = record { part = O .part; walks = O .walks; same = λ ps done. sym (then-alike (O .part (roomOf k₀ p₀) ps done (termsIn k₀ e₀ p₀ f₀)) (h (roomOf k₀ p₀) ps)) ∙ O .same ps done }
 
     module _ (c : Room → List Proposition → List Binding × List ℕ → Check (List Binding × List ℕ)) (next : Room → List Proposition → List Binding × List ℕ → Check (List ℕ))
         (eq : (room : Room) (ps : List Proposition) (b : List Binding × List ℕ) (s : List Term) → rest room ps b s ≡ andThen (c room ps b s) (next room ps))
@@ -143,8 +142,8 @@ module _ (K E P : List ℕ) (z : Sizes) (F G U : List ℕ) (p : ℕ) where
 
       all-same : (ps : List Proposition) (done : List ℕ) → andThen (longer (roomOf k₀ p₀) ps done (termsIn k₀ e₀ p₀ f₀)) (next (roomOf k₀ p₀) ps) ≡ stepOf (roomOf k₀ p₀) ps done (termsIn k₀ e₀ p₀ f₀)
       all-same ps done =
-          bind-assoc (O .part (roomOf k₀ p₀) ps done (termsIn k₀ e₀ p₀ f₀)) (c (roomOf k₀ p₀) ps) (next (roomOf k₀ p₀) ps)
-          ∙ sym (bind-same (O .part (roomOf k₀ p₀) ps done (termsIn k₀ e₀ p₀ f₀)) (eq (roomOf k₀ p₀) ps)) ∙ O .same ps done
+          then-assoc (O .part (roomOf k₀ p₀) ps done (termsIn k₀ e₀ p₀ f₀)) (c (roomOf k₀ p₀) ps) (next (roomOf k₀ p₀) ps)
+          ∙ sym (then-alike (O .part (roomOf k₀ p₀) ps done (termsIn k₀ e₀ p₀ f₀)) (eq (roomOf k₀ p₀) ps)) ∙ O .same ps done
 
       pub owes-then : r .number ≡ 0 → Owes k₀ e₀ p₀ f₀ W₀ k₁ e₁ p₁ f₁ memo₁ W₁ τ next
       owes-then n = record { part = longer; walks = walks-passed n (walks-then (O .walks) c refl v); same = all-same }
@@ -458,9 +457,6 @@ pub start-sane : (K E P : List ℕ) (z : Sizes) (p : ℕ) {F G k e q : List ℕ}
 start-sane K E P z p {G = G} {k = k} {e = e} {q = q} {f = f} g h {rule} u S =
     subst⁻¹ (λ (b : Bool). Sane (programFor K E P z) (bindingsBy K E P z p b [] G) (termsIn k e q f)) u
     (sane-substitution (pairsFor K E P z p) g (substitution-read (g .ready) p h (S .kind u) refl refl .within))
-
-pub part-of : (T : List ℕ) (at : ℕ) → length T ≡ 34 → take (34 - at) (drop at T) ≡ drop at T
-part-of T at e = ap (λ (n : ℕ). take (n - at) (drop at T)) (sym e) ∙ to-end at T
 
 pub sane-part-by : (K E P : List ℕ) (z : Sizes) (p : ℕ) (G : List ℕ) (rule : Bool) {X Y : List ℕ} {s : List Term} → X ≡ Y → Sane (programFor K E P z) (bindingsBy K E P z p rule Y G) s → Sane (programFor K E P z) (bindingsBy K E P z p rule X G) s
 sane-part-by K E P z p G rule {s = s} x w = subst⁻¹ (λ (X : List ℕ). Sane (programFor K E P z) (bindingsBy K E P z p rule X G) s) x w

@@ -3,7 +3,7 @@ use actions::Effect;
 use actions::push_binding;
 use cells::Fill;
 use cells::wide;
-use facts::Binds;
+use conditions::Binds;
 use load::sizes::Sizes;
 use outcome::Checked;
 use outcome::pass;
@@ -20,7 +20,7 @@ ghost use Rattle.model.specs.Walk.{noProof, claimAt, checkJustification, checkP
 ghost use Rattle.program.specs.Ready.{programFor};
 ghost use Rattle.program.specs.Read.{proofsFor};
 ghost use Rattle.actions.specs.Acting.{effectBindings};
-ghost use Rattle.facts.specs.Bound.{boundOver};
+ghost use Rattle.conditions.specs.Bound.{boundOver};
 ghost use Rattle.turns.specs.Walking.{Ground, Walks, contextOf};
 ghost use Rattle.walk.specs.Start.{Starts};
 

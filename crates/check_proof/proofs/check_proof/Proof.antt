@@ -1,4 +1,5 @@
-use Rattle.check_proof.proofs.Laws.{past-cleared, check-stops, check-ground, check-walks, table-part, start-marks, start-flags, start-long}
+use Rattle.check_proof.proofs.Laws.{past-cleared, check-stops, check-ground, check-walks, start-marks, start-flags, start-long}
+use Rattle.heads.proofs.Heading.{part-is}
 use lib.ListN.{length, take, drop, length-take, length-drop, length-append, length-replicate}
 use mathlib.Core.List.{_++_}
 use mathlib.Core.Path.{_≡_, refl, sym, _∙_}
@@ -125,7 +126,7 @@ slice-aggregate-walk-3 c = search needs
 
 -- src/lib.rt:50:5
 walk-requires : tie.Need-walk-requires
-walk-requires c κs = let a = c .before .before .before .before .before .before .before .before .before .before .before .before .before .before .before .before .before .before .before .before .before .before .before .before .before .before .before .before .before .before .before .before .before .before .before .before .before .before .before .before .before .before .before .before .before .args in let pre = c .before .before .before .before .before .before .before .before .before .before .before .before .before .before .before .before .before .before .before .before .before .before .before .before .before .before .before .before .before .before .before .before .before .before .before .before .before .before .before .before .before .before .before .before .before .pre in let h = pre .0 .long in let l = c .before .before .before .before .before .before .before .before .before .before .before .before .before .before .before .before .before .before .before .before .before .before .before .before .before .before .before .new-context .kept .1 .1 .1 .1 .1 .1 .1 .1 .1 .0 in let q = length-take (length (a .skinds .now)) (a .scratch .now) in let lt : length (take (length (a .skinds .now)) (a .scratch .now)) ≡ length (a .skinds .now) = length-take-le (length (a .skinds .now)) (a .scratch .now) (omega arith) in let C = c .before .before .before .before .before .before .before .before .before .before .before .before .before .before .before .before .before .before .before .before .before .before .before .before .before .before .before .new-context .ensures in let x = pre .0 .ready .held .limits .expressions in let b : length (c .before .before .before .before .before .before .before .before .before .before .before .before .before .before .before .before .before .before .before .before .before .before .before .before .before .before .before .new-context .last .1 .1 .1 .1 .1 .1 .1 .1 .1 .0 ++ drop (length (a .skinds .now)) (a .scratch .now)) ≡ length (a .scratch .now) = simp (length-append, length-drop) (omega arith) in let lm = c .before .before .before .before .before .before .before .before .before .before .before .before .before .before .before .before .before .before .before .before .before .before .before .before .before .before .before .new-context .kept .1 .1 .1 .1 .1 .1 .1 .1 .0 in (check-ground (pre .0) (a .asked) (pre .1) C (c .before .before .before .before .before .before .before .before .before .before .before .before .before .if1 .left) (table-part (c .before .before .before .before .before .before .before .before .before .before .before .before .before .before .before .before .before .before .before .before .before .before .before .before .before .before .before .new-context .last .1 .1 .1 .1 .1 .1 .1 .1 .1 .1 .0) (c .before .before .before .before .before .before .before .before .before .before .before .before .before .before .before .before .before .before .before .before .before .before .before .before .before .before .before .new-context .result .bindings) (c .before .before .before .before .before .before .before .before .before .before .before .before .before .before .before .before .before .before .before .before .before .before .before .before .before .before .before .new-context .kept .1 .1 .1 .1 .1 .1 .1 .1 .1 .1 .0)) (c .before .before .before .before .before .before .before .before .before .before .before .before .before .before .before .before .before .before .before .before .before .before .before .before .before .before .before .before .before .before .before .before .before .before .before .before .find-offences .ensures) refl (omega (arith, length-replicate {A = ℕ} 8193 0)) (start-long (a .scratch .now) (c .before .before .before .before .before .before .before .before .before .before .before .before .before .before .before .before .before .before .before .before .before .before .before .before .before .before .before .new-context .last .1 .1 .1 .1 .1 .1 .1 .1 .1 .0) (c .before .before .before .before .before .before .before .before .before .before .before .clear .last .0) (length (a .skinds .now)) (length (a .skinds .now)) (l ∙ lt) (omega arith) refl (omega arith) (c .before .before .before .before .before .before .before .before .before .before .before .clear .kept .0)), pre .1)
+walk-requires c κs = let a = c .before .before .before .before .before .before .before .before .before .before .before .before .before .before .before .before .before .before .before .before .before .before .before .before .before .before .before .before .before .before .before .before .before .before .before .before .before .before .before .before .before .before .before .before .before .args in let pre = c .before .before .before .before .before .before .before .before .before .before .before .before .before .before .before .before .before .before .before .before .before .before .before .before .before .before .before .before .before .before .before .before .before .before .before .before .before .before .before .before .before .before .before .before .before .pre in let h = pre .0 .long in let l = c .before .before .before .before .before .before .before .before .before .before .before .before .before .before .before .before .before .before .before .before .before .before .before .before .before .before .before .new-context .kept .1 .1 .1 .1 .1 .1 .1 .1 .1 .0 in let q = length-take (length (a .skinds .now)) (a .scratch .now) in let lt : length (take (length (a .skinds .now)) (a .scratch .now)) ≡ length (a .skinds .now) = length-take-le (length (a .skinds .now)) (a .scratch .now) (omega arith) in let C = c .before .before .before .before .before .before .before .before .before .before .before .before .before .before .before .before .before .before .before .before .before .before .before .before .before .before .before .new-context .ensures in let x = pre .0 .ready .held .limits .expressions in let b : length (c .before .before .before .before .before .before .before .before .before .before .before .before .before .before .before .before .before .before .before .before .before .before .before .before .before .before .before .new-context .last .1 .1 .1 .1 .1 .1 .1 .1 .1 .0 ++ drop (length (a .skinds .now)) (a .scratch .now)) ≡ length (a .scratch .now) = simp (length-append, length-drop) (omega arith) in let lm = c .before .before .before .before .before .before .before .before .before .before .before .before .before .before .before .before .before .before .before .before .before .before .before .before .before .before .before .new-context .kept .1 .1 .1 .1 .1 .1 .1 .1 .0 in (check-ground (pre .0) (a .asked) (pre .1) C (c .before .before .before .before .before .before .before .before .before .before .before .before .before .if1 .left) (part-is (c .before .before .before .before .before .before .before .before .before .before .before .before .before .before .before .before .before .before .before .before .before .before .before .before .before .before .before .new-context .last .1 .1 .1 .1 .1 .1 .1 .1 .1 .1 .0) (c .before .before .before .before .before .before .before .before .before .before .before .before .before .before .before .before .before .before .before .before .before .before .before .before .before .before .before .new-context .result .bindings) (c .before .before .before .before .before .before .before .before .before .before .before .before .before .before .before .before .before .before .before .before .before .before .before .before .before .before .before .new-context .kept .1 .1 .1 .1 .1 .1 .1 .1 .1 .1 .0)) (c .before .before .before .before .before .before .before .before .before .before .before .before .before .before .before .before .before .before .before .before .before .before .before .before .before .before .before .before .before .before .before .before .before .before .before .before .find-offences .ensures) refl (omega (arith, length-replicate {A = ℕ} 8193 0)) (start-long (a .scratch .now) (c .before .before .before .before .before .before .before .before .before .before .before .before .before .before .before .before .before .before .before .before .before .before .before .before .before .before .before .new-context .last .1 .1 .1 .1 .1 .1 .1 .1 .1 .0) (c .before .before .before .before .before .before .before .before .before .before .before .clear .last .0) (length (a .skinds .now)) (length (a .skinds .now)) (l ∙ lt) (omega arith) refl (omega arith) (c .before .before .before .before .before .before .before .before .before .before .before .clear .kept .0)), pre .1)
 
 -- src/lib.rt:18:1
 same-length-5 : tie.Need-same-length-5
@@ -145,7 +146,7 @@ same-length-8 c = let a = c .before .before .before .before .before .before .bef
 
 -- src/lib.rt:18:1
 returns-2 : tie.Need-returns-2
-returns-2 c = let a = c .before .before .before .before .before .before .before .before .before .before .before .before .before .before .before .before .before .before .before .before .before .before .before .before .before .before .before .before .before .before .before .before .before .before .before .before .before .before .before .before .before .before .before .before .before .before .before .before .before .before .before .before .before .before .before .args in let pre = c .before .before .before .before .before .before .before .before .before .before .before .before .before .before .before .before .before .before .before .before .before .before .before .before .before .before .before .before .before .before .before .before .before .before .before .before .before .before .before .before .before .before .before .before .before .before .before .before .before .before .before .before .before .before .before .pre in let h = pre .0 .long in let l = c .before .before .before .before .before .before .before .before .before .before .before .before .before .before .before .before .before .before .before .before .before .before .before .before .before .before .before .before .before .before .before .before .before .before .before .before .before .new-context .kept .1 .1 .1 .1 .1 .1 .1 .1 .1 .0 in let q = length-take (length (a .skinds .now)) (a .scratch .now) in let lt : length (take (length (a .skinds .now)) (a .scratch .now)) ≡ length (a .skinds .now) = length-take-le (length (a .skinds .now)) (a .scratch .now) (omega arith) in let C = c .before .before .before .before .before .before .before .before .before .before .before .before .before .before .before .before .before .before .before .before .before .before .before .before .before .before .before .before .before .before .before .before .before .before .before .before .before .new-context .ensures in let b : length (c .before .before .before .before .before .before .before .before .before .before .before .before .before .before .before .before .before .before .before .before .before .before .before .before .before .before .before .before .before .before .before .before .before .before .before .before .before .new-context .last .1 .1 .1 .1 .1 .1 .1 .1 .1 .0 ++ drop (length (a .skinds .now)) (a .scratch .now)) ≡ length (a .scratch .now) = simp (length-append, length-drop) (omega arith) in check-walks (pre .0) (a .asked) (pre .1) C (c .before .before .before .before .before .before .before .before .before .before .before .before .before .before .before .before .before .before .before .before .before .before .before .if1 .left) (table-part (c .before .before .before .before .before .before .before .before .before .before .before .before .before .before .before .before .before .before .before .before .before .before .before .before .before .before .before .before .before .before .before .before .before .before .before .before .before .new-context .last .1 .1 .1 .1 .1 .1 .1 .1 .1 .1 .0) (c .before .before .before .before .before .before .before .before .before .before .before .before .before .before .before .before .before .before .before .before .before .before .before .before .before .before .before .before .before .before .before .before .before .before .before .before .before .new-context .result .bindings) (c .before .before .before .before .before .before .before .before .before .before .before .before .before .before .before .before .before .before .before .before .before .before .before .before .before .before .before .before .before .before .before .before .before .before .before .before .before .new-context .kept .1 .1 .1 .1 .1 .1 .1 .1 .1 .1 .0)) (start-marks (a .scratch .now) (c .before .before .before .before .before .before .before .before .before .before .before .before .before .before .before .before .before .before .before .before .before .before .before .before .before .before .before .before .before .before .before .before .before .before .before .before .before .new-context .last .1 .1 .1 .1 .1 .1 .1 .1 .1 .0) (c .before .before .before .before .before .before .before .before .before .before .before .before .before .before .before .before .before .before .before .before .before .clear .last .0) (length (a .skinds .now)) _ (l ∙ lt) (omega arith) (C .does .grown .lenK)) (start-flags (a .scratch .now) (c .before .before .before .before .before .before .before .before .before .before .before .before .before .before .before .before .before .before .before .before .before .before .before .before .before .before .before .before .before .before .before .before .before .before .before .before .before .new-context .last .1 .1 .1 .1 .1 .1 .1 .1 .1 .0) (c .before .before .before .before .before .before .before .before .before .before .before .before .before .before .before .before .before .before .before .before .before .clear .last .0) (length (a .skinds .now)) _ (l ∙ lt) (omega arith) (C .does .grown .lenK) _ (c .before .before .before .before .before .before .before .before .before .before .before .before .before .before .before .before .before .before .before .before .before .clear .ensures)) (c .before .before .before .before .before .before .before .before .before .walk .ensures)
+returns-2 c = let a = c .before .before .before .before .before .before .before .before .before .before .before .before .before .before .before .before .before .before .before .before .before .before .before .before .before .before .before .before .before .before .before .before .before .before .before .before .before .before .before .before .before .before .before .before .before .before .before .before .before .before .before .before .before .before .before .args in let pre = c .before .before .before .before .before .before .before .before .before .before .before .before .before .before .before .before .before .before .before .before .before .before .before .before .before .before .before .before .before .before .before .before .before .before .before .before .before .before .before .before .before .before .before .before .before .before .before .before .before .before .before .before .before .before .before .pre in let h = pre .0 .long in let l = c .before .before .before .before .before .before .before .before .before .before .before .before .before .before .before .before .before .before .before .before .before .before .before .before .before .before .before .before .before .before .before .before .before .before .before .before .before .new-context .kept .1 .1 .1 .1 .1 .1 .1 .1 .1 .0 in let q = length-take (length (a .skinds .now)) (a .scratch .now) in let lt : length (take (length (a .skinds .now)) (a .scratch .now)) ≡ length (a .skinds .now) = length-take-le (length (a .skinds .now)) (a .scratch .now) (omega arith) in let C = c .before .before .before .before .before .before .before .before .before .before .before .before .before .before .before .before .before .before .before .before .before .before .before .before .before .before .before .before .before .before .before .before .before .before .before .before .before .new-context .ensures in let b : length (c .before .before .before .before .before .before .before .before .before .before .before .before .before .before .before .before .before .before .before .before .before .before .before .before .before .before .before .before .before .before .before .before .before .before .before .before .before .new-context .last .1 .1 .1 .1 .1 .1 .1 .1 .1 .0 ++ drop (length (a .skinds .now)) (a .scratch .now)) ≡ length (a .scratch .now) = simp (length-append, length-drop) (omega arith) in check-walks (pre .0) (a .asked) (pre .1) C (c .before .before .before .before .before .before .before .before .before .before .before .before .before .before .before .before .before .before .before .before .before .before .before .if1 .left) (part-is (c .before .before .before .before .before .before .before .before .before .before .before .before .before .before .before .before .before .before .before .before .before .before .before .before .before .before .before .before .before .before .before .before .before .before .before .before .before .new-context .last .1 .1 .1 .1 .1 .1 .1 .1 .1 .1 .0) (c .before .before .before .before .before .before .before .before .before .before .before .before .before .before .before .before .before .before .before .before .before .before .before .before .before .before .before .before .before .before .before .before .before .before .before .before .before .new-context .result .bindings) (c .before .before .before .before .before .before .before .before .before .before .before .before .before .before .before .before .before .before .before .before .before .before .before .before .before .before .before .before .before .before .before .before .before .before .before .before .before .new-context .kept .1 .1 .1 .1 .1 .1 .1 .1 .1 .1 .0)) (start-marks (a .scratch .now) (c .before .before .before .before .before .before .before .before .before .before .before .before .before .before .before .before .before .before .before .before .before .before .before .before .before .before .before .before .before .before .before .before .before .before .before .before .before .new-context .last .1 .1 .1 .1 .1 .1 .1 .1 .1 .0) (c .before .before .before .before .before .before .before .before .before .before .before .before .before .before .before .before .before .before .before .before .before .clear .last .0) (length (a .skinds .now)) _ (l ∙ lt) (omega arith) (C .does .grown .lenK)) (start-flags (a .scratch .now) (c .before .before .before .before .before .before .before .before .before .before .before .before .before .before .before .before .before .before .before .before .before .before .before .before .before .before .before .before .before .before .before .before .before .before .before .before .before .new-context .last .1 .1 .1 .1 .1 .1 .1 .1 .1 .0) (c .before .before .before .before .before .before .before .before .before .before .before .before .before .before .before .before .before .before .before .before .before .clear .last .0) (length (a .skinds .now)) _ (l ∙ lt) (omega arith) (C .does .grown .lenK) _ (c .before .before .before .before .before .before .before .before .before .before .before .before .before .before .before .before .before .before .before .before .before .clear .ensures)) (c .before .before .before .before .before .before .before .before .before .walk .ensures)
 
 pub check-proof-spec : {M : Type 1} → statement M
 check-proof-spec =

@@ -1,6 +1,6 @@
 use Rattle.model.specs.Fact.{customOf}
 use mathlib.Core.Path.{refl}
-use Rattle.facts.proofs.Reading.{head-by}
+use Rattle.normal_form.proofs.Laws.{head-by}
 use borrow.Author.Needs.{needs}
 use Rattle.facts.proofs.custom_of.Statement.{statement}
 use Rattle.facts.proofs.custom_of.Tie as tie

@@ -1,4 +1,4 @@
-use Rattle.facts.proofs.Reading.{call-none, call-other, call-some}
+use Rattle.facts.proofs.Wants.{call-none, call-other, call-some}
 use borrow.Author.Needs.{needs}
 use Rattle.facts.proofs.function_fact.Statement.{statement}
 use Rattle.facts.proofs.function_fact.Tie as tie

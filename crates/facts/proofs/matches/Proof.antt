@@ -1,6 +1,6 @@
 use mathlib.Core.Path.{_∙_}
 use Rattle.decode.specs.View.{propositionOf}
-use Rattle.facts.proofs.Reading.{fact-by}
+use Rattle.normal_form.proofs.Laws.{fact-by}
 use Rattle.facts.proofs.Wants.{matches-as}
 use borrow.Author.Needs.{needs}
 use Rattle.facts.proofs.matches.Statement.{statement}

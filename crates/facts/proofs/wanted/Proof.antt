@@ -1,7 +1,7 @@
 use Rattle.evaluate.specs.Value.{bindingsIn}
 use Rattle.program.specs.Read.{exprFor}
 use Rattle.program.specs.Ready.{programFor}
-use Rattle.facts.proofs.Reading.{fact-by}
+use Rattle.normal_form.proofs.Laws.{fact-by}
 use Rattle.facts.proofs.Wants.{wanted-as}
 use borrow.Author.Needs.{needs}
 use Rattle.facts.proofs.wanted.Statement.{statement}

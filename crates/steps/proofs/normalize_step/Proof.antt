@@ -6,19 +6,19 @@ use borrow.Author.Needs.{needs}
 use Rattle.steps.proofs.normalize_step.Statement.{statement}
 use Rattle.steps.proofs.normalize_step.Tie as tie
 
--- src/lib.rt:178:9
+-- src/lib.rt:150:9
 normalize-container-requires : tie.Need-normalize-container-requires
 normalize-container-requires c κs = search needs
 
--- src/lib.rt:185:42
+-- src/lib.rt:157:42
 flag-requires : tie.Need-flag-requires
 flag-requires c κs = search needs
 
--- src/lib.rt:180:5
+-- src/lib.rt:152:5
 check-that-requires : tie.Need-check-that-requires
 check-that-requires c κs = search needs
 
--- src/lib.rt:160:1
+-- src/lib.rt:132:1
 returns : tie.Need-returns
 returns c = let a = c .before .before .before .before .before .before .before .before .before .before .before .before .args in normal-tested (programFor (a .kinds .now) (a .ends .now) (a .pool .now) (a .z)) (a .p) (propositionOf (a .q)) (propositionOf (a .a)) (termsIn (a .skinds .now) (a .sends .now) (a .spool .now) (a .fill)) (c .before .before .before .before .before .normalize-container .ensures) (c .before .flag .ensures) (c .check-that .ensures)
 

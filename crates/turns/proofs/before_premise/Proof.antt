@@ -1,7 +1,7 @@
 use Rattle.model.proofs.Store.{extends-same}
 use Rattle.model.proofs.Post.{post-result}
 use Rattle.outcome.proofs.Laws.{ok-of}
-use Rattle.facts.proofs.Keeping.{condition-sane}
+use Rattle.conditions.proofs.Keeping.{condition-sane}
 use borrow.Author.Tests.{not-true, not-false}
 use Rattle.turns.proofs.Planning.{before-offends, before-waits, before-condition}
 use Rattle.evaluate.proofs.Checking.{checks-here, checks-as}
