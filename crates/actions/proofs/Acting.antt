@@ -3,12 +3,11 @@ use mathlib.Core.Path.{_≡_, refl, sym, ap, subst, subst⁻¹, _∙_}
 use mathlib.Core.Logic.{_⊎_, inl, inr}
 use mathlib.Core.Bool.{Bool, true, false, _||_}
 use mathlib.Core.List.{List, [], _∷_, _++_, append-assoc, append-nil, List·Memᴰ, List·Memᴰ·not-nil, List·Memᴰ·cases-cons, List·Memᴰ·append-cases, Memᴰ·append-left, Memᴰ·append-right}
-use Prim.Native.Nat.{ℕ, suc, _+_, _-_, _<_, _≤_}
+use Prim.Native.Nat.{ℕ, suc, _+_, _-_, _≤_}
 use native.Mathlib.Omega.{arith}
 use lib.ListN.{length, getD, set, drop, length-set}
 use lib.Seq.{drop-cons, getD-set-same, getD-set-other, drop-set-lt}
 use Rattle.model.specs.Decode.{readBindings}
-use Rattle.model.specs.Term.{Term}
 use Rattle.model.specs.Program.{Expr, Proposition, Binding, Program, Action, bind, union, run, idle}
 use Rattle.model.specs.Check.{Outcome, ok, pure, _>>=_}
 use Rattle.model.specs.Evaluate.{same, Value, evalExpr}
@@ -28,6 +27,7 @@ use Rattle.marks.proofs.Marking.{marks-same}
 use Rattle.load.specs.declared.sizes.Sizes.{Sizes}
 use Rattle.program.specs.Ready.{programFor}
 use Rattle.evaluate.specs.Evaluation.{Sane}
+use Rattle.evaluate.proofs.Keeping.{sane-bind}
 use Rattle.actions.specs.declared.Effect.{Effect}
 use Rattle.actions.specs.declared.Acted.{Acted}
 use Rattle.actions.specs.Acting.{Standing, effectBindings, Yields, Acts, Pushed}
@@ -55,14 +55,6 @@ united σ ps a b = record {
   pairs = ps ++ a .pairs ++ b .pairs ++ (record { lhs = a .term; rhs = b .term } ∷ record { lhs = b .term; rhs = a .term } ∷ []);
 }
 
--- a binding of a term in the store
-sane-bind : {prog : Program} {σ : List Binding} {s : List Term} (x t : ℕ) → Sane prog σ s → t < length s → Sane prog (record { name = x; term = t } ∷ σ) s
-sane-bind {σ = σ} {s = s} x t w h = record { ordered = w .ordered; bound = λ b m. go b (List·Memᴰ·cases-cons m); rows = w .rows }
-  where
-    go : (b : Binding) → (b ≡ record { name = x; term = t }) ⊎ List·Memᴰ b σ → b .term < length s
-    go b (inl e) = subst⁻¹ (λ (c : Binding). c .term < length s) e h
-    go b (inr m) = w .bound b m
-
 -- what is handed on after a value
 pub standing-after : {K E P : List ℕ} {z : Sizes} {σ τ : List Binding} {k e p : List ℕ} {f : Fill} {memo m k₁ e₁ p₁ : List ℕ} {f₁ : Fill} {memo₁ m₁ : List ℕ}
     → Standing K E P z σ k e p f memo m → Grown k e p f k₁ e₁ p₁ f₁ → Sane (programFor K E P z) τ (termsIn k₁ e₁ p₁ f₁) → Past memo₁ → length memo₁ ≡ length memo → length m₁ ≡ length m
@@ -86,7 +78,7 @@ module _ (rule : ℕ) {prog : Program} {σ : List Binding} {marking : Bool} {K E
         (λ n. ap {B = ActionContext} (λ (t : ℕ). record { bindings = record { name = x; term = t } ∷ σ; pairs = ps ++ y .value .pairs }) (y .term n));
     past = y .past;
     grows = y .grows;
-    sane = λ n. sane-bind x (r .value) (y .sane n) (y .inside n);
+    sane = λ n. sane-bind x (r .value) (y .inside n) (y .sane n);
     others = y .others;
     marks = y .marks;
   }

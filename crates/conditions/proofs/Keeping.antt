@@ -1,8 +1,7 @@
 -- A condition keeps the store sane: it grows, and what bindings and rows name lies in it, the new binding's term too.
 use mathlib.Core.Path.{_≡_, refl, sym, ap, subst, _∙_}
-use mathlib.Core.Logic.{_⊎_, inl, inr}
 use mathlib.Core.Bool.{false}
-use mathlib.Core.List.{List, [], _∷_, List·Memᴰ, List·Memᴰ·cases-cons}
+use mathlib.Core.List.{List, [], _∷_}
 use mathlib.Core.Option.{Option, none, some, Option·some-injective}
 use Prim.Native.Nat.{ℕ, _<_}
 use native.Mathlib.Omega.{arith}
@@ -17,26 +16,11 @@ use Rattle.model.proofs.Post.{Post, post-ok, post-map, post-bind, post-result, 
 use Rattle.model.proofs.Store.{extends-same, extends-then, extends-length}
 use Rattle.evaluate.specs.Value.{termOutcome, headTerm, evalTerm, evalTerms}
 use Rattle.evaluate.specs.Evaluation.{Sane}
+use Rattle.evaluate.proofs.Keeping.{Inside, sane-bind}
 use Rattle.evaluate.proofs.Checking.{term-then, value-elsewhere}
 use Rattle.evaluate.proofs.Settling.{value-term, term-sane}
 
--- one more binding
-sane-bind : {prog : Program} {σ : List Binding} {s : List Term} (x t : ℕ) → t < length s → Sane prog σ s → Sane prog (record { name = x; term = t } ∷ σ) s
-sane-bind {prog} {σ} {s} x t h w = record {
-  ordered = w .ordered;
-  bound = λ b m. go b (List·Memᴰ·cases-cons m);
-  rows = w .rows;
-}
-  where
-    go : (b : Binding) → (b ≡ record { name = x; term = t }) ⊎ List·Memᴰ b σ → b .term < length s
-    go b (inl e) = subst (λ (c : Binding). c .term < length s) (sym e) h
-    go b (inr m) = w .bound b m
-
 module _ (room : Room) (prog : Program) (rule : ℕ) (σ : List Binding) where
-  -- where a value leads
-  abbrev Inside : List Term → ℕ → List Term → Type 0
-  Inside s t s′ = Extends s s′ × Sane prog σ s′ × (t < length s′)
-
   bound-inside : {s : List Term} (x t : ℕ) → Sane prog σ s → lookup σ x ≡ some t → t < length s
   unfolding evalTerm evalTerms headTerm orRefuse
   bound-inside {s} x t w e = post-result (term-sane false room prog rule σ (node 0 (variable x) nil) w) (ap (λ (o : Option ℕ). orRefuse o 45 (rule ∷ x ∷ []) s) e) .2
@@ -48,7 +32,7 @@ module _ (room : Room) (prog : Program) (rule : ℕ) (σ : List Binding) where
   side-sane : (e : Expr) (o : Option ℕ) {s : List Term} → Sane prog σ s → Post (evalSideBy room prog rule σ e o s) (Valued s)
   side-sane e (some x) w = post-ok (extends-same, w, λ t q. bound-inside x t w q)
   side-sane e none {s} w =
-      let value : Post (termOutcome (evalExpr room prog rule σ e s)) (Inside s) = subst (λ (o : Outcome ℕ). Post o (Inside s)) (sym (value-term false room prog rule σ e s) ∙ value-elsewhere room prog rule σ e s) (term-sane false room prog rule σ e w) in
+      let value : Post (termOutcome (evalExpr room prog rule σ e s)) (Inside prog σ s) = subst (λ (o : Outcome ℕ). Post o (Inside prog σ s)) (sym (value-term false room prog rule σ e s) ∙ value-elsewhere room prog rule σ e s) (term-sane false room prog rule σ e w) in
       subst (λ (o : Outcome (Option ℕ)). Post o (Valued s)) (sym (term-then (evalExpr room prog rule σ e s) (λ t. pure (some t))))
       (post-bind value λ t s₁ m. post-ok (m .0, m .1, λ u q. let i = Option·some-injective t u q in let h = m .2 in omega arith))
 

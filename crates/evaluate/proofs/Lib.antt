@@ -3,3 +3,4 @@ pub mod Collecting
 pub mod HeadValues
 pub mod Settling
 pub mod Turns
+pub mod Keeping

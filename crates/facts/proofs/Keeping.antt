@@ -4,10 +4,10 @@ use mathlib.Core.Logic.{_⊎_, inl, inr}
 use mathlib.Core.Bool.{true, false}
 use mathlib.Core.List.{List, [], _∷_, _++_, List·Memᴰ, List·Memᴰ·head, List·Memᴰ·tail, List·Memᴰ·not-nil, List·Memᴰ·cases-cons}
 use mathlib.Core.Option.{Option, none, some}
-use Prim.Native.Nat.{ℕ, _<_, _≤_}
+use Prim.Native.Nat.{ℕ, _<_}
 use native.Mathlib.Omega.{arith}
 use lib.ListN.{length}
-use Rattle.model.specs.Term.{Term, app, Extends, Below, Ordered}
+use Rattle.model.specs.Term.{Term, app, Extends, Below}
 use Rattle.model.specs.Program.{variable, Expr, node, Exprs, nil, cons, Fact, equal, bare, Proposition, Binding, Program}
 use Rattle.model.specs.Check.{Outcome, orRefuse, Room}
 use Rattle.model.specs.Evaluate.{lookup, evalFactExpr, evalFactExprs}
@@ -17,16 +17,9 @@ use Rattle.model.proofs.Store.{extends-same, extends-then, extends-length}
 use Rattle.model.proofs.Again.{added}
 use Rattle.evaluate.specs.Value.{headTerm, evalTerm, evalTerms}
 use Rattle.evaluate.specs.Evaluation.{Sane}
+use Rattle.evaluate.proofs.Keeping.{Inside, sane-grows}
 use Rattle.evaluate.proofs.Checking.{value-fact}
 use Rattle.evaluate.proofs.Settling.{value-term, term-sane}
-
--- a larger store
-sane-grows : {prog : Program} {σ : List Binding} {s s′ : List Term} → Extends s s′ → Ordered s′ → Sane prog σ s → Sane prog σ s′
-sane-grows {prog} {σ} {s} {s′} x o w = let l : length s ≤ length s′ = extends-length x in record {
-  ordered = o;
-  bound = λ b m. let h = w .bound b m in omega arith;
-  rows = λ r m. let h = w .rows r m in omega arith;
-}
 
 below-last : (n v : ℕ) (ts : List ℕ) → v < n → Below n ts → Below n (ts ++ (v ∷ []))
 below-last n v [] h b x m = go (List·Memᴰ·cases-cons m)
@@ -48,18 +41,14 @@ below-first n t ts h b x m = go (List·Memᴰ·cases-cons m)
     go (inr k) = b x k
 
 module _ (room : Room) (prog : Program) (rule : ℕ) (σ : List Binding) where
-  -- where a value leads
-  abbrev Inside : List Term → ℕ → List Term → Type 0
-  Inside s t s′ = Extends s s′ × Sane prog σ s′ × (t < length s′)
-
   -- a variable's value
-  variable-sane : (x : ℕ) {s : List Term} → Sane prog σ s → Post (orRefuse (lookup σ x) 45 (rule ∷ x ∷ []) s) (Inside s)
+  variable-sane : (x : ℕ) {s : List Term} → Sane prog σ s → Post (orRefuse (lookup σ x) 45 (rule ∷ x ∷ []) s) (Inside prog σ s)
   unfolding evalTerm evalTerms headTerm
   variable-sane x w = term-sane false room prog rule σ (node 0 (variable x) nil) w
 
   -- values in an ordinary fact
-  expr-sane : (e : Expr) {s : List Term} → Sane prog σ s → Post (evalFactExpr room prog rule σ e s) (Inside s)
-  expr-sane e {s} w = subst (λ (o : Outcome ℕ). Post o (Inside s)) (sym (value-term true room prog rule σ e s) ∙ value-fact room prog rule σ e s) (term-sane true room prog rule σ e w)
+  expr-sane : (e : Expr) {s : List Term} → Sane prog σ s → Post (evalFactExpr room prog rule σ e s) (Inside prog σ s)
+  expr-sane e {s} w = subst (λ (o : Outcome ℕ). Post o (Inside prog σ s)) (sym (value-term true room prog rule σ e s) ∙ value-fact room prog rule σ e s) (term-sane true room prog rule σ e w)
 
   exprs-sane : (es : Exprs) {s : List Term} → Sane prog σ s → Post (evalFactExprs room prog rule σ es s) (λ ts s′. Extends s s′ × Sane prog σ s′ × Below (length s′) ts)
   unfolding evalFactExprs

@@ -1,10 +1,10 @@
 -- A merge keeps the store sane: it grows, and what bindings and rows name lies in it.
 use mathlib.Core.Path.{_≡_, sym, subst}
 use mathlib.Core.List.{List, [], _∷_, _++_}
-use Prim.Native.Nat.{ℕ, _<_, _≤_}
+use Prim.Native.Nat.{ℕ, _<_}
 use native.Mathlib.Omega.{arith}
 use lib.ListN.{length}
-use Rattle.model.specs.Term.{Term, app, getTerm, Extends, Below, Ordered}
+use Rattle.model.specs.Term.{Term, app, getTerm, Extends, Below}
 use Rattle.model.specs.Program.{nameMergeFunction, Proposition, Binding, Program}
 use Rattle.model.specs.Check.{Outcome, Room}
 use Rattle.model.specs.Evaluate.{children, same, Value}
@@ -14,18 +14,11 @@ use Rattle.model.proofs.Post.{Post, post-map, post-bind, or-bind, post-that}
 use Rattle.model.proofs.Store.{extends-then, extends-length}
 use Rattle.model.proofs.Again.{added, eval-settled}
 use Rattle.evaluate.specs.Evaluation.{Sane}
+use Rattle.evaluate.proofs.Keeping.{sane-grows}
 use Rattle.merges.specs.Merge.{Merging, addView, mergeViews, mergeStep}
 use Rattle.merges.proofs.AddLaws.{children-below}
 use Rattle.merges.proofs.AddViewLaws.{front-within}
 use Rattle.merges.proofs.MergeLaws.{merge-split, read-values, last-member, merge-bound}
-
--- a larger store
-pub sane-grows : {prog : Program} {σ : List Binding} {s s′ : List Term} → Extends s s′ → Ordered s′ → Sane prog σ s → Sane prog σ s′
-sane-grows {prog} {σ} {s} {s′} x o w = let l : length s ≤ length s′ = extends-length x in record {
-  ordered = o;
-  bound = λ b m. let h = w .bound b m in omega arith;
-  rows = λ r m. let h = w .rows r m in omega arith;
-}
 
 module _ (prog : Program) (σ : List Binding) where
   abbrev Kept : {A : Type 0} → List Term → A → List Term → Type 0

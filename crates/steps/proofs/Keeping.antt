@@ -16,7 +16,7 @@ use Rattle.model.proofs.Post.{Post, post-bind, same-bind, or-bind, that-bind, p
 use Rattle.model.proofs.Again.{added}
 use Rattle.evaluate.specs.Evaluation.{Sane}
 use Rattle.merges.proofs.AddLaws.{children-below}
-use Rattle.merges.proofs.Keeping.{sane-grows}
+use Rattle.evaluate.proofs.Keeping.{sane-grows}
 use Rattle.steps.specs.Concluding.{childMatches, congrClaims, congrApp, congrStep}
 
 below-set : (n : ℕ) (xs : List ℕ) (i v : ℕ) → Below n xs → v < n → Below n (set xs i v)
