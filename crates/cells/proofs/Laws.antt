@@ -43,10 +43,6 @@ module _ {A : Type 0} where
   unfolding tabulate
   tabulate-more n f = rw add-one
 
-pub start-zero : (E : List ℕ) (i : ℕ) → i ≡ 0 → 0 ≡ startOf E i
-unfolding startOf
-start-zero E i e = rw e
-
 pub start-pos : (E : List ℕ) (i : ℕ) → (i ≡ 0 → ⊥) → startOf E i ≡ getD E (i - 1) 0
 unfolding startOf
 start-pos E zero h = absurd (h refl)
