@@ -52,6 +52,9 @@ fn on_own_stack(call: impl FnOnce() -> u32 + Send) -> u32 {
 }
 
 /// Checks proof `asked` of a job given as bytes, with a store of its own; the number, 0 where it is accepted.
+///
+/// # Panics
+/// Where no thread can be started.
 pub fn check_bytes(job: &[u8], asked: u32, answer: &mut [u32]) -> u32 {
     // SAFETY: the thread has the stack.
     on_own_stack(|| unsafe { check_bytes_here(job, asked, answer) })
@@ -75,6 +78,9 @@ pub unsafe fn check_bytes_here(job: &[u8], asked: u32, answer: &mut [u32]) -> u3
 }
 
 /// Checks proof `asked` of a job given as words, with a lent store and scratch; the number, 0 where it is accepted.
+///
+/// # Panics
+/// Where no thread can be started.
 pub fn check(
     job: &[u32],
     asked: u32,
