@@ -2,12 +2,14 @@
 
 mod call;
 mod difference;
+mod progress;
 mod run;
 mod tally;
 mod variants;
 
 pub use call::{Call, Input, Left};
 pub use difference::{Difference, Part, difference};
-pub use run::{Report, compare_range};
+pub use progress::with_progress;
+pub use run::{Report, compare_range, compare_range_counting};
 pub use tally::Tally;
 pub use variants::{Variant, calls};

@@ -57,6 +57,19 @@ pub fn compare_range<L>(first: u64, count: u64, library: L) -> Result<Tally, Box
 where
     L: Fn(&Call, u32) -> Left + Sync,
 {
+    compare_range_counting(first, count, library, &AtomicU64::new(0))
+}
+
+/// `compare_range` that also counts the seeds that are done.
+pub fn compare_range_counting<L>(
+    first: u64,
+    count: u64,
+    library: L,
+    done: &AtomicU64,
+) -> Result<Tally, Box<Report>>
+where
+    L: Fn(&Call, u32) -> Left + Sync,
+{
     let next = AtomicU64::new(first);
     let end = first + count;
     let threads = thread::available_parallelism().map_or(1, usize::from);
@@ -64,14 +77,14 @@ where
         let spawn = |_| {
             thread::Builder::new()
                 .stack_size(STACK)
-                .spawn_scoped(scope, || compare_chunks(&next, end, &library))
+                .spawn_scoped(scope, || compare_chunks(&next, end, done, &library))
                 .expect("a thread")
         };
         let workers: Vec<_> = (0..threads).map(spawn).collect();
-        let done = workers
+        let tallies = workers
             .into_iter()
             .map(|worker| worker.join().expect("a thread that returns"));
-        done.fold(Ok(Tally::default()), both)
+        tallies.fold(Ok(Tally::default()), both)
     })
 }
 
@@ -92,6 +105,7 @@ fn both(
 fn compare_chunks(
     next: &AtomicU64,
     end: u64,
+    done: &AtomicU64,
     library: impl Fn(&Call, u32) -> Left,
 ) -> Result<Tally, Box<Report>> {
     let mut tally = Tally::default();
@@ -106,6 +120,7 @@ fn compare_chunks(
                     .inspect_err(|_| next.store(end, Ordering::Relaxed))?;
             }
             tally.seeds += 1;
+            done.fetch_add(1, Ordering::Relaxed);
         }
     }
 }

@@ -1,12 +1,13 @@
 //! Holds the proved library against the Rust: compare [FIRST [COUNT]], seeds 0 to 199,999 unless told otherwise.
-//! One line if there is no difference; else the first one found, and status 1.
+//! One line if there is no difference; else the first one found, and status 1. Standard error says how far it is.
 //! compare FIRST COUNT details: after the line, how often each number and each variant came up.
 
 use std::env;
 use std::process::ExitCode;
+use std::sync::atomic::AtomicU64;
 use std::time::Instant;
 
-use at_scale::{Call, compare_range};
+use at_scale::{Call, compare_range_counting, with_progress};
 
 const SEEDS: u64 = 200_000;
 
@@ -17,7 +18,10 @@ fn main() -> ExitCode {
         None => default,
     };
     let started = Instant::now();
-    match compare_range(number(0, 0), number(1, SEEDS), Call::by_library) {
+    let (first, count) = (number(0, 0), number(1, SEEDS));
+    let done = AtomicU64::new(0);
+    let compare = || compare_range_counting(first, count, Call::by_library, &done);
+    match with_progress(&done, count, compare) {
         Ok(tally) => {
             let seconds = started.elapsed().as_secs_f64();
             println!("{}; {seconds:.1} s", tally.summary());
