@@ -24,7 +24,6 @@ use Rattle.outcome.specs.declared.Checked.{Checked}
 use Rattle.outcome.proofs.Laws.{does-here, does-then, does-stop, does-map}
 use Rattle.marks.specs.Covering.{Marks}
 use Rattle.marks.proofs.Marking.{marks-same}
-use Rattle.load.specs.declared.sizes.Sizes.{Sizes}
 use Rattle.program.specs.Ready.{programFor}
 use Rattle.evaluate.specs.Evaluation.{Sane}
 use Rattle.evaluate.proofs.Keeping.{sane-bind}
@@ -56,9 +55,9 @@ united σ ps a b = record {
 }
 
 -- what is handed on after a value
-pub standing-after : {K E P : List ℕ} {z : Sizes} {σ τ : List Binding} {k e p : List ℕ} {f : Fill} {memo m k₁ e₁ p₁ : List ℕ} {f₁ : Fill} {memo₁ m₁ : List ℕ}
-    → Standing K E P z σ k e p f memo m → Grown k e p f k₁ e₁ p₁ f₁ → Sane (programFor K E P z) τ (termsIn k₁ e₁ p₁ f₁) → Past memo₁ → length memo₁ ≡ length memo → length m₁ ≡ length m
-    → Standing K E P z τ k₁ e₁ p₁ f₁ memo₁ m₁
+pub standing-after : {J : List ℕ} {σ τ : List Binding} {k e p : List ℕ} {f : Fill} {memo m k₁ e₁ p₁ : List ℕ} {f₁ : Fill} {memo₁ m₁ : List ℕ}
+    → Standing J σ k e p f memo m → Grown k e p f k₁ e₁ p₁ f₁ → Sane (programFor J) τ (termsIn k₁ e₁ p₁ f₁) → Past memo₁ → length memo₁ ≡ length memo → length m₁ ≡ length m
+    → Standing J τ k₁ e₁ p₁ f₁ memo₁ m₁
 standing-after S g w q a b = record {
   ready = S .ready;
   stored = g .stored;
@@ -153,8 +152,8 @@ module _ (rule : ℕ) {prog : Program} {σ : List Binding} {marking : Bool} {K E
         back n₂ x ps (inr v) = Memᴰ·append-right (ps ++ y .value .pairs) (subst⁻¹ (λ (i : ℕ). List·Memᴰ (same i) (y₂ .value .pairs)) (own x v) (y₂ .own n₂))
 
 -- panic and change
-pub acts-idle : {K E P : List ℕ} {z : Sizes} {rule : ℕ} {σ : List Binding} {marking : Bool} {k e p : List ℕ} {f : Fill} {memo m : List ℕ} → Standing K E P z σ k e p f memo m
-    → Acts (programFor K E P z) rule idle σ marking k e p f m k e p (acted passed Effect.Nothing f) memo m
+pub acts-idle : {J : List ℕ} {rule : ℕ} {σ : List Binding} {marking : Bool} {k e p : List ℕ} {f : Fill} {memo m : List ℕ} → Standing J σ k e p f memo m
+    → Acts (programFor J) rule idle σ marking k e p f m k e p (acted passed Effect.Nothing f) memo m
 acts-idle {σ = σ} {k = k} {e = e} {p = p} {f = f} S = record {
   pairs = [];
   does = λ ps. does-here (S .stored) (ap {B = Outcome ActionContext} (λ (qs : List Proposition). ok (record { bindings = σ; pairs = qs }) (termsIn k e p f)) (append-nil ps));

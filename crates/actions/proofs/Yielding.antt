@@ -7,6 +7,7 @@ use native.Mathlib.Omega.{arith}
 use lib.Dec.{eqb}
 use borrow.Author.Tests.{eqb-true}
 use lib.ListN.{length}
+use Rattle.model.specs.Layout.{sizesOf}
 use Rattle.model.specs.Term.{Term}
 use Rattle.model.specs.Program.{Proposition, Binding, Program}
 use Rattle.model.specs.Check.{Outcome, ok, refused}
@@ -22,7 +23,6 @@ use Rattle.outcome.specs.declared.Checked.{Checked}
 use Rattle.outcome.proofs.Laws.{ok-of, refused-of}
 use Rattle.marks.proofs.Marking.{marks-extends, marks-adds}
 use Rattle.termdag.proofs.Laws.{terms-length}
-use Rattle.load.specs.declared.sizes.Sizes.{Sizes}
 use Rattle.program.specs.Ready.{programFor}
 use Rattle.program.specs.Read.{exprFor, argumentsFor}
 use Rattle.evaluate.specs.Value.{termOutcome, valueOf, evalFor, valueFor, here}
@@ -50,11 +50,11 @@ refused-value : (o : Outcome Value) (r : Refusal) (s : List Term) → termOutcom
 refused-value (ok v u) r s q = let x : _≡_ {A = ℕ} 0 1 = cc in absurd (omega arith)
 refused-value (refused x u) r s q = let a : x ≡ refusalOf r = cc in let b : u ≡ s = cc in λ i. refused (a i) (b i)
 
-module _ (rule : ℕ) {K E P : List ℕ} {z : Sizes} {σ : List Binding} {e : ℕ} {k e′ p : List ℕ} {f : Fill} {memo m k₁ e₁ p₁ : List ℕ} {r : Checked} {memo₁ : List ℕ}
-    (S : Standing K E P z σ k e′ p f memo m) (h : e < z .expressions)
-    (d : EvaluatesRoot (argumentsFor K E P z) (valueFor false K E P z rule σ) (z .expressions) e k e′ p f k₁ e₁ p₁ r memo₁) where
+module _ (rule : ℕ) {J : List ℕ} {σ : List Binding} {e : ℕ} {k e′ p : List ℕ} {f : Fill} {memo m k₁ e₁ p₁ : List ℕ} {r : Checked} {memo₁ : List ℕ}
+    (S : Standing J σ k e′ p f memo m) (h : e < sizesOf J .expressions)
+    (d : EvaluatesRoot (argumentsFor J) (valueFor false J rule σ) (sizesOf J .expressions) e k e′ p f k₁ e₁ p₁ r memo₁) where
   abbrev prog : Program
-  prog = programFor K E P z
+  prog = programFor J
 
   abbrev s₀ : List Term
   s₀ = termsIn k e′ p f
@@ -62,11 +62,11 @@ module _ (rule : ℕ) {K E P : List ℕ} {z : Sizes} {σ : List Binding} {e : �
   abbrev s₁ : List Term
   s₁ = termsIn k₁ e₁ p₁ (r .fill)
 
-  is-refused : (r .refusal .number ≡ 0 → ⊥) → evalExpr (roomOf k p) prog rule σ (exprFor K E P z e) s₀ ≡ refused (refusalOf (r .refusal)) s₁
+  is-refused : (r .refusal .number ≡ 0 → ⊥) → evalExpr (roomOf k p) prog rule σ (exprFor J e) s₀ ≡ refused (refusalOf (r .refusal)) s₁
   unfolding valueOf
   is-refused n = refused-value _ (r .refusal) s₁ (sym (d .does .outcome) ∙ refused-of (r .refusal) (r .value) s₁ n)
 
-  pub yields-refused : {marking : Bool} → (r .refusal .number ≡ 0 → ⊥) → Yields prog σ (evalExpr (roomOf k p) prog rule σ (exprFor K E P z e) s₀) marking k e′ p f m k₁ e₁ p₁ r memo₁ m
+  pub yields-refused : {marking : Bool} → (r .refusal .number ≡ 0 → ⊥) → Yields prog σ (evalExpr (roomOf k p) prog rule σ (exprFor J e) s₀) marking k e′ p f m k₁ e₁ p₁ r memo₁ m
   yields-refused n = record {
     value = record { term = 0; pairs = [] };
     does = record { outcome = refused-of (r .refusal) _ s₁ n ∙ sym (is-refused n); grown = d .does .grown };
@@ -80,9 +80,9 @@ module _ (rule : ℕ) {K E P : List ℕ} {z : Sizes} {σ : List Binding} {e : �
     marks = λ q. absurd (n q);
   }
 
-  pub yields-value : {marking : Bool} {m₁ : List ℕ} → r .refusal .number ≡ 0 → m₁ ≡ markedIf marking memo₁ (z .expressions) m
-      → Yields prog σ (evalExpr (roomOf k p) prog rule σ (exprFor K E P z e) s₀) marking k e′ p f m k₁ e₁ p₁ r memo₁ m₁
-  yields-value {marking} {m₁} n q = record {
+  pub yields-value : {marking : Bool} {m₁ : List ℕ} {c : ℕ} → r .refusal .number ≡ 0 → c ≡ sizesOf J .expressions → m₁ ≡ markedIf marking memo₁ c m
+      → Yields prog σ (evalExpr (roomOf k p) prog rule σ (exprFor J e) s₀) marking k e′ p f m k₁ e₁ p₁ r memo₁ m₁
+  yields-value {marking} {m₁} n w q₀ = let q = q₀ ∙ ap (λ (x : ℕ). markedIf marking memo₁ x m) w in record {
     value = root-evaluated (S .ready) rule σ d n (S .sane) .value;
     does = record { outcome = ok-of (r .refusal) (root-evaluated (S .ready) rule σ d n (S .sane) .value) s₁ n ∙ sym (root-evaluated (S .ready) rule σ d n (S .sane) .is); grown = d .does .grown };
     term = λ _. root-evaluated (S .ready) rule σ d n (S .sane) .term;
@@ -94,18 +94,18 @@ module _ (rule : ℕ) {K E P : List ℕ} {z : Sizes} {σ : List Binding} {e : �
     others = λ _. among-none (root-evaluated (S .ready) rule σ d n (S .sane) .value .pairs) (root-evaluated (S .ready) rule σ d n (S .sane) .sides);
     marks = λ _ t ps w.
         let x = marks-extends (S .sane .ordered) (root-evaluated (S .ready) rule σ d n (S .sane) .grows) w in
-        marks-adds x (root-adds (S .ready) rule σ d n (S .sane) h (x .inside) room (q ∙ ap (λ (b : Bool). markedIf b memo₁ (z .expressions) m) t));
+        marks-adds x (root-adds (S .ready) rule σ d n (S .sane) h (x .inside) room (q ∙ ap (λ (b : Bool). markedIf b memo₁ (sizesOf J .expressions) m) t));
   }
     where
-      is-term : evalFor false K E P z rule σ (roomOf k p) e s₀ ≡ ok (r .value) s₁
-      is-term = sym (value-term false (roomOf k p) prog rule σ (exprFor K E P z e) s₀) ∙ sym (d .does .outcome) ∙ ok-of (r .refusal) (r .value) s₁ n
+      is-term : evalFor false J rule σ (roomOf k p) e s₀ ≡ ok (r .value) s₁
+      is-term = sym (value-term false (roomOf k p) prog rule σ (exprFor J e) s₀) ∙ sym (d .does .outcome) ∙ ok-of (r .refusal) (r .value) s₁ n
 
       own-pair : List·Memᴰ (same (r .value)) (root-evaluated (S .ready) rule σ d n (S .sane) .value .pairs)
       own-pair = pairs-values (S .ready) (roomOf k p) rule σ e (S .sane) (root-evaluated (S .ready) rule σ d n (S .sane) .is) (r .value) .1 (record {
         at = e;
         reaches = here refl;
         term = r .value;
-        value = term-again false (roomOf k p) prog rule σ (exprFor K E P z e) s₀ s₁ s₁ (r .value) is-term extends-same;
+        value = term-again false (roomOf k p) prog rule σ (exprFor J e) s₀ s₁ s₁ (r .value) is-term extends-same;
         under = Covering.here refl;
       })
 

@@ -4,6 +4,7 @@ use lib.ListN.{length, drop}
 use mathlib.Core.Path.{_≡_}
 use mathlib.Core.List.{List, _∷_, _++_, List·Memᴰ}
 use mathlib.Core.Bool.{Bool, true, false, _||_}
+use Rattle.model.specs.Layout.{sizesOf}
 use Rattle.model.specs.Term.{Extends}
 use Rattle.model.specs.Program.{Proposition, Binding, Program, Action}
 use Rattle.model.specs.Decode.{readBindings}
@@ -16,7 +17,6 @@ use Rattle.memo.specs.Memo.{Past}
 use Rattle.outcome.specs.Does.{Does}
 use Rattle.outcome.specs.declared.Checked.{Checked}
 use Rattle.marks.specs.Covering.{Marks}
-use Rattle.load.specs.declared.sizes.Sizes.{Sizes}
 use Rattle.program.specs.Ready.{Ready, programFor}
 use Rattle.evaluate.specs.Evaluation.{Sane}
 use Rattle.pairs.specs.Marking.{markValues}
@@ -24,11 +24,11 @@ use Rattle.actions.specs.declared.Effect.{Effect}
 use Rattle.actions.specs.declared.Acted.{Acted}
 
 -- What an action may be handed: an admitted job, a store that is sane under the bindings σ, a memo, and a mark for each cell of the store.
-pub record Standing (K E P : List ℕ) (z : Sizes) (σ : List Binding) (k e p : List ℕ) (f : Fill) (memo m : List ℕ) : Type 0 where
-  pub ready : Ready K E P z
+pub record Standing (J : List ℕ) (σ : List Binding) (k e p : List ℕ) (f : Fill) (memo m : List ℕ) : Type 0 where
+  pub ready : Ready J
   pub stored : Stored k e p f
-  pub sane : Sane (programFor K E P z) σ (termsIn k e p f)
-  pub fits : z .expressions + z .expressions < length memo
+  pub sane : Sane (programFor J) σ (termsIn k e p f)
+  pub fits : sizesOf J .expressions + sizesOf J .expressions < length memo
   pub past : Past memo
   pub cells : length k ≤ length m
 

@@ -2,32 +2,23 @@
 use cells::Fill;
 use cells::wide;
 use decode::Action;
-use decode::Merge;
-use decode::Name;
-use decode::Proposition;
 use evaluate::evaluate;
-use load::sizes::Sizes;
 use outcome::Checked;
 use outcome::Refusal;
 use pairs::mark_values;
-use program::merge_of;
+use program::job::EXPRESSIONS;
+use program::job::size;
 use program::read::action_at;
-use program::read::rule_actions_at;
 ghost use mathlib.Core.Path.{_≡_};
-ghost use mathlib.Core.List.{List, []};
-ghost use Prim.Native.Nat.{ℕ, _+_, _≤_, _<_};
+ghost use Prim.Native.Nat.{_+_, _≤_, _<_};
 ghost use lib.ListN.{length};
-ghost use Rattle.model.specs.Term.{Term};
-ghost use Rattle.model.specs.Program.{nameMergeFunction, Action as ModelAction, bind, union, run, idle};
+ghost use Rattle.model.specs.Layout.{sizesOf};
+ghost use Rattle.model.specs.Program.{bind, union, run};
 ghost use Rattle.model.specs.Evaluate.{evalExpr};
-ghost use Rattle.decode.specs.View.{propositionOf};
-ghost use Rattle.termdag.specs.Store.{termsIn, Stored, roomOf};
-ghost use Rattle.memo.specs.Memo.{Past};
-ghost use Rattle.program.specs.Ready.{Ready, programFor};
+ghost use Rattle.termdag.specs.Store.{termsIn, roomOf};
+ghost use Rattle.program.specs.Ready.{programFor};
 ghost use Rattle.program.specs.Read.{exprFor, actionFor};
 ghost use Rattle.evaluate.specs.Value.{bindingsIn};
-ghost use Rattle.evaluate.specs.Evaluation.{Sane, Checks};
-ghost use Rattle.pairs.specs.Marking.{markValues};
 ghost use Rattle.actions.specs.Acting.{Standing, markedIf, Yields, Acts, Pushed};
 
 // What an action did: bound a name to a term, joined two terms, or neither.
@@ -57,10 +48,7 @@ fn mark_if(marking: bool, memo: &[u32], n: usize, marks: &mut [u32])
 
 // The value of expression e, with marks for its pairs.
 pub fn yield_value(
-    kinds: &[u32],
-    ends: &[u32],
-    pool: &[u32],
-    z: Sizes,
+    job: &[u32],
     bound: &[u32],
     pairs: &[u32],
     globals: &[u32],
@@ -74,15 +62,13 @@ pub fn yield_value(
     marks: &mut [u32],
     e: u32,
 ) -> Checked
-    requires { ⌜ Standing (now kinds) (now ends) (now pool) z (bindingsIn (now bound) (now pairs) (now globals)) (now skinds) (now sends) (now spool) fill (now memo) (now marks) ⌝ }
-    requires { ⌜ e < z .expressions ⌝ }
-    ensures { λ r. ⌜ Yields (programFor (now (kinds .entry)) (now (ends .entry)) (now (pool .entry)) z) (bindingsIn (now (bound .entry)) (now (pairs .entry)) (now (globals .entry))) (evalExpr (roomOf (now (skinds .entry)) (now (spool .entry))) (programFor (now (kinds .entry)) (now (ends .entry)) (now (pool .entry)) z) rule (bindingsIn (now (bound .entry)) (now (pairs .entry)) (now (globals .entry))) (exprFor (now (kinds .entry)) (now (ends .entry)) (now (pool .entry)) z e) (termsIn (now (skinds .entry)) (now (sends .entry)) (now (spool .entry)) fill)) marking (now (skinds .entry)) (now (sends .entry)) (now (spool .entry)) fill (now (marks .entry)) (now (skinds .exit)) (now (sends .exit)) (now (spool .exit)) r (now (memo .exit)) (now (marks .exit)) ⌝ }
+    requires { ⌜ Standing (now job) (bindingsIn (now bound) (now pairs) (now globals)) (now skinds) (now sends) (now spool) fill (now memo) (now marks) ⌝ }
+    requires { ⌜ e < sizesOf (now job) .expressions ⌝ }
+    ensures { λ r. ⌜ Yields (programFor (now (job .entry))) (bindingsIn (now (bound .entry)) (now (pairs .entry)) (now (globals .entry))) (evalExpr (roomOf (now (skinds .entry)) (now (spool .entry))) (programFor (now (job .entry))) rule (bindingsIn (now (bound .entry)) (now (pairs .entry)) (now (globals .entry))) (exprFor (now (job .entry)) e) (termsIn (now (skinds .entry)) (now (sends .entry)) (now (spool .entry)) fill)) marking (now (skinds .entry)) (now (sends .entry)) (now (spool .entry)) fill (now (marks .entry)) (now (skinds .exit)) (now (sends .exit)) (now (spool .exit)) r (now (memo .exit)) (now (marks .exit)) ⌝ }
 {
+    let count = size(job, EXPRESSIONS);
     let r = evaluate(
-        kinds,
-        ends,
-        pool,
-        z,
+        job,
         bound,
         pairs,
         globals,
@@ -98,16 +84,13 @@ pub fn yield_value(
     if r.refusal.number != 0 {
         return r;
     }
-    mark_if(marking, memo, z.expressions, marks);
+    mark_if(marking, memo, count, marks);
     r
 }
 
 // A let.
 fn act_let(
-    kinds: &[u32],
-    ends: &[u32],
-    pool: &[u32],
-    z: Sizes,
+    job: &[u32],
     bound: &[u32],
     pairs: &[u32],
     globals: &[u32],
@@ -122,15 +105,12 @@ fn act_let(
     name: u32,
     e: u32,
 ) -> Acted
-    requires { ⌜ Standing (now kinds) (now ends) (now pool) z (bindingsIn (now bound) (now pairs) (now globals)) (now skinds) (now sends) (now spool) fill (now memo) (now marks) ⌝ }
-    requires { ⌜ e < z .expressions ⌝ }
-    ensures { λ r. ⌜ Acts (programFor (now (kinds .entry)) (now (ends .entry)) (now (pool .entry)) z) rule (bind name (exprFor (now (kinds .entry)) (now (ends .entry)) (now (pool .entry)) z e)) (bindingsIn (now (bound .entry)) (now (pairs .entry)) (now (globals .entry))) marking (now (skinds .entry)) (now (sends .entry)) (now (spool .entry)) fill (now (marks .entry)) (now (skinds .exit)) (now (sends .exit)) (now (spool .exit)) r (now (memo .exit)) (now (marks .exit)) ⌝ }
+    requires { ⌜ Standing (now job) (bindingsIn (now bound) (now pairs) (now globals)) (now skinds) (now sends) (now spool) fill (now memo) (now marks) ⌝ }
+    requires { ⌜ e < sizesOf (now job) .expressions ⌝ }
+    ensures { λ r. ⌜ Acts (programFor (now (job .entry))) rule (bind name (exprFor (now (job .entry)) e)) (bindingsIn (now (bound .entry)) (now (pairs .entry)) (now (globals .entry))) marking (now (skinds .entry)) (now (sends .entry)) (now (spool .entry)) fill (now (marks .entry)) (now (skinds .exit)) (now (sends .exit)) (now (spool .exit)) r (now (memo .exit)) (now (marks .exit)) ⌝ }
 {
     let r = yield_value(
-        kinds,
-        ends,
-        pool,
-        z,
+        job,
         bound,
         pairs,
         globals,
@@ -155,10 +135,7 @@ fn act_let(
 
 // A set or an expression.
 fn act_run(
-    kinds: &[u32],
-    ends: &[u32],
-    pool: &[u32],
-    z: Sizes,
+    job: &[u32],
     bound: &[u32],
     pairs: &[u32],
     globals: &[u32],
@@ -172,15 +149,12 @@ fn act_run(
     marks: &mut [u32],
     e: u32,
 ) -> Acted
-    requires { ⌜ Standing (now kinds) (now ends) (now pool) z (bindingsIn (now bound) (now pairs) (now globals)) (now skinds) (now sends) (now spool) fill (now memo) (now marks) ⌝ }
-    requires { ⌜ e < z .expressions ⌝ }
-    ensures { λ r. ⌜ Acts (programFor (now (kinds .entry)) (now (ends .entry)) (now (pool .entry)) z) rule (run (exprFor (now (kinds .entry)) (now (ends .entry)) (now (pool .entry)) z e)) (bindingsIn (now (bound .entry)) (now (pairs .entry)) (now (globals .entry))) marking (now (skinds .entry)) (now (sends .entry)) (now (spool .entry)) fill (now (marks .entry)) (now (skinds .exit)) (now (sends .exit)) (now (spool .exit)) r (now (memo .exit)) (now (marks .exit)) ⌝ }
+    requires { ⌜ Standing (now job) (bindingsIn (now bound) (now pairs) (now globals)) (now skinds) (now sends) (now spool) fill (now memo) (now marks) ⌝ }
+    requires { ⌜ e < sizesOf (now job) .expressions ⌝ }
+    ensures { λ r. ⌜ Acts (programFor (now (job .entry))) rule (run (exprFor (now (job .entry)) e)) (bindingsIn (now (bound .entry)) (now (pairs .entry)) (now (globals .entry))) marking (now (skinds .entry)) (now (sends .entry)) (now (spool .entry)) fill (now (marks .entry)) (now (skinds .exit)) (now (sends .exit)) (now (spool .exit)) r (now (memo .exit)) (now (marks .exit)) ⌝ }
 {
     let r = yield_value(
-        kinds,
-        ends,
-        pool,
-        z,
+        job,
         bound,
         pairs,
         globals,
@@ -205,10 +179,7 @@ fn act_run(
 
 // A union.
 fn act_union(
-    kinds: &[u32],
-    ends: &[u32],
-    pool: &[u32],
-    z: Sizes,
+    job: &[u32],
     bound: &[u32],
     pairs: &[u32],
     globals: &[u32],
@@ -223,16 +194,13 @@ fn act_union(
     left: u32,
     right: u32,
 ) -> Acted
-    requires { ⌜ Standing (now kinds) (now ends) (now pool) z (bindingsIn (now bound) (now pairs) (now globals)) (now skinds) (now sends) (now spool) fill (now memo) (now marks) ⌝ }
-    requires { ⌜ left < z .expressions ⌝ }
-    requires { ⌜ right < z .expressions ⌝ }
-    ensures { λ r. ⌜ Acts (programFor (now (kinds .entry)) (now (ends .entry)) (now (pool .entry)) z) rule (union (exprFor (now (kinds .entry)) (now (ends .entry)) (now (pool .entry)) z left) (exprFor (now (kinds .entry)) (now (ends .entry)) (now (pool .entry)) z right)) (bindingsIn (now (bound .entry)) (now (pairs .entry)) (now (globals .entry))) marking (now (skinds .entry)) (now (sends .entry)) (now (spool .entry)) fill (now (marks .entry)) (now (skinds .exit)) (now (sends .exit)) (now (spool .exit)) r (now (memo .exit)) (now (marks .exit)) ⌝ }
+    requires { ⌜ Standing (now job) (bindingsIn (now bound) (now pairs) (now globals)) (now skinds) (now sends) (now spool) fill (now memo) (now marks) ⌝ }
+    requires { ⌜ left < sizesOf (now job) .expressions ⌝ }
+    requires { ⌜ right < sizesOf (now job) .expressions ⌝ }
+    ensures { λ r. ⌜ Acts (programFor (now (job .entry))) rule (union (exprFor (now (job .entry)) left) (exprFor (now (job .entry)) right)) (bindingsIn (now (bound .entry)) (now (pairs .entry)) (now (globals .entry))) marking (now (skinds .entry)) (now (sends .entry)) (now (spool .entry)) fill (now (marks .entry)) (now (skinds .exit)) (now (sends .exit)) (now (spool .exit)) r (now (memo .exit)) (now (marks .exit)) ⌝ }
 {
     let a = yield_value(
-        kinds,
-        ends,
-        pool,
-        z,
+        job,
         bound,
         pairs,
         globals,
@@ -256,10 +224,7 @@ fn act_union(
         };
     }
     let b = yield_value(
-        kinds,
-        ends,
-        pool,
-        z,
+        job,
         bound,
         pairs,
         globals,
@@ -284,10 +249,7 @@ fn act_union(
 
 // One action.
 pub fn process_action(
-    kinds: &[u32],
-    ends: &[u32],
-    pool: &[u32],
-    z: Sizes,
+    job: &[u32],
     bound: &[u32],
     pairs: &[u32],
     globals: &[u32],
@@ -301,17 +263,14 @@ pub fn process_action(
     marks: &mut [u32],
     i: u32,
 ) -> Acted
-    requires { ⌜ Standing (now kinds) (now ends) (now pool) z (bindingsIn (now bound) (now pairs) (now globals)) (now skinds) (now sends) (now spool) fill (now memo) (now marks) ⌝ }
-    requires { ⌜ i < z .actions ⌝ }
-    ensures { λ r. ⌜ Acts (programFor (now (kinds .entry)) (now (ends .entry)) (now (pool .entry)) z) rule (actionFor (now (kinds .entry)) (now (ends .entry)) (now (pool .entry)) z i) (bindingsIn (now (bound .entry)) (now (pairs .entry)) (now (globals .entry))) marking (now (skinds .entry)) (now (sends .entry)) (now (spool .entry)) fill (now (marks .entry)) (now (skinds .exit)) (now (sends .exit)) (now (spool .exit)) r (now (memo .exit)) (now (marks .exit)) ⌝ }
+    requires { ⌜ Standing (now job) (bindingsIn (now bound) (now pairs) (now globals)) (now skinds) (now sends) (now spool) fill (now memo) (now marks) ⌝ }
+    requires { ⌜ i < sizesOf (now job) .actions ⌝ }
+    ensures { λ r. ⌜ Acts (programFor (now (job .entry))) rule (actionFor (now (job .entry)) i) (bindingsIn (now (bound .entry)) (now (pairs .entry)) (now (globals .entry))) marking (now (skinds .entry)) (now (sends .entry)) (now (spool .entry)) fill (now (marks .entry)) (now (skinds .exit)) (now (sends .exit)) (now (spool .exit)) r (now (memo .exit)) (now (marks .exit)) ⌝ }
 {
-    let action = action_at(kinds, ends, pool, z, wide(i));
+    let action = action_at(job, wide(i));
     match action {
         Action::Let(x, e) => act_let(
-            kinds,
-            ends,
-            pool,
-            z,
+            job,
             bound,
             pairs,
             globals,
@@ -327,10 +286,7 @@ pub fn process_action(
             e,
         ),
         Action::Union(l, r) => act_union(
-            kinds,
-            ends,
-            pool,
-            z,
+            job,
             bound,
             pairs,
             globals,
@@ -346,10 +302,7 @@ pub fn process_action(
             r,
         ),
         Action::Run(e) => act_run(
-            kinds,
-            ends,
-            pool,
-            z,
+            job,
             bound,
             pairs,
             globals,

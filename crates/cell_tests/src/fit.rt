@@ -3,8 +3,7 @@ use crate::words::at;
 use crate::words::rest;
 use cells::wide;
 ghost use mathlib.Core.Path.{_≡_};
-ghost use Rattle.model.specs.Cell.{Cell};
-ghost use Rattle.model.specs.Load.{counts, between, literalCell, termFits, exprFits, rowFits, ruleFits, ruleProofFits, proofFits};
+ghost use Rattle.model.specs.Load.{counts, literalCell, termFits, exprFits, rowFits, ruleFits, ruleProofFits, proofFits};
 
 // A known kind, with the operand count that the list gives for it.
 pub fn counted(ns: &[u32], kind: u32, ws: &[u32]) -> bool

@@ -3,9 +3,7 @@ use crate::words::at;
 use crate::words::rest;
 use cells::same_words;
 ghost use mathlib.Core.Path.{_≡_};
-ghost use mathlib.Core.Bool.{Bool};
 ghost use lib.Dec.{eqb};
-ghost use Rattle.model.specs.Cell.{Cell};
 ghost use Rattle.model.specs.Decode.{readBindings};
 ghost use Rattle.model.specs.Load.{any, bindsOnce, sameRow, sameHead};
 

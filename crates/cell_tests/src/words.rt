@@ -3,7 +3,7 @@ use cells::wide;
 ghost use mathlib.Core.Path.{_≡_};
 ghost use lib.ListN.{getD, take, drop};
 ghost use Rattle.model.specs.Load.{below};
-ghost use Prim.Native.Nat.{_<_, _^_};
+ghost use Prim.Native.Nat.{_<_};
 
 // Word i, and 0 past the end.
 pub fn at(ws: &[u32], i: usize) -> u32

@@ -1,8 +1,7 @@
 // A table of cells in three arrays of words: reading a cell, comparing, looking one up, and adding one. Nothing above speaks of ends and offsets.
 ghost use mathlib.Core.Path.{_≡_};
-ghost use mathlib.Core.Bool.{Bool, true, false};
-ghost use mathlib.Core.List.{List};
-ghost use Prim.Native.Nat.{ℕ, _+_, _-_, _≤_, _<_};
+ghost use mathlib.Core.Bool.{true, false};
+ghost use Prim.Native.Nat.{_+_, _-_, _≤_, _<_};
 ghost use lib.ListN.{length, getD};
 ghost use Rattle.model.specs.Cell.{Cell, noCell, sameWords, sameCell, startOf, cellsOf};
 ghost use Rattle.cells.specs.Table.{Formed, findCell, Once, put, Ran, addCell, appendCell, tableOf};

@@ -7,6 +7,7 @@ use lib.Dec.{eqb, lit<}
 use lib.ListN.{length, getD, take, drop, length-map, length-drop, length-append, drop-of-length-le}
 use lib.Seq.{getD-drop, take-take, take-at, drop-at, length-take-le}
 use borrow.Rule.Slice.PartMut.{midOf, putMid, same-len-mid, take-put}
+use Rattle.model.specs.Layout.{sizesOf}
 use Rattle.model.specs.Term.{Term}
 use Rattle.model.specs.Program as program
 use Rattle.model.specs.Program.{Binding, Program, Proof}
@@ -23,9 +24,7 @@ use Rattle.outcome.specs.declared.Refusal.{Refusal}
 use Rattle.outcome.proofs.Laws.{does-then, does-stop, does-map}
 use Rattle.marks.specs.Marks.{zeros}
 use Rattle.marks.proofs.Closing.{zeros-at}
-use Rattle.load.specs.Held.{tablesFor}
-use Rattle.load.specs.declared.sizes.Sizes.{Sizes}
-use Rattle.program.specs.Ready.{programFor}
+use Rattle.program.specs.Ready.{tablesFor, programFor}
 use Rattle.program.specs.Read.{proofsFor}
 use Rattle.program.proofs.Laws.{table-long}
 use Rattle.normal_form.specs.Search.{Searched}
@@ -55,13 +54,13 @@ pub marks-kept : (M R Z : List ℕ) (c k : ℕ) → length M ≡ c → c + c ≤
 marks-kept M R Z c k l h =
     sym (take-take c (c + c) (putMid (c + c) k (M ++ R) Z) (omega arith)) ∙ ap (take c) (take-put (c + c) k (M ++ R) Z h) ∙ take-take c (c + c) (M ++ R) (omega arith) ∙ take-at M R c l
 
-module _ {K E P : List ℕ} {z : Sizes} {k e p : List ℕ} {f : Fill} {W : List ℕ} (g : Given K E P z k e p f W) (asked : ℕ) (h : asked < z .proofs)
-    {k₁ e₁ p₁ : List ℕ} {r : Globals} {memo₁ m₁ T U : List ℕ} (C : Context (programFor K E P z) k e p f k₁ e₁ p₁ r memo₁ m₁ T U) where
+module _ {J : List ℕ} {k e p : List ℕ} {f : Fill} {W : List ℕ} (g : Given J k e p f W) (asked : ℕ) (h : asked < sizesOf J .proofs)
+    {k₁ e₁ p₁ : List ℕ} {r : Globals} {memo₁ m₁ T U : List ℕ} (C : Context (programFor J) k e p f k₁ e₁ p₁ r memo₁ m₁ T U) where
   abbrev prog : Program
-  prog = programFor K E P z
+  prog = programFor J
 
   abbrev proofs : List Proof
-  proofs = proofsFor K E P z
+  proofs = proofsFor J
 
   abbrev next : Room → ActionContext → Check program.Proposition
   next room ctx = checkProofWithContext room prog proofs ctx (suc (length proofs)) asked [] >>= λ _. pure (claimAt proofs asked)
@@ -77,7 +76,7 @@ module _ {K E P : List ℕ} {z : Sizes} {k e p : List ℕ} {f : Fill} {W : List 
     same-context : contextOf G (C .context .pairs) ≡ C .context
     same-context = ap {B = ActionContext} (λ (σ : List Binding). record { bindings = σ; pairs = C .context .pairs }) (ap readBindings gq ∙ sym (C .bindings n))
 
-    pub check-ground : {F memo W₁ : List ℕ} → Searched K E P z F → memo ≡ memo₁ → z .expressions + z .expressions < length memo → length W₁ ≡ length W → Ground K E P z F G k₁ e₁ p₁ (r .fill) memo W₁
+    pub check-ground : {F memo W₁ : List ℕ} → Searched J F → memo ≡ memo₁ → sizesOf J .expressions + sizesOf J .expressions < length memo → length W₁ ≡ length W → Ground J F G k₁ e₁ p₁ (r .fill) memo W₁
     check-ground {memo = memo} F mq fits lW = record {
       ready = g .ready;
       searched = F;
@@ -89,8 +88,8 @@ module _ {K E P : List ℕ} {z : Sizes} {k e p : List ℕ} {f : Fill} {W : List 
       long = let a = g .long in let b = C .does .grown .lenK in omega arith;
     }
 
-    pub check-walks : {F W₁ k₂ e₂ p₂ : List ℕ} {f₂ : Fill} {c : Refusal} {memo₂ W₂ : List ℕ} → take (length k₁) W₁ ≡ m₁ → Flags (length k₁) W₁ (z .proofs) []
-        → Walks K E P z F G (take (r .unions) U) k₁ e₁ p₁ (r .fill) W₁ k₂ e₂ p₂ f₂ c memo₂ W₂ (λ d. d) (λ room ps done. checkProofWithContext room prog proofs (contextOf G ps) (suc asked) asked done)
+    pub check-walks : {F W₁ k₂ e₂ p₂ : List ℕ} {f₂ : Fill} {c : Refusal} {memo₂ W₂ : List ℕ} → take (length k₁) W₁ ≡ m₁ → Flags (length k₁) W₁ (sizesOf J .proofs) []
+        → Walks J F G (take (r .unions) U) k₁ e₁ p₁ (r .fill) W₁ k₂ e₂ p₂ f₂ c memo₂ W₂ (λ d. d) (λ room ps done. checkProofWithContext room prog proofs (contextOf G ps) (suc asked) asked done)
         → Does k e p f k₂ e₂ p₂ f₂ c (claimAt proofs asked) (checkProof (roomOf k p) prog proofs asked (termsIn k e p f))
     check-walks {W₁ = W₁} {k₂ = k₂} {e₂ = e₂} {p₂ = p₂} {f₂ = f₂} {c = c} mq fl w =
         let x = w .walked (C .context .pairs) [] (subst⁻¹ (GlobalPairs (C .context .pairs) (take (r .unions) U)) mq (C .pairs n)) fl in
@@ -99,8 +98,8 @@ module _ {K E P : List ℕ} {z : Sizes} {k e p : List ℕ} {f : Fill} {W : List 
         (subst (Does k₁ e₁ p₁ (r .fill) k₂ e₂ p₂ f₂ c (x .done)) (fuel ∙ ap (λ (ctx : ActionContext). checkProofWithContext (roomOf k₁ p₁) prog proofs ctx (suc (length proofs)) asked [] (termsIn k₁ e₁ p₁ (r .fill))) same-context) (x .does))
         (λ _. refl)))
       where
-        many : length proofs ≡ z .proofs
-        many = length-map (tablesFor K E P z .proofs) readProof ∙ table-long K E P z 9 (lit< tt)
+        many : length proofs ≡ sizesOf J .proofs
+        many = length-map (tablesFor J .proofs) readProof ∙ table-long J 9 (lit< tt)
 
         fuel : checkProofWithContext (roomOf k₁ p₁) prog proofs (contextOf G (C .context .pairs)) (suc asked) asked [] (termsIn k₁ e₁ p₁ (r .fill))
             ≡ checkProofWithContext (roomOf k₁ p₁) prog proofs (contextOf G (C .context .pairs)) (suc (length proofs)) asked [] (termsIn k₁ e₁ p₁ (r .fill))

@@ -2,18 +2,17 @@
 use Prim.Native.Nat.{ℕ, _+_, _≤_}
 use mathlib.Core.List.{List, [], map}
 use lib.ListN.{length}
+use Rattle.model.specs.Layout.{sizesOf}
 use Rattle.model.specs.Term.{readTerm, Extends}
 use Rattle.cells.specs.declared.Fill.{Fill}
 use Rattle.termdag.specs.Store.{termsIn, Stored}
-use Rattle.load.specs.Held.{tablesFor}
-use Rattle.load.specs.declared.sizes.Sizes.{Sizes}
-use Rattle.program.specs.Ready.{Ready, programFor}
+use Rattle.program.specs.Ready.{tablesFor, Ready, programFor}
 use Rattle.evaluate.specs.Evaluation.{Sane}
 
 -- An admitted job, a store that has its terms, and scratch of two words for each cell of the store and one for each proof.
-pub record Given (K E P : List ℕ) (z : Sizes) (k e p : List ℕ) (f : Fill) (W : List ℕ) : Type 0 where
-  pub ready : Ready K E P z
+pub record Given (J : List ℕ) (k e p : List ℕ) (f : Fill) (W : List ℕ) : Type 0 where
+  pub ready : Ready J
   pub stored : Stored k e p f
-  pub sane : Sane (programFor K E P z) [] (termsIn k e p f)
-  pub terms : Extends (map readTerm (tablesFor K E P z .terms)) (termsIn k e p f)
-  pub long : length k + length k + z .proofs ≤ length W
+  pub sane : Sane (programFor J) [] (termsIn k e p f)
+  pub terms : Extends (map readTerm (tablesFor J .terms)) (termsIn k e p f)
+  pub long : length k + length k + sizesOf J .proofs ≤ length W

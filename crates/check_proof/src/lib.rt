@@ -1,12 +1,11 @@
 // `check_proof` of proof_checker.rs, for an admitted job whose terms are in the store: the global actions, then the walk.
 use cells::Fill;
 use context::new_context;
-use load::sizes::Sizes;
 use normal_form::find_offences;
 use outcome::Checked;
 use walk::walk;
-ghost use mathlib.Core.List.{[]};
 ghost use Prim.Native.Nat.{_<_};
+ghost use Rattle.model.specs.Layout.{sizesOf};
 ghost use Rattle.model.specs.Walk.{claimAt, checkProof};
 ghost use Rattle.termdag.specs.Store.{termsIn, roomOf};
 ghost use Rattle.outcome.specs.Does.{Does};
@@ -16,10 +15,7 @@ ghost use Rattle.check_proof.specs.Checking.{Given};
 
 // The outcome of the asked proof: passed, or a refusal. Whatever scratch held makes no difference.
 pub fn check_proof(
-    kinds: &[u32],
-    ends: &[u32],
-    pool: &[u32],
-    z: Sizes,
+    job: &[u32],
     skinds: &mut [u32],
     sends: &mut [u32],
     spool: &mut [u32],
@@ -27,22 +23,19 @@ pub fn check_proof(
     scratch: &mut [u32],
     asked: u32,
 ) -> Checked
-    requires { ⌜ Given (now kinds) (now ends) (now pool) z (now skinds) (now sends) (now spool) fill (now scratch) ⌝ }
-    requires { ⌜ asked < z .proofs ⌝ }
-    ensures { λ r. ⌜ Does (now (skinds .entry)) (now (sends .entry)) (now (spool .entry)) fill (now (skinds .exit)) (now (sends .exit)) (now (spool .exit)) (r .fill) (r .refusal) (claimAt (proofsFor (now (kinds .entry)) (now (ends .entry)) (now (pool .entry)) z) asked) (checkProof (roomOf (now (skinds .entry)) (now (spool .entry))) (programFor (now (kinds .entry)) (now (ends .entry)) (now (pool .entry)) z) (proofsFor (now (kinds .entry)) (now (ends .entry)) (now (pool .entry)) z) asked (termsIn (now (skinds .entry)) (now (sends .entry)) (now (spool .entry)) fill)) ⌝ }
+    requires { ⌜ Given (now job) (now skinds) (now sends) (now spool) fill (now scratch) ⌝ }
+    requires { ⌜ asked < sizesOf (now job) .proofs ⌝ }
+    ensures { λ r. ⌜ Does (now (skinds .entry)) (now (sends .entry)) (now (spool .entry)) fill (now (skinds .exit)) (now (sends .exit)) (now (spool .exit)) (r .fill) (r .refusal) (claimAt (proofsFor (now (job .entry))) asked) (checkProof (roomOf (now (skinds .entry)) (now (spool .entry))) (programFor (now (job .entry))) (proofsFor (now (job .entry))) asked (termsIn (now (skinds .entry)) (now (sends .entry)) (now (spool .entry)) fill)) ⌝ }
 {
     let mut memo = [0u32; 8193];
     let mut found = [0u32; 4096];
     let mut table = [0u32; 512];
     let mut unions = [0u32; 512];
-    find_offences(kinds, ends, pool, z, &mut found);
+    find_offences(job, &mut found);
     let c = skinds.len();
     let d = c + c;
     let g = new_context(
-        kinds,
-        ends,
-        pool,
-        z,
+        job,
         skinds,
         sends,
         spool,
@@ -65,10 +58,7 @@ pub fn check_proof(
     let b = g.bindings;
     let n = g.unions;
     walk(
-        kinds,
-        ends,
-        pool,
-        z,
+        job,
         &found,
         &table[b..],
         &unions[..n],

@@ -4,7 +4,6 @@ use cells::wide;
 use decode::Fact;
 use evaluate::evaluate;
 use evaluate::lookup;
-use load::sizes::Sizes;
 use normal_form::variable_of;
 use outcome::Refusal;
 use program::Looked;
@@ -14,6 +13,7 @@ ghost use mathlib.Core.List.{List};
 ghost use mathlib.Core.Option.{Option, none, some};
 ghost use Prim.Native.Nat.{ℕ, _+_, _<_};
 ghost use lib.ListN.{length};
+ghost use Rattle.model.specs.Layout.{sizesOf};
 ghost use Rattle.model.specs.Term.{Term};
 ghost use Rattle.model.specs.Program.{equal, Binding};
 ghost use Rattle.model.specs.Fact as model;
@@ -49,10 +49,7 @@ pub struct Condition {
 
 // `eval_side`: an unbound variable has no value.
 fn eval_side(
-    kinds: &[u32],
-    ends: &[u32],
-    pool: &[u32],
-    z: Sizes,
+    job: &[u32],
     bound: &[u32],
     pairs: &[u32],
     globals: &[u32],
@@ -64,14 +61,14 @@ fn eval_side(
     memo: &mut [u32],
     e: u32,
 ) -> Side
-    requires { ⌜ Ready (now kinds) (now ends) (now pool) z ⌝ }
+    requires { ⌜ Ready (now job) ⌝ }
     requires { ⌜ Stored (now skinds) (now sends) (now spool) fill ⌝ }
-    requires { ⌜ z .expressions + z .expressions < length (now memo) ⌝ }
+    requires { ⌜ sizesOf (now job) .expressions + sizesOf (now job) .expressions < length (now memo) ⌝ }
     requires { ⌜ Past (now memo) ⌝ }
-    requires { ⌜ e < z .expressions ⌝ }
-    ensures { λ r. ⌜ Checks (now (skinds .entry)) (now (sends .entry)) (now (spool .entry)) fill (now (skinds .exit)) (now (sends .exit)) (now (spool .exit)) (r .fill) (r .refusal) (optionOf (r .value)) (now (memo .exit)) (model.evalSide (roomOf (now (skinds .entry)) (now (spool .entry))) (programFor (now (kinds .entry)) (now (ends .entry)) (now (pool .entry)) z) rule (bindingsIn (now (bound .entry)) (now (pairs .entry)) (now (globals .entry))) (exprFor (now (kinds .entry)) (now (ends .entry)) (now (pool .entry)) z e) (termsIn (now (skinds .entry)) (now (sends .entry)) (now (spool .entry)) fill)) ⌝ }
+    requires { ⌜ e < sizesOf (now job) .expressions ⌝ }
+    ensures { λ r. ⌜ Checks (now (skinds .entry)) (now (sends .entry)) (now (spool .entry)) fill (now (skinds .exit)) (now (sends .exit)) (now (spool .exit)) (r .fill) (r .refusal) (optionOf (r .value)) (now (memo .exit)) (model.evalSide (roomOf (now (skinds .entry)) (now (spool .entry))) (programFor (now (job .entry))) rule (bindingsIn (now (bound .entry)) (now (pairs .entry)) (now (globals .entry))) (exprFor (now (job .entry)) e) (termsIn (now (skinds .entry)) (now (sends .entry)) (now (spool .entry)) fill)) ⌝ }
 {
-    let variable = variable_of(kinds, ends, pool, z, e);
+    let variable = variable_of(job, e);
     if let Looked::Some(x) = variable {
         let value = lookup(bound, pairs, globals, x);
         return Side {
@@ -85,10 +82,7 @@ fn eval_side(
         };
     }
     let r = evaluate(
-        kinds,
-        ends,
-        pool,
-        z,
+        job,
         bound,
         pairs,
         globals,
@@ -220,10 +214,7 @@ fn refused_side(s: Side) -> Condition
 
 // A side condition that is an equality: the left side, then the right one, then both.
 fn check_equality_condition(
-    kinds: &[u32],
-    ends: &[u32],
-    pool: &[u32],
-    z: Sizes,
+    job: &[u32],
     bound: &[u32],
     pairs: &[u32],
     globals: &[u32],
@@ -237,19 +228,16 @@ fn check_equality_condition(
     left: u32,
     right: u32,
 ) -> Condition
-    requires { ⌜ Ready (now kinds) (now ends) (now pool) z ⌝ }
+    requires { ⌜ Ready (now job) ⌝ }
     requires { ⌜ Stored (now skinds) (now sends) (now spool) fill ⌝ }
-    requires { ⌜ z .expressions + z .expressions < length (now memo) ⌝ }
+    requires { ⌜ sizesOf (now job) .expressions + sizesOf (now job) .expressions < length (now memo) ⌝ }
     requires { ⌜ Past (now memo) ⌝ }
-    requires { ⌜ left < z .expressions ⌝ }
-    requires { ⌜ right < z .expressions ⌝ }
-    ensures { λ r. ⌜ Checks (now (skinds .entry)) (now (sends .entry)) (now (spool .entry)) fill (now (skinds .exit)) (now (sends .exit)) (now (spool .exit)) (r .fill) (r .refusal) (boundOver (r .binds) (bindingsIn (now (bound .entry)) (now (pairs .entry)) (now (globals .entry)))) (now (memo .exit)) (model.checkSideCondition (roomOf (now (skinds .entry)) (now (spool .entry))) (programFor (now (kinds .entry)) (now (ends .entry)) (now (pool .entry)) z) rule (bindingsIn (now (bound .entry)) (now (pairs .entry)) (now (globals .entry))) (equal i (exprFor (now (kinds .entry)) (now (ends .entry)) (now (pool .entry)) z left) (exprFor (now (kinds .entry)) (now (ends .entry)) (now (pool .entry)) z right)) (termsIn (now (skinds .entry)) (now (sends .entry)) (now (spool .entry)) fill)) ⌝ }
+    requires { ⌜ left < sizesOf (now job) .expressions ⌝ }
+    requires { ⌜ right < sizesOf (now job) .expressions ⌝ }
+    ensures { λ r. ⌜ Checks (now (skinds .entry)) (now (sends .entry)) (now (spool .entry)) fill (now (skinds .exit)) (now (sends .exit)) (now (spool .exit)) (r .fill) (r .refusal) (boundOver (r .binds) (bindingsIn (now (bound .entry)) (now (pairs .entry)) (now (globals .entry)))) (now (memo .exit)) (model.checkSideCondition (roomOf (now (skinds .entry)) (now (spool .entry))) (programFor (now (job .entry))) rule (bindingsIn (now (bound .entry)) (now (pairs .entry)) (now (globals .entry))) (equal i (exprFor (now (job .entry)) left) (exprFor (now (job .entry)) right)) (termsIn (now (skinds .entry)) (now (sends .entry)) (now (spool .entry)) fill)) ⌝ }
 {
     let a = eval_side(
-        kinds,
-        ends,
-        pool,
-        z,
+        job,
         bound,
         pairs,
         globals,
@@ -265,10 +253,7 @@ fn check_equality_condition(
         return refused_side(a);
     }
     let b = eval_side(
-        kinds,
-        ends,
-        pool,
-        z,
+        job,
         bound,
         pairs,
         globals,
@@ -283,8 +268,8 @@ fn check_equality_condition(
     if b.refusal.number != 0 {
         return refused_side(b);
     }
-    let lv = variable_of(kinds, ends, pool, z, left);
-    let rv = variable_of(kinds, ends, pool, z, right);
+    let lv = variable_of(job, left);
+    let rv = variable_of(job, right);
     let x = a.value;
     let y = b.value;
     compare_sides(rule, i, lv, x, rv, y, b.fill)
@@ -292,10 +277,7 @@ fn check_equality_condition(
 
 // `check_side_condition`: what it binds. A bare one passes unevaluated.
 pub fn check_side_condition(
-    kinds: &[u32],
-    ends: &[u32],
-    pool: &[u32],
-    z: Sizes,
+    job: &[u32],
     bound: &[u32],
     pairs: &[u32],
     globals: &[u32],
@@ -307,20 +289,17 @@ pub fn check_side_condition(
     memo: &mut [u32],
     i: u32,
 ) -> Condition
-    requires { ⌜ Ready (now kinds) (now ends) (now pool) z ⌝ }
+    requires { ⌜ Ready (now job) ⌝ }
     requires { ⌜ Stored (now skinds) (now sends) (now spool) fill ⌝ }
-    requires { ⌜ z .expressions + z .expressions < length (now memo) ⌝ }
+    requires { ⌜ sizesOf (now job) .expressions + sizesOf (now job) .expressions < length (now memo) ⌝ }
     requires { ⌜ Past (now memo) ⌝ }
-    requires { ⌜ i < z .facts ⌝ }
-    ensures { λ r. ⌜ Checks (now (skinds .entry)) (now (sends .entry)) (now (spool .entry)) fill (now (skinds .exit)) (now (sends .exit)) (now (spool .exit)) (r .fill) (r .refusal) (boundOver (r .binds) (bindingsIn (now (bound .entry)) (now (pairs .entry)) (now (globals .entry)))) (now (memo .exit)) (model.checkSideCondition (roomOf (now (skinds .entry)) (now (spool .entry))) (programFor (now (kinds .entry)) (now (ends .entry)) (now (pool .entry)) z) rule (bindingsIn (now (bound .entry)) (now (pairs .entry)) (now (globals .entry))) (factFor (now (kinds .entry)) (now (ends .entry)) (now (pool .entry)) z i) (termsIn (now (skinds .entry)) (now (sends .entry)) (now (spool .entry)) fill)) ⌝ }
+    requires { ⌜ i < sizesOf (now job) .facts ⌝ }
+    ensures { λ r. ⌜ Checks (now (skinds .entry)) (now (sends .entry)) (now (spool .entry)) fill (now (skinds .exit)) (now (sends .exit)) (now (spool .exit)) (r .fill) (r .refusal) (boundOver (r .binds) (bindingsIn (now (bound .entry)) (now (pairs .entry)) (now (globals .entry)))) (now (memo .exit)) (model.checkSideCondition (roomOf (now (skinds .entry)) (now (spool .entry))) (programFor (now (job .entry))) rule (bindingsIn (now (bound .entry)) (now (pairs .entry)) (now (globals .entry))) (factFor (now (job .entry)) i) (termsIn (now (skinds .entry)) (now (sends .entry)) (now (spool .entry)) fill)) ⌝ }
 {
-    let fact = fact_at(kinds, ends, pool, z, wide(i));
+    let fact = fact_at(job, wide(i));
     match fact {
         Fact::Equal(l, r) => check_equality_condition(
-            kinds,
-            ends,
-            pool,
-            z,
+            job,
             bound,
             pairs,
             globals,

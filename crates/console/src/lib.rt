@@ -1,6 +1,5 @@
 // Words from standard input and to standard output, for the programs.
 use load::bytes::words_of_bytes;
-ghost use mathlib.Core.Path.{_≡_};
 ghost use Prim.Native.Nat.{_≤_};
 ghost use lib.ListN.{length};
 

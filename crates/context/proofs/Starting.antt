@@ -7,6 +7,7 @@ use native.Mathlib.Omega.{arith}
 use native.Mathlib.Numerals.{add-one}
 use lib.ListN.{length, take, drop, drop-of-length-le}
 use lib.Seq.{drop-cons}
+use Rattle.model.specs.Layout.{sizesOf}
 use Rattle.model.specs.Term.{Term, Extends}
 use Rattle.model.specs.Program.{nameGlobalActions, Proposition, Binding, Program, Action, idle}
 use Rattle.model.specs.Decode.{readBindings, readProgram}
@@ -26,7 +27,6 @@ use Rattle.marks.specs.Covering.{Marks}
 use Rattle.marks.proofs.Marking.{marks-closed}
 use Rattle.termdag.proofs.Laws.{terms-length}
 use Rattle.load.specs.Held.{Limits}
-use Rattle.load.specs.declared.sizes.Sizes.{Sizes}
 use Rattle.program.specs.Ready.{programFor, optionOf}
 use Rattle.program.specs.Read.{actionFor}
 use Rattle.program.specs.declared.Looked.{Looked}
@@ -48,8 +48,8 @@ has σ ps = record { bindings = σ; pairs = ps }
 pub bound-is : (T : List ℕ) (at : ℕ) → bindingsIn (take (length T - at) (drop at T)) [] [] ≡ readBindings (drop at T)
 bound-is T at = append-nil (readBindings (take (length T - at) (drop at T))) ∙ ap readBindings (to-end at T)
 
-pub standing-as : {K E P : List ℕ} {z : Sizes} {σ τ : List Binding} {k e p : List ℕ} {f : Fill} {memo m : List ℕ} → σ ≡ τ → Standing K E P z σ k e p f memo m → Standing K E P z τ k e p f memo m
-standing-as {K} {E} {P} {z} {k = k} {e = e} {p = p} {f = f} {memo = memo} {m = m} q S = subst (λ (σ : List Binding). Standing K E P z σ k e p f memo m) q S
+pub standing-as : {J : List ℕ} {σ τ : List Binding} {k e p : List ℕ} {f : Fill} {memo m : List ℕ} → σ ≡ τ → Standing J σ k e p f memo m → Standing J τ k e p f memo m
+standing-as {J} {k = k} {e = e} {p = p} {f = f} {memo = memo} {m = m} q S = subst (λ (σ : List Binding). Standing J σ k e p f memo m) q S
 
 -- a refusal has no value
 does-refused : {A : Type 0} {K E P : List ℕ} {f : Fill} {K₁ E₁ P₁ : List ℕ} {f₁ : Fill} {r : Refusal} {a : A} {o : Outcome A} (b : A) → Does K E P f K₁ E₁ P₁ f₁ r a o → (r .number ≡ 0 → ⊥) → Does K E P f K₁ E₁ P₁ f₁ r b o
@@ -105,21 +105,21 @@ module _ {prog : Program} {a : Action} {σ : List Binding} {K E P : List ℕ} {f
       bindings = ap (effectBindings (r .effect)) q ∙ sym (p .bindings)
 
 -- the global actions from the i-th on
-pub globals-from : (K E P : List ℕ) (z : Sizes) (i : ℕ) → i < z .globals → drop i (programFor K E P z .globals) ≡ actionFor K E P z i ∷ drop (suc i) (programFor K E P z .globals)
+pub globals-from : (J : List ℕ) (i : ℕ) → i < sizesOf J .globals → drop i (programFor J .globals) ≡ actionFor J i ∷ drop (suc i) (programFor J .globals)
 unfolding readProgram
-globals-from K E P z i h =
-    let l = length-tabulate (z .globals) (actionFor K E P z) in
-    drop-cons (programFor K E P z .globals) i idle (omega arith)
-    ∙ ap {B = List Action} (λ (a : Action). a ∷ drop (suc i) (programFor K E P z .globals)) (getD-tabulate (z .globals) (actionFor K E P z) i idle h)
+globals-from J i h =
+    let l = length-tabulate (sizesOf J .globals) (actionFor J) in
+    drop-cons (programFor J .globals) i idle (omega arith)
+    ∙ ap {B = List Action} (λ (a : Action). a ∷ drop (suc i) (programFor J .globals)) (getD-tabulate (sizesOf J .globals) (actionFor J) i idle h)
 
-pub globals-end : (K E P : List ℕ) (z : Sizes) (i : ℕ) → z .globals ≤ i → drop i (programFor K E P z .globals) ≡ []
+pub globals-end : (J : List ℕ) (i : ℕ) → sizesOf J .globals ≤ i → drop i (programFor J .globals) ≡ []
 unfolding readProgram
-globals-end K E P z i h = let l = length-tabulate (z .globals) (actionFor K E P z) in drop-of-length-le (programFor K E P z .globals) {i = i} (omega arith)
+globals-end J i h = let l = length-tabulate (sizesOf J .globals) (actionFor J) in drop-of-length-le (programFor J .globals) {i = i} (omega arith)
 
 -- after i of the global actions
-module _ (K E P : List ℕ) (z : Sizes) where
+module _ (J : List ℕ) where
   abbrev prog : Program
-  prog = programFor K E P z
+  prog = programFor J
 
   abbrev runs : Room → List Action → ActionContext → Check ActionContext
   runs room as′ c s = processActions room prog nameGlobalActions as′ c s
@@ -134,10 +134,10 @@ module _ (K E P : List ℕ) (z : Sizes) where
 
   pub record Through (k₀ e₀ p₀ : List ℕ) (f₀ : Fill) (memo₀ m₀ k e p : List ℕ) (f : Fill) (memo m T : List ℕ) (at : ℕ) (U : List ℕ) (n i : ℕ) : Type 0 where
     pub pairs : List Proposition
-    pub upto : i ≤ z .globals
+    pub upto : i ≤ sizesOf J .globals
     pub grown : Grown k₀ e₀ p₀ f₀ k e p f
     pub run : runs (roomOf k₀ p₀) (drop i (prog .globals)) (has (readBindings (drop at T)) pairs) (termsIn k e p f) ≡ runs (roomOf k₀ p₀) (prog .globals) (startContext []) (termsIn k₀ e₀ p₀ f₀)
-    pub standing : Standing K E P z (readBindings (drop at T)) k e p f memo m
+    pub standing : Standing J (readBindings (drop at T)) k e p f memo m
     pub grows : Extends (termsIn k₀ e₀ p₀ f₀) (termsIn k e p f)
     pub marks : Marks (termsIn k e p f) m pairs
     pub others : (q : Proposition) → (q .lhs ≡ q .rhs → ⊥) → among q pairs ≡ unionsHave (take n U) q
@@ -150,7 +150,7 @@ module _ (K E P : List ℕ) (z : Sizes) where
     pub high : at ≤ 512
     pub few : n ≤ i + i
 
-  pub start : {k e p : List ℕ} {f : Fill} {memo m T U : List ℕ} → Standing K E P z [] k e p f memo m → Marks (termsIn k e p f) m [] → length T ≡ 512 → length U ≡ 512 → Through k e p f memo m k e p f memo m T 512 U 0 0
+  pub start : {k e p : List ℕ} {f : Fill} {memo m T U : List ℕ} → Standing J [] k e p f memo m → Marks (termsIn k e p f) m [] → length T ≡ 512 → length U ≡ 512 → Through k e p f memo m k e p f memo m T 512 U 0 0
   start {k} {e} {p} {f} {memo} {m} {T} {U} S w t u = record {
     pairs = [];
     upto = omega arith;
@@ -183,15 +183,15 @@ module _ (K E P : List ℕ) (z : Sizes) where
     abbrev later : List Action
     later = drop (suc i) (prog .globals)
 
-    module _ {k₁ e₁ p₁ : List ℕ} {r : Globals} {memo₁ m₁ T₁ U₁ : List ℕ} (h : i < z .globals) (t : Turned prog (actionFor K E P z i) k e p f m T at U n k₁ e₁ p₁ r memo₁ m₁ T₁ U₁) where
+    module _ {k₁ e₁ p₁ : List ℕ} {r : Globals} {memo₁ m₁ T₁ U₁ : List ℕ} (h : i < sizesOf J .globals) (t : Turned prog (actionFor J i) k e p f m T at U n k₁ e₁ p₁ r memo₁ m₁ T₁ U₁) where
       -- the next action, in the room that there was at the start, is the first of what remains
-      next : andThen (processAction (roomOf k p) prog nameGlobalActions (has σ (H .pairs)) (actionFor K E P z i) s) (runs (roomOf k₀ p₀) later) ≡ runs (roomOf k₀ p₀) (prog .globals) (startContext []) (termsIn k₀ e₀ p₀ f₀)
-      next = ap (λ (room : Room). andThen (processAction room prog nameGlobalActions (has σ (H .pairs)) (actionFor K E P z i) s) (runs (roomOf k₀ p₀) later)) (room-same (H .grown))
-          ∙ sym (run-one (roomOf k₀ p₀) (actionFor K E P z i) later (has σ (H .pairs)) s)
-          ∙ ap (λ (as′ : List Action). runs (roomOf k₀ p₀) as′ (has σ (H .pairs)) s) (sym (globals-from K E P z i h))
+      next : andThen (processAction (roomOf k p) prog nameGlobalActions (has σ (H .pairs)) (actionFor J i) s) (runs (roomOf k₀ p₀) later) ≡ runs (roomOf k₀ p₀) (prog .globals) (startContext []) (termsIn k₀ e₀ p₀ f₀)
+      next = ap (λ (room : Room). andThen (processAction room prog nameGlobalActions (has σ (H .pairs)) (actionFor J i) s) (runs (roomOf k₀ p₀) later)) (room-same (H .grown))
+          ∙ sym (run-one (roomOf k₀ p₀) (actionFor J i) later (has σ (H .pairs)) s)
+          ∙ ap (λ (as′ : List Action). runs (roomOf k₀ p₀) as′ (has σ (H .pairs)) s) (sym (globals-from J i h))
           ∙ H .run
 
-      pub stops : Limits z → (r .refusal .number ≡ 0 → ⊥) → Collected prog k₀ e₀ p₀ f₀ k₁ e₁ p₁ r memo₁ m₁ T₁ U₁
+      pub stops : Limits (sizesOf J) → (r .refusal .number ≡ 0 → ⊥) → Collected prog k₀ e₀ p₀ f₀ k₁ e₁ p₁ r memo₁ m₁ T₁ U₁
       stops w x = record {
         context = startContext [];
         does = does-after (H .grown) (does-stop (startContext []) (runs (roomOf k₀ p₀) later) (t .does (H .pairs)) x) next;
@@ -234,12 +234,12 @@ module _ (K E P : List ℕ) (z : Sizes) where
           after : ActionContext
           after = has (readBindings (drop (r .bindings) T₁)) (H .pairs ++ t .pairs)
 
-    pub finishes : Limits z → z .globals ≤ i → Collected prog k₀ e₀ p₀ f₀ k e p (globals passed at n f) memo m T U
+    pub finishes : Limits (sizesOf J) → sizesOf J .globals ≤ i → Collected prog k₀ e₀ p₀ f₀ k e p (globals passed at n f) memo m T U
     finishes w h = record {
       context = has σ (H .pairs);
       does = record {
         outcome = sym (run-none (roomOf k₀ p₀) (has σ (H .pairs)) s)
-            ∙ ap (λ (as′ : List Action). runs (roomOf k₀ p₀) as′ (has σ (H .pairs)) s) (sym (globals-end K E P z i h))
+            ∙ ap (λ (as′ : List Action). runs (roomOf k₀ p₀) as′ (has σ (H .pairs)) s) (sym (globals-end J i h))
             ∙ H .run;
         grown = H .grown;
       };

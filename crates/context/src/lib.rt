@@ -5,17 +5,18 @@ use actions::push_binding;
 use cells::Fill;
 use decode::Name;
 use decode::Proposition;
-use load::sizes::Sizes;
 use marks::clear;
 use marks::close;
 use marks::is_marked;
 use outcome::Refusal;
 use program::Looked;
 use program::duplicate_rule_name;
+use program::job::globals;
 ghost use mathlib.Core.Path.{_≡_};
 ghost use mathlib.Core.List.{List, []};
 ghost use Prim.Native.Nat.{_+_, _≤_, _<_};
 ghost use lib.ListN.{length, drop};
+ghost use Rattle.model.specs.Layout.{sizesOf};
 ghost use Rattle.model.specs.Program as model;
 ghost use Rattle.model.specs.Action.{among};
 ghost use Rattle.model.specs.Decode.{readBindings};
@@ -81,10 +82,7 @@ pub fn is_global_pair(unions: &[u32], marks: &[u32], q: Proposition) -> bool
 
 // Global action i, in the context that the table has from `at` on and the first n words of the unions.
 fn global_action(
-    kinds: &[u32],
-    ends: &[u32],
-    pool: &[u32],
-    z: Sizes,
+    job: &[u32],
     skinds: &mut [u32],
     sends: &mut [u32],
     spool: &mut [u32],
@@ -97,21 +95,18 @@ fn global_action(
     n: usize,
     i: u32,
 ) -> Globals
-    requires { ⌜ Standing (now kinds) (now ends) (now pool) z (readBindings (drop at (now table))) (now skinds) (now sends) (now spool) fill (now memo) (now marks) ⌝ }
-    requires { ⌜ i < z .actions ⌝ }
+    requires { ⌜ Standing (now job) (readBindings (drop at (now table))) (now skinds) (now sends) (now spool) fill (now memo) (now marks) ⌝ }
+    requires { ⌜ i < sizesOf (now job) .actions ⌝ }
     requires { ⌜ 2 ≤ at ⌝ }
     requires { ⌜ at ≤ length (now table) ⌝ }
     requires { ⌜ n + 2 ≤ length (now unions) ⌝ }
     requires { ⌜ Even n ⌝ }
-    ensures { λ r. ⌜ Turned (programFor (now (kinds .entry)) (now (ends .entry)) (now (pool .entry)) z) (actionFor (now (kinds .entry)) (now (ends .entry)) (now (pool .entry)) z i) (now (skinds .entry)) (now (sends .entry)) (now (spool .entry)) fill (now (marks .entry)) (now (table .entry)) at (now (unions .entry)) n (now (skinds .exit)) (now (sends .exit)) (now (spool .exit)) r (now (memo .exit)) (now (marks .exit)) (now (table .exit)) (now (unions .exit)) ⌝ }
+    ensures { λ r. ⌜ Turned (programFor (now (job .entry))) (actionFor (now (job .entry)) i) (now (skinds .entry)) (now (sends .entry)) (now (spool .entry)) fill (now (marks .entry)) (now (table .entry)) at (now (unions .entry)) n (now (skinds .exit)) (now (sends .exit)) (now (spool .exit)) r (now (memo .exit)) (now (marks .exit)) (now (table .exit)) (now (unions .exit)) ⌝ }
 {
     let rule = Name::GLOBAL_ACTIONS.number;
-    let none = &kinds[..0];
+    let none = &job[..0];
     let r = process_action(
-        kinds,
-        ends,
-        pool,
-        z,
+        job,
         &table[at..],
         none,
         none,
@@ -148,10 +143,7 @@ fn global_action(
 
 // The global actions, one after the other.
 fn global_actions(
-    kinds: &[u32],
-    ends: &[u32],
-    pool: &[u32],
-    z: Sizes,
+    job: &[u32],
     skinds: &mut [u32],
     sends: &mut [u32],
     spool: &mut [u32],
@@ -161,23 +153,20 @@ fn global_actions(
     table: &mut [u32],
     unions: &mut [u32],
 ) -> Globals
-    requires { ⌜ Standing (now kinds) (now ends) (now pool) z [] (now skinds) (now sends) (now spool) fill (now memo) (now marks) ⌝ }
+    requires { ⌜ Standing (now job) [] (now skinds) (now sends) (now spool) fill (now memo) (now marks) ⌝ }
     requires { ⌜ Marks (termsIn (now skinds) (now sends) (now spool) fill) (now marks) [] ⌝ }
     requires { ⌜ length (now table) ≡ 512 ⌝ }
     requires { ⌜ length (now unions) ≡ 512 ⌝ }
-    ensures { λ r. ⌜ Collected (programFor (now (kinds .entry)) (now (ends .entry)) (now (pool .entry)) z) (now (skinds .entry)) (now (sends .entry)) (now (spool .entry)) fill (now (skinds .exit)) (now (sends .exit)) (now (spool .exit)) r (now (memo .exit)) (now (marks .exit)) (now (table .exit)) (now (unions .exit)) ⌝ }
+    ensures { λ r. ⌜ Collected (programFor (now (job .entry))) (now (skinds .entry)) (now (sends .entry)) (now (spool .entry)) fill (now (skinds .exit)) (now (sends .exit)) (now (spool .exit)) r (now (memo .exit)) (now (marks .exit)) (now (table .exit)) (now (unions .exit)) ⌝ }
 {
-    let count = z.globals;
+    let count = globals(job);
     let mut have = fill;
     let mut at = 512;
     let mut n = 0;
     let mut i = 0;
     while i < count {
         let r = global_action(
-            kinds,
-            ends,
-            pool,
-            z,
+            job,
             skinds,
             sends,
             spool,
@@ -212,10 +201,7 @@ fn global_actions(
 
 // `ProofCheckContext::new`: no two rules of one name, the global actions, and their marks closed.
 pub fn new_context(
-    kinds: &[u32],
-    ends: &[u32],
-    pool: &[u32],
-    z: Sizes,
+    job: &[u32],
     skinds: &mut [u32],
     sends: &mut [u32],
     spool: &mut [u32],
@@ -225,12 +211,12 @@ pub fn new_context(
     table: &mut [u32],
     unions: &mut [u32],
 ) -> Globals
-    requires { ⌜ Standing (now kinds) (now ends) (now pool) z [] (now skinds) (now sends) (now spool) fill (now memo) (now marks) ⌝ }
+    requires { ⌜ Standing (now job) [] (now skinds) (now sends) (now spool) fill (now memo) (now marks) ⌝ }
     requires { ⌜ length (now table) ≡ 512 ⌝ }
     requires { ⌜ length (now unions) ≡ 512 ⌝ }
-    ensures { λ r. ⌜ Context (programFor (now (kinds .entry)) (now (ends .entry)) (now (pool .entry)) z) (now (skinds .entry)) (now (sends .entry)) (now (spool .entry)) fill (now (skinds .exit)) (now (sends .exit)) (now (spool .exit)) r (now (memo .exit)) (now (marks .exit)) (now (table .exit)) (now (unions .exit)) ⌝ }
+    ensures { λ r. ⌜ Context (programFor (now (job .entry))) (now (skinds .entry)) (now (sends .entry)) (now (spool .entry)) fill (now (skinds .exit)) (now (sends .exit)) (now (spool .exit)) r (now (memo .exit)) (now (marks .exit)) (now (table .exit)) (now (unions .exit)) ⌝ }
 {
-    let duplicate = duplicate_rule_name(kinds, ends, pool, z);
+    let duplicate = duplicate_rule_name(job);
     if let Looked::Some(name) = duplicate {
         return Globals {
             refusal: Refusal {
@@ -244,20 +230,7 @@ pub fn new_context(
         };
     }
     clear(marks);
-    let r = global_actions(
-        kinds,
-        ends,
-        pool,
-        z,
-        skinds,
-        sends,
-        spool,
-        fill,
-        memo,
-        marks,
-        table,
-        unions,
-    );
+    let r = global_actions(job, skinds, sends, spool, fill, memo, marks, table, unions);
     if r.refusal.number != 0 {
         return r;
     }

@@ -1,12 +1,12 @@
 // What a cell says: typed views of its kind and its words. Names, and what is named by number in a table, stay numbers.
 ghost use mathlib.Core.Path.{_≡_};
 ghost use mathlib.Core.List.{[], _∷_};
-ghost use Prim.Native.Nat.{ℕ, _+_, _*_, _≤_, _<_};
+ghost use Prim.Native.Nat.{ℕ, _+_, _≤_, _<_};
 ghost use lib.ListN.{length, getD, take, drop};
 ghost use Rattle.model.specs.Term.{readLiteral, readTerm};
 ghost use Rattle.model.specs.Program as program;
 ghost use Rattle.model.specs.Program.{nameOld, nameNew, nameGlobalActions, nameMergeFunction};
-ghost use Rattle.model.specs.Decode.{readHead, readArguments, readFact, readAction, readFunction, readPrimitive, readRow, readNormaliser, ruleFacts, ruleActions, readRule, readBindings, readProof};
+ghost use Rattle.model.specs.Decode.{readHead, readArguments, readFact, readAction, readFunction, readPrimitive, readRow, readNormaliser, ruleFacts, ruleActions, readRule, readProof};
 ghost use Rattle.decode.specs.View.{cell, literalOf, termOf, headOf, factOf, actionOf, functionOf, primitiveOf, rowOf, normaliserOf, propositionOf, rulePremises, rulePairs, Justifies};
 
 // A name, by the number that a job gives it.

@@ -9,7 +9,6 @@ use lib.ListN.{length, getD}
 use borrow.Author.Tests.{eq-eqb, ne-eqb}
 use Rattle.model.specs.Term.{Term}
 use Rattle.model.specs.Program.{Proposition}
-use Rattle.model.specs.Layout.{kindsOf, endsOf, poolOf}
 use Rattle.model.specs.Decode.{jobOf}
 use Rattle.model.specs.Load.{loadRefusal}
 use Rattle.model.specs.Walk.{checkProof}
@@ -22,7 +21,6 @@ use Rattle.termdag.proofs.Words.{store-words}
 use Rattle.outcome.specs.Does.{refusalOf, outcomeOf, Grown, Does}
 use Rattle.outcome.specs.declared.Refusal.{Refusal}
 use Rattle.outcome.proofs.Laws.{ok-of, refused-of}
-use Rattle.load.specs.declared.sizes.Sizes.{Sizes}
 use Rattle.program.specs.Ready.{programFor}
 use Rattle.program.specs.Read.{proofsFor}
 use Rattle.prepare.specs.declared.Prepared.{Prepared}
@@ -30,7 +28,7 @@ use Rattle.prepare.specs.Prepares.{arraysOf, refusalBy, Started, Prepares}
 use Rattle.prepare.proofs.Jobs.{job-program, job-proofs}
 
 -- the store at the end holds its terms, over what was lent
-pub grown-stored : {ws K E P K₁ E₁ P₁ : List ℕ} {z : Sizes} {f : Fill} {K₂ E₂ P₂ : List ℕ} {g : Fill} → Started ws K E P K₁ E₁ P₁ z f → Grown K₁ E₁ P₁ f K₂ E₂ P₂ g
+pub grown-stored : {ws K E P K₁ E₁ P₁ : List ℕ} {f : Fill} {K₂ E₂ P₂ : List ℕ} {g : Fill} → Started ws K E P K₁ E₁ P₁ f → Grown K₁ E₁ P₁ f K₂ E₂ P₂ g
     → arraysOf K₂ E₂ P₂ ≡ stored (termsIn K₂ E₂ P₂ g) (arraysOf K E P)
 grown-stored {K = K} {E = E} {P = P} {K₁ = K₁} {E₁ = E₁} {P₁ = P₁} {f = f} {g = g} S G =
     store-words (arraysOf K E P) (G .stored)
@@ -77,15 +75,14 @@ module _ {ws : List ℕ} {asked : ℕ} {K E P : List ℕ} {scratch : ℕ} {K₁ 
         ∙ sym (entry-check ws asked (arraysOf K E P) scratch answer eight)
 
     module _ {K₂ E₂ P₂ : List ℕ} {g : Fill} {r : Refusal} {q : Proposition} (n : p .refusal .number ≡ 0)
-        (D : Does K₁ E₁ P₁ (p .fill) K₂ E₂ P₂ g r q (checkProof (roomOf K₁ P₁) (programFor (kindsOf ws) (endsOf ws) (poolOf ws) (p .z)) (proofsFor (kindsOf ws) (endsOf ws) (poolOf ws) (p .z)) asked (termsIn K₁ E₁ P₁ (p .fill)))) where
+        (D : Does K₁ E₁ P₁ (p .fill) K₂ E₂ P₂ g r q (checkProof (roomOf K₁ P₁) (programFor ws) (proofsFor ws) asked (termsIn K₁ E₁ P₁ (p .fill)))) where
       abbrev s : List Term
       s = termsIn K₂ E₂ P₂ g
 
       job-outcome : outcomeOf r q s ≡ checkProof (record { cells = length K; words = length P }) (jobOf ws .program) (jobOf ws .proofs) asked (jobOf ws .terms)
       job-outcome =
           let T = S .started n in
-          let z = T .whole .sizes in
-          D .outcome ∙ (λ i. checkProof (record { cells = T .lenK i; words = T .lenP i }) (job-program ws (p .z) z i) (job-proofs ws (p .z) z i) asked (T .terms i))
+          D .outcome ∙ (λ i. checkProof (record { cells = T .lenK i; words = T .lenP i }) (job-program ws i) (job-proofs ws i) asked (T .terms i))
 
       entry-outcome : checkedBy (jobOf ws .proofs) asked (arraysOf K E P) (outcomeOf r q s) ≡ entry ws asked (arraysOf K E P) scratch answer
       unfolding check checked
@@ -98,9 +95,9 @@ module _ {ws : List ℕ} {asked : ℕ} {K E P : List ℕ} {scratch : ℕ} {K₁ 
       over-lent = sym (grown-stored (S .started n) (D .grown))
 
       -- the proof passes
-      pub entry-passed : r .number ≡ 0 → left (0 ∷ g .cells ∷ q .lhs ∷ q .rhs ∷ height (proofsFor (kindsOf ws) (endsOf ws) (poolOf ws) (p .z)) asked ∷ 0 ∷ 0 ∷ 0 ∷ []) (arraysOf K₂ E₂ P₂) ≡ entry ws asked (arraysOf K E P) scratch answer
+      pub entry-passed : r .number ≡ 0 → left (0 ∷ g .cells ∷ q .lhs ∷ q .rhs ∷ height (proofsFor ws) asked ∷ 0 ∷ 0 ∷ 0 ∷ []) (arraysOf K₂ E₂ P₂) ≡ entry ws asked (arraysOf K E P) scratch answer
       entry-passed h =
-          (λ i. left (0 ∷ sym (terms-length K₂ E₂ P₂ g) i ∷ q .lhs ∷ q .rhs ∷ height (job-proofs ws (p .z) (S .started n .whole .sizes) i) asked ∷ 0 ∷ 0 ∷ 0 ∷ []) (sym over-lent i))
+          (λ i. left (0 ∷ sym (terms-length K₂ E₂ P₂ g) i ∷ q .lhs ∷ q .rhs ∷ height (job-proofs ws i) asked ∷ 0 ∷ 0 ∷ 0 ∷ []) (sym over-lent i))
           ∙ ap (checkedBy (jobOf ws .proofs) asked (arraysOf K E P)) (sym (ok-of r q s h))
           ∙ entry-outcome
 

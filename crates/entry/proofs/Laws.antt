@@ -6,7 +6,7 @@ use native.Mathlib.Omega.{arith}
 use lib.ListN.{length, getD}
 use Rattle.model.specs.Term.{readTerm, Extends}
 use Rattle.model.specs.Program.{Proof}
-use Rattle.model.specs.Layout.{Tables, kindsOf, endsOf, poolOf}
+use Rattle.model.specs.Layout.{sizesOf, tablesOf}
 use Rattle.model.specs.Decode.{readJob}
 use Rattle.model.specs.Walk.{claimAt, checkProof}
 use Rattle.model.specs.Answer.{height, refusalWords, left, entry}
@@ -17,13 +17,10 @@ use Rattle.termdag.specs.Store.{termsIn, roomOf}
 use Rattle.outcome.specs.Does.{refusalOf, Does}
 use Rattle.outcome.specs.declared.Refusal.{Refusal}
 use Rattle.answer.specs.Answers.{passedWords}
-use Rattle.load.specs.Held.{tablesFor}
-use Rattle.load.specs.declared.sizes.Sizes.{Sizes}
-use Rattle.program.specs.Ready.{Ready, programFor}
+use Rattle.program.specs.Ready.{Ready, tablesFor, programFor}
 use Rattle.program.specs.Read.{proofsFor, ClaimAt}
 use Rattle.prepare.specs.declared.Prepared.{Prepared}
-use Rattle.prepare.specs.Prepares.{arraysOf, Whole, Prepares}
-use Rattle.prepare.proofs.Jobs.{tables-for}
+use Rattle.prepare.specs.Prepares.{arraysOf, Prepares}
 use Rattle.entry.proofs.Ending.{left-by, entry-refused, entry-passed, entry-stopped}
 use Rattle.check_proof.specs.Checking.{Given}
 use Rattle.entry.specs.Told.{toldBy, toldWords}
@@ -37,11 +34,11 @@ told-refusal r terms proofs p h w = w ∙ go (r .number) h
     go zero l = absurd (l refl)
     go (suc n) l = refl
 
-pub told-passed : {A K E P : List ℕ} {z : Sizes} {p : ℕ} {q : Proposition} (r : Refusal) (terms h : ℕ) → r .number ≡ 0 → ClaimAt K E P z p q → h ≡ height (proofsFor K E P z) p
-    → A ≡ passedWords terms (q .lhs) (q .rhs) h → A ≡ toldWords r terms (proofsFor K E P z) p
+pub told-passed : {A J : List ℕ} {p : ℕ} {q : Proposition} (r : Refusal) (terms h : ℕ) → r .number ≡ 0 → ClaimAt J p q → h ≡ height (proofsFor J) p
+    → A ≡ passedWords terms (q .lhs) (q .rhs) h → A ≡ toldWords r terms (proofsFor J) p
 unfolding toldWords
-told-passed {K = K} {E = E} {P = P} {z = z} {p = p} r terms h n C e w =
-    w ∙ (λ i. passedWords terms (C .is i .lhs) (C .is i .rhs) (e i)) ∙ ap (λ (m : ℕ). toldBy m r terms (proofsFor K E P z) p) (sym n)
+told-passed {J = J} {p = p} r terms h n C e w =
+    w ∙ (λ i. passedWords terms (C .is i .lhs) (C .is i .rhs) (e i)) ∙ ap (λ (m : ℕ). toldBy m r terms (proofsFor J) p) (sym n)
 
 module _ {ws : List ℕ} {asked : ℕ} {K E P : List ℕ} {scratch : ℕ} {K₁ E₁ P₁ : List ℕ} {p : Prepared} (S : Prepares ws asked K E P scratch K₁ E₁ P₁ p) where
   -- below 20
@@ -50,56 +47,44 @@ module _ {ws : List ℕ} {asked : ℕ} {K E P : List ℕ} {scratch : ℕ} {K₁ 
   refuses answer eight h w f = left-by (arraysOf K₁ E₁ P₁) w f ∙ entry-refused S answer eight h
 
   module _ (n : p .refusal .number ≡ 0) where
-    pub whole : Whole ws (p .z)
-    whole = S .started n .whole
+    terms-first : Extends (map readTerm (tablesFor ws .terms)) (termsIn K₁ E₁ P₁ (p .fill))
+    unfolding readJob tablesOf
+    terms-first = subst (Extends (map readTerm (tablesFor ws .terms))) (sym (S .started n .terms)) extends-same
 
-    terms-first : Extends (map readTerm (tablesFor (kindsOf ws) (endsOf ws) (poolOf ws) (p .z) .terms)) (termsIn K₁ E₁ P₁ (p .fill))
-    unfolding readJob
-    terms-first = subst (Extends (map readTerm (tablesFor (kindsOf ws) (endsOf ws) (poolOf ws) (p .z) .terms)))
-        (ap (λ (t : Tables). map readTerm (t .terms)) (tables-for ws (p .z) (whole .sizes)) ∙ sym (S .started n .terms)) extends-same
+    pub job-asked : asked < sizesOf ws .proofs
+    job-asked = S .there n
 
-    module _ {JK JE JP : List ℕ} (k : JK ≡ kindsOf ws) (e : JE ≡ endsOf ws) (l : JP ≡ poolOf ws) where
-      by-parts : (B : List ℕ → List ℕ → List ℕ → Type 0) → B (kindsOf ws) (endsOf ws) (poolOf ws) → B JK JE JP
-      by-parts B b = subst (λ (x : List ℕ × List ℕ × List ℕ). B (x .0) (x .1) (x .2)) (λ i. (sym k i, sym e i, sym l i)) b
+    -- what the check of the proof is handed
+    pub job-given : {W : List ℕ} → length W ≡ scratch → Given ws K₁ E₁ P₁ (p .fill) W
+    job-given {W} long =
+        let T = S .started n in
+        let h = S .enough n in
+        record {
+          ready = T .ready;
+          stored = T .stored;
+          sane = T .sane;
+          terms = terms-first;
+          long = let m = T .lenK in omega arith;
+        }
 
-      pub job-ready : Ready JK JE JP (p .z)
-      job-ready = by-parts (λ a b c. Ready a b c (p .z)) (S .started n .ready)
+    pub job-ready : Ready ws
+    job-ready = S .started n .ready
 
-      -- what the check of the proof is handed
-      pub job-given : {W : List ℕ} → length W ≡ scratch → Given JK JE JP (p .z) K₁ E₁ P₁ (p .fill) W
-      job-given {W} long =
-          let T = S .started n in
-          by-parts (λ a b c. Given a b c (p .z) K₁ E₁ P₁ (p .fill) W) (record {
-            ready = T .ready;
-            stored = T .stored;
-            sane = T .sane;
-            terms = terms-first;
-            long = let h = S .enough n in let m = T .lenK in omega arith;
-          })
+    module _ {K₂ E₂ P₂ : List ℕ} {g : Fill} {r : Refusal}
+        (D : Does K₁ E₁ P₁ (p .fill) K₂ E₂ P₂ g r (claimAt (proofsFor ws) asked) (checkProof (roomOf K₁ P₁) (programFor ws) (proofsFor ws) asked (termsIn K₁ E₁ P₁ (p .fill)))) where
+      -- the terms at the end are few
+      pub terms-word : g .cells < 2 ^ 32
+      terms-word = let F = D .grown .stored .formed in let a = F .kinds in let b = F .few in omega arith
 
-      module _ {K₂ E₂ P₂ : List ℕ} {g : Fill} {r : Refusal}
-          (D : Does K₁ E₁ P₁ (p .fill) K₂ E₂ P₂ g r (claimAt (proofsFor JK JE JP (p .z)) asked) (checkProof (roomOf K₁ P₁) (programFor JK JE JP (p .z)) (proofsFor JK JE JP (p .z)) asked (termsIn K₁ E₁ P₁ (p .fill)))) where
-        -- the terms at the end are few
-        pub terms-word : g .cells < 2 ^ 32
-        terms-word = let F = D .grown .stored .formed in let a = F .kinds in let b = F .few in omega arith
+      -- from 20 on, and what passes
+      told : (answer : List ℕ) → length answer ≡ 8 → left (toldWords r (g .cells) (proofsFor ws) asked) (arraysOf K₂ E₂ P₂) ≡ entry ws asked (arraysOf K E P) scratch answer
+      unfolding toldWords
+      told answer eight = go (r .number) refl
+        where
+          go : (m : ℕ) → r .number ≡ m → left (toldBy m r (g .cells) (proofsFor ws) asked) (arraysOf K₂ E₂ P₂) ≡ entry ws asked (arraysOf K E P) scratch answer
+          go zero h = entry-passed S answer eight n D h
+          go (suc m) h = entry-stopped S answer eight n D (λ o. let q : suc m ≡ 0 = sym h ∙ o in omega arith)
 
-        abbrev jobProofs : List Proof
-        jobProofs = proofsFor (kindsOf ws) (endsOf ws) (poolOf ws) (p .z)
-
-        job-does : Does K₁ E₁ P₁ (p .fill) K₂ E₂ P₂ g r (claimAt jobProofs asked) (checkProof (roomOf K₁ P₁) (programFor (kindsOf ws) (endsOf ws) (poolOf ws) (p .z)) jobProofs asked (termsIn K₁ E₁ P₁ (p .fill)))
-        job-does = subst (λ (x : List ℕ × List ℕ × List ℕ). Does K₁ E₁ P₁ (p .fill) K₂ E₂ P₂ g r (claimAt (proofsFor (x .0) (x .1) (x .2) (p .z)) asked) (checkProof (roomOf K₁ P₁) (programFor (x .0) (x .1) (x .2) (p .z)) (proofsFor (x .0) (x .1) (x .2) (p .z)) asked (termsIn K₁ E₁ P₁ (p .fill))))
-            (λ i. (k i, e i, l i)) D
-
-        -- from 20 on, and what passes
-        told : (answer : List ℕ) → length answer ≡ 8 → left (toldWords r (g .cells) jobProofs asked) (arraysOf K₂ E₂ P₂) ≡ entry ws asked (arraysOf K E P) scratch answer
-        unfolding toldWords
-        told answer eight = go (r .number) refl
-          where
-            go : (m : ℕ) → r .number ≡ m → left (toldBy m r (g .cells) jobProofs asked) (arraysOf K₂ E₂ P₂) ≡ entry ws asked (arraysOf K E P) scratch answer
-            go zero h = entry-passed S answer eight n job-does h
-            go (suc m) h = entry-stopped S answer eight n job-does (λ o. let q : suc m ≡ 0 = sym h ∙ o in omega arith)
-
-        pub tells : {x d : ℕ} {A : List ℕ} (answer : List ℕ) → length answer ≡ 8 → d ≡ asked → A ≡ toldWords r (g .cells) (proofsFor JK JE JP (p .z)) d → x ≡ getD A 0 0
-            → record { number = x; answer = A; arrays = arraysOf K₂ E₂ P₂ } ≡ entry ws asked (arraysOf K E P) scratch answer
-        tells answer eight q w f =
-            left-by (arraysOf K₂ E₂ P₂) (w ∙ (λ i. toldWords r (g .cells) (proofsFor (k i) (e i) (l i) (p .z)) (q i))) f ∙ told answer eight
+      pub tells : {x d : ℕ} {A : List ℕ} (answer : List ℕ) → length answer ≡ 8 → d ≡ asked → A ≡ toldWords r (g .cells) (proofsFor ws) d → x ≡ getD A 0 0
+          → record { number = x; answer = A; arrays = arraysOf K₂ E₂ P₂ } ≡ entry ws asked (arraysOf K E P) scratch answer
+      tells answer eight q w f = left-by (arraysOf K₂ E₂ P₂) (w ∙ ap (toldWords r (g .cells) (proofsFor ws)) q) f ∙ told answer eight

@@ -4,36 +4,25 @@ use answer::write_refusal;
 use cells::wide;
 use check_proof::check_proof;
 use height::height;
-use load::sizes::Sizes;
 use outcome::Checked;
-use prepare::job_ends;
-use prepare::job_kinds;
-use prepare::job_pool;
 use prepare::prepare;
 use program::read::claim_at;
 ghost use mathlib.Core.Path.{_≡_};
 ghost use Prim.Native.Nat.{_<_, _^_};
 ghost use lib.ListN.{length, getD};
+ghost use Rattle.model.specs.Layout.{sizesOf};
 ghost use Rattle.model.specs.Answer.{entry};
 ghost use Rattle.program.specs.Ready.{Ready};
 ghost use Rattle.program.specs.Read.{proofsFor};
 ghost use Rattle.entry.specs.Told.{toldWords};
 
 // Writes what the check of the asked proof gave, and gives its number.
-fn tell(
-    kinds: &[u32],
-    ends: &[u32],
-    pool: &[u32],
-    z: Sizes,
-    asked: usize,
-    r: Checked,
-    answer: &mut [u32],
-) -> u32
-    requires { ⌜ Ready (now kinds) (now ends) (now pool) z ⌝ }
-    requires { ⌜ asked < z .proofs ⌝ }
+fn tell(job: &[u32], asked: usize, r: Checked, answer: &mut [u32]) -> u32
+    requires { ⌜ Ready (now job) ⌝ }
+    requires { ⌜ asked < sizesOf (now job) .proofs ⌝ }
     requires { ⌜ length (now answer) ≡ 8 ⌝ }
     requires { ⌜ r .fill .cells < 2 ^ 32 ⌝ }
-    ensures is { λ x. ⌜ now (answer .exit) ≡ toldWords (r .refusal) (r .fill .cells) (proofsFor (now (kinds .entry)) (now (ends .entry)) (now (pool .entry)) z) asked ⌝ }
+    ensures is { λ x. ⌜ now (answer .exit) ≡ toldWords (r .refusal) (r .fill .cells) (proofsFor (now (job .entry))) asked ⌝ }
     ensures first { λ x. ⌜ x ≡ getD (now (answer .exit)) 0 0 ⌝ }
 {
     let terms = r.fill.cells;
@@ -41,15 +30,15 @@ fn tell(
         let refusal = r.refusal;
         return write_refusal(answer, refusal, terms);
     }
-    let q = claim_at(kinds, ends, pool, z, asked);
-    let h = height(kinds, ends, pool, z, asked);
+    let q = claim_at(job, asked);
+    let h = height(job, asked);
     write_passed(answer, terms, q.lhs, q.rhs, h)
 }
 
 // The check of a job's words for an asked proof: the number returned, the answer and the lent arrays are as the definition says, for all inputs.
 // What a returned 0 means, demand 3, is stated and proved in proofs/Sound.
 pub fn check(
-    words: &[u32],
+    job: &[u32],
     asked: u32,
     kinds: &mut [u32],
     ends: &mut [u32],
@@ -57,32 +46,17 @@ pub fn check(
     scratch: &mut [u32],
     answer: &mut [u32],
 ) -> u32
-    ensures { λ r. ⌜ record { number = r; answer = now (answer .exit); arrays = record { kinds = now (kinds .exit); ends = now (ends .exit); pool = now (pool .exit) } } ≡ entry (now (words .entry)) asked (record { kinds = now (kinds .entry); ends = now (ends .entry); pool = now (pool .entry) }) (length (now (scratch .entry))) (now (answer .entry)) ⌝ }
+    ensures { λ r. ⌜ record { number = r; answer = now (answer .exit); arrays = record { kinds = now (kinds .exit); ends = now (ends .exit); pool = now (pool .exit) } } ≡ entry (now (job .entry)) asked (record { kinds = now (kinds .entry); ends = now (ends .entry); pool = now (pool .entry) }) (length (now (scratch .entry))) (now (answer .entry)) ⌝ }
 {
     if answer.len() != 8 {
         return 10;
     }
-    let p = prepare(words, asked, kinds, ends, pool, scratch.len());
+    let p = prepare(job, asked, kinds, ends, pool, scratch.len());
     if p.refusal.number != 0 {
         let refusal = p.refusal;
         return write_refusal(answer, refusal, 0);
     }
-    let z = p.z;
     let fill = p.fill;
-    let jkinds = job_kinds(words, z);
-    let jends = job_ends(words, z);
-    let jpool = job_pool(words, z);
-    let r = check_proof(
-        jkinds,
-        jends,
-        jpool,
-        z,
-        kinds,
-        ends,
-        pool,
-        fill,
-        scratch,
-        asked,
-    );
-    tell(jkinds, jends, jpool, z, wide(asked), r, answer)
+    let r = check_proof(job, kinds, ends, pool, fill, scratch, asked);
+    tell(job, wide(asked), r, answer)
 }

@@ -9,6 +9,7 @@ use native.Mathlib.Omega.{arith}
 use lib.Dec.{eqb}
 use borrow.Author.Tests.{eqb-true, eqb-false}
 use lib.ListN.{length, getD, set, take, length-set}
+use Rattle.model.specs.Layout.{sizesOf}
 use Rattle.model.specs.Term.{Term, Extends}
 use Rattle.model.specs.Program.{Head, Expr, node, Binding, Program}
 use Rattle.model.specs.Decode.{argumentsBy}
@@ -25,9 +26,7 @@ use Rattle.outcome.specs.declared.Checked.{Checked}
 use Rattle.outcome.proofs.Laws.{ok-of, room-same, does-here}
 use Rattle.model.proofs.Fuel.{expr-node}
 use Rattle.model.proofs.Valid.{expressions-lower}
-use Rattle.load.specs.Held.{sizesIn, tablesFor}
-use Rattle.load.specs.declared.sizes.Sizes.{Sizes}
-use Rattle.program.specs.Ready.{Ready, programFor}
+use Rattle.program.specs.Ready.{tablesFor, Ready, programFor}
 use Rattle.program.specs.Read.{exprFor, argumentsFor, headFor}
 use Rattle.evaluate.specs.Value.{evalFor, valueFor, headTerm, evalTerm, evalTerms, Reaches, here, down}
 use Rattle.evaluate.specs.Evaluation.{Memo, Noted, Evaluates, EvaluatesRoot}
@@ -210,8 +209,8 @@ module _ (fact : Bool) (prog : Program) (rule : ℕ) (σ : List Binding) (n : �
       })
 
 -- an expression of an admitted job is its head over its arguments
-pub node-for : {K E P : List ℕ} {z : Sizes} → Ready K E P z → (e : ℕ) → exprFor K E P z e ≡ node e (headFor K E P z e) (argumentsBy (exprFor K E P z) (argumentsFor K E P z e))
-node-for {K} {E} {P} {z} R e = expr-node (tablesFor K E P z .expressions) (expressions-lower (sizesIn z) (tablesFor K E P z) (R .admitted)) e
+pub node-for : {J : List ℕ} → Ready J → (e : ℕ) → exprFor J e ≡ node e (headFor J e) (argumentsBy (exprFor J) (argumentsFor J e))
+node-for {J} R e = expr-node (tablesFor J .expressions) (expressions-lower (sizesOf J) (tablesFor J) (R .admitted)) e
 
 -- the head that was read
 pub at-head : (fact : Bool) (room : Room) (prog : Program) (rule : ℕ) (σ : List Binding) (ts : List ℕ) (s : List Term) {g h : Head}
@@ -229,13 +228,13 @@ root-memo {m = m} l S = record {
   closed = λ k a h p w. absurd (true≢false (sym p ∙ S .none k));
 }
 
-module _ (fact : Bool) (K E P : List ℕ) (z : Sizes) (rule : ℕ) (σ : List Binding) where
-  value-is : (room : Room) (e : ℕ) (s : List Term) → evalFor fact K E P z rule σ room e s ≡ valueFor fact K E P z rule σ room e s
-  value-is room e s = sym (value-term fact room (programFor K E P z) rule σ (exprFor K E P z e) s)
+module _ (fact : Bool) (J : List ℕ) (rule : ℕ) (σ : List Binding) where
+  value-is : (room : Room) (e : ℕ) (s : List Term) → evalFor fact J rule σ room e s ≡ valueFor fact J rule σ room e s
+  value-is room e s = sym (value-term fact room (programFor J) rule σ (exprFor J e) s)
 
-  pub root-done : {e : ℕ} {k e′ p : List ℕ} {f : Fill} {m k′ e″ p′ : List ℕ} {c : Checked} {m′ : List ℕ} → Ready K E P z → e < z .expressions → Started m
-      → Evaluates (argumentsFor K E P z) (evalFor fact K E P z rule σ) (z .expressions) e k e′ p f m k′ e″ p′ c m′
-      → EvaluatesRoot (argumentsFor K E P z) (valueFor fact K E P z rule σ) (z .expressions) e k e′ p f k′ e″ p′ c m′
+  pub root-done : {e : ℕ} {k e′ p : List ℕ} {f : Fill} {m k′ e″ p′ : List ℕ} {c : Checked} {m′ : List ℕ} → Ready J → e < sizesOf J .expressions → Started m
+      → Evaluates (argumentsFor J) (evalFor fact J rule σ) (sizesOf J .expressions) e k e′ p f m k′ e″ p′ c m′
+      → EvaluatesRoot (argumentsFor J) (valueFor fact J rule σ) (sizesOf J .expressions) e k e′ p f k′ e″ p′ c m′
   root-done {e} {k} {e′} {p} {f} {m} {k′} {e″} {p′} {c} {m′} R h S d = record {
     does = subst (Does k e′ p f k′ e″ p′ (c .fill) (c .refusal) (c .value)) (value-is (roomOf k p) e (termsIn k e′ p f)) (d .does);
     past = λ q. d .memo q .past;
@@ -244,12 +243,12 @@ module _ (fact : Bool) (K E P : List ℕ) (z : Sizes) (rule : ℕ) (σ : List Bi
     only = λ q j l u. fresh j (d .noted q .only j l u);
   }
     where
-      fresh : (j : ℕ) → (isNoted m j ≡ true) ⊎ Reaches (argumentsFor K E P z) j e → Reaches (argumentsFor K E P z) j e
+      fresh : (j : ℕ) → (isNoted m j ≡ true) ⊎ Reaches (argumentsFor J) j e → Reaches (argumentsFor J) j e
       fresh j (inl u) = absurd (true≢false (sym u ∙ S .none j))
       fresh j (inr r) = r
 
-      reach : c .refusal .number ≡ 0 → (a : ℕ) → a < z .expressions → isNoted m′ a ≡ true → (j : ℕ) → Reaches (argumentsFor K E P z) j a → isNoted m′ j ≡ true
+      reach : c .refusal .number ≡ 0 → (a : ℕ) → a < sizesOf J .expressions → isNoted m′ a ≡ true → (j : ℕ) → Reaches (argumentsFor J) j a → isNoted m′ j ≡ true
       reach q a l u j (here i) = subst (λ (x : ℕ). isNoted m′ x ≡ true) (sym i) u
       reach q a l u j (down {a = b} w r) =
-          let v = expressions-lower (sizesIn z) (tablesFor K E P z) (R .admitted) a b w in
+          let v = expressions-lower (sizesOf J) (tablesFor J) (R .admitted) a b w in
           reach q b (omega arith) (d .memo q .closed a b l u w) j r

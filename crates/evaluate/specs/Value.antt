@@ -10,7 +10,6 @@ use Rattle.model.specs.Check.{Outcome, ok, refused, Check, _>>=_, pure, refuse,
 use Rattle.model.specs.Evaluate.{lookup, validated, Value, evalExpr, evalFactExpr}
 use Rattle.program.specs.Ready.{programFor}
 use Rattle.program.specs.Read.{exprFor}
-use Rattle.load.specs.declared.sizes.Sizes.{Sizes}
 
 -- A value's term alone.
 abbrev pub termOutcome : Outcome Value → Outcome ℕ
@@ -49,11 +48,11 @@ abbrev pub bindingsIn : List ℕ → List ℕ → List ℕ → List Binding
 bindingsIn B S G = readBindings B ++ (readBindings S ++ readBindings G)
 
 -- The value of expression e, by the code's definition and by the definitions of the two evaluators.
-abbrev pub evalFor : Bool → List ℕ → List ℕ → List ℕ → Sizes → ℕ → List Binding → Room → ℕ → Check ℕ
-evalFor fact K E P z rule σ room e = evalTerm fact room (programFor K E P z) rule σ (exprFor K E P z e)
+abbrev pub evalFor : Bool → List ℕ → ℕ → List Binding → Room → ℕ → Check ℕ
+evalFor fact J rule σ room e = evalTerm fact room (programFor J) rule σ (exprFor J e)
 
-abbrev pub valueFor : Bool → List ℕ → List ℕ → List ℕ → Sizes → ℕ → List Binding → Room → ℕ → Check ℕ
-valueFor fact K E P z rule σ room e = valueOf fact room (programFor K E P z) rule σ (exprFor K E P z e)
+abbrev pub valueFor : Bool → List ℕ → ℕ → List Binding → Room → ℕ → Check ℕ
+valueFor fact J rule σ room e = valueOf fact room (programFor J) rule σ (exprFor J e)
 
 -- k is e or stands below it.
 pub data Reaches (args : ℕ → List ℕ) (k : ℕ) : ℕ → Type 0 where

@@ -3,7 +3,6 @@
 use cells::Fill;
 use cells::wide;
 use decode::Head;
-use load::sizes::Sizes;
 use outcome::Checked;
 use outcome::add_app;
 use outcome::add_lit;
@@ -20,7 +19,8 @@ ghost use mathlib.Core.Path.{_≡_};
 ghost use mathlib.Core.List.{List, [], _∷_};
 ghost use mathlib.Core.Bool.{cond};
 ghost use Prim.Native.Nat.{ℕ, _+_, _≤_, _<_};
-ghost use lib.ListN.{length, getD};
+ghost use lib.ListN.{length};
+ghost use Rattle.model.specs.Layout.{sizesOf};
 ghost use Rattle.model.specs.Term.{Term};
 ghost use Rattle.model.specs.Check.{orRefuse};
 ghost use Rattle.model.specs.Evaluate.{lookup, validate, validated};
@@ -31,7 +31,7 @@ ghost use Rattle.decode.specs.declared.Head as heads;
 ghost use Rattle.memo.specs.Memo.{Past};
 ghost use Rattle.outcome.specs.Does.{passed, outcomeOf, Does};
 ghost use Rattle.program.specs.Read.{argumentsFor};
-ghost use Rattle.evaluate.specs.Value.{valueOf, customTerm, headTerm, evalTerm, bindingsIn, evalFor, valueFor};
+ghost use Rattle.evaluate.specs.Value.{customTerm, headTerm, bindingsIn, evalFor, valueFor};
 ghost use Rattle.evaluate.specs.Evaluation.{Memo, Evaluates, EvaluatesRoot};
 
 // What a validator gives, and the fill of the store.
@@ -57,10 +57,7 @@ pub fn lookup(bound: &[u32], pairs: &[u32], globals: &[u32], name: u32) -> Looke
 
 // A primitive's validator. It is lent the store, though it looks rows up alone.
 pub fn validate(
-    kinds: &[u32],
-    ends: &[u32],
-    pool: &[u32],
-    z: Sizes,
+    job: &[u32],
     skinds: &mut [u32],
     sends: &mut [u32],
     spool: &mut [u32],
@@ -68,20 +65,17 @@ pub fn validate(
     p: u32,
     args: &[u32],
 ) -> Validation
-    requires { ⌜ Ready (now kinds) (now ends) (now pool) z ⌝ }
+    requires { ⌜ Ready (now job) ⌝ }
     requires { ⌜ Stored (now skinds) (now sends) (now spool) fill ⌝ }
-    ensures { λ r. ⌜ Does (now (skinds .entry)) (now (sends .entry)) (now (spool .entry)) fill (now (skinds .exit)) (now (sends .exit)) (now (spool .exit)) (r .fill) passed (optionOf (r .value)) (validate (programFor (now (kinds .entry)) (now (ends .entry)) (now (pool .entry)) z) p (now (args .entry)) (termsIn (now (skinds .entry)) (now (sends .entry)) (now (spool .entry)) fill)) ⌝ }
+    ensures { λ r. ⌜ Does (now (skinds .entry)) (now (sends .entry)) (now (spool .entry)) fill (now (skinds .exit)) (now (sends .exit)) (now (spool .exit)) (r .fill) passed (optionOf (r .value)) (validate (programFor (now (job .entry))) p (now (args .entry)) (termsIn (now (skinds .entry)) (now (sends .entry)) (now (spool .entry)) fill)) ⌝ }
 {
-    let value = row_value(kinds, ends, pool, z, p, args);
+    let value = row_value(job, p, args);
     Validation { value, fill }
 }
 
 // A primitive's value: refusal n where it has no validator, 46 where the validator gives nothing.
 fn validated(
-    kinds: &[u32],
-    ends: &[u32],
-    pool: &[u32],
-    z: Sizes,
+    job: &[u32],
     n: u32,
     skinds: &mut [u32],
     sends: &mut [u32],
@@ -90,17 +84,17 @@ fn validated(
     p: u32,
     args: &[u32],
 ) -> Checked
-    requires { ⌜ Ready (now kinds) (now ends) (now pool) z ⌝ }
+    requires { ⌜ Ready (now job) ⌝ }
     requires { ⌜ Stored (now skinds) (now sends) (now spool) fill ⌝ }
-    requires { ⌜ p < z .primitives ⌝ }
+    requires { ⌜ p < sizesOf (now job) .primitives ⌝ }
     requires { ⌜ 0 < n ⌝ }
-    ensures { λ r. ⌜ Does (now (skinds .entry)) (now (sends .entry)) (now (spool .entry)) fill (now (skinds .exit)) (now (sends .exit)) (now (spool .exit)) (r .fill) (r .refusal) (r .value) (validated (programFor (now (kinds .entry)) (now (ends .entry)) (now (pool .entry)) z) n p (now (args .entry)) (termsIn (now (skinds .entry)) (now (sends .entry)) (now (spool .entry)) fill)) ⌝ }
+    ensures { λ r. ⌜ Does (now (skinds .entry)) (now (sends .entry)) (now (spool .entry)) fill (now (skinds .exit)) (now (sends .exit)) (now (spool .exit)) (r .fill) (r .refusal) (r .value) (validated (programFor (now (job .entry))) n p (now (args .entry)) (termsIn (now (skinds .entry)) (now (sends .entry)) (now (spool .entry)) fill)) ⌝ }
 {
-    let primitive = primitive_at(kinds, ends, pool, z, wide(p));
+    let primitive = primitive_at(job, wide(p));
     if !primitive.validator {
         return refuse1(n, primitive.name, fill);
     }
-    let v = validate(kinds, ends, pool, z, skinds, sends, spool, fill, p, args);
+    let v = validate(job, skinds, sends, spool, fill, p, args);
     let value = v.value;
     match value {
         Looked::Some(t) => pass(t, v.fill),
@@ -156,10 +150,7 @@ fn custom_value(
 
 // The value of an expression from its head and its arguments' values. The term near is looked at first.
 pub fn head_value(
-    kinds: &[u32],
-    ends: &[u32],
-    pool: &[u32],
-    z: Sizes,
+    job: &[u32],
     bound: &[u32],
     pairs: &[u32],
     globals: &[u32],
@@ -173,11 +164,11 @@ pub fn head_value(
     head: Head,
     args: &[u32],
 ) -> Checked
-    requires { ⌜ Ready (now kinds) (now ends) (now pool) z ⌝ }
+    requires { ⌜ Ready (now job) ⌝ }
     requires { ⌜ Stored (now skinds) (now sends) (now spool) fill ⌝ }
     requires { ⌜ length (now args) ≤ 16 ⌝ }
-    requires { ⌜ ((p : ℕ) → head ≡ heads.Head.Primitive p → p < z .primitives) ⌝ }
-    ensures { λ r. ⌜ Does (now (skinds .entry)) (now (sends .entry)) (now (spool .entry)) fill (now (skinds .exit)) (now (sends .exit)) (now (spool .exit)) (r .fill) (r .refusal) (r .value) (headTerm fact (roomOf (now (skinds .entry)) (now (spool .entry))) (programFor (now (kinds .entry)) (now (ends .entry)) (now (pool .entry)) z) rule (bindingsIn (now (bound .entry)) (now (pairs .entry)) (now (globals .entry))) (headOf head) (now (args .entry)) (termsIn (now (skinds .entry)) (now (sends .entry)) (now (spool .entry)) fill)) ⌝ }
+    requires { ⌜ ((p : ℕ) → head ≡ heads.Head.Primitive p → p < sizesOf (now job) .primitives) ⌝ }
+    ensures { λ r. ⌜ Does (now (skinds .entry)) (now (sends .entry)) (now (spool .entry)) fill (now (skinds .exit)) (now (sends .exit)) (now (spool .exit)) (r .fill) (r .refusal) (r .value) (headTerm fact (roomOf (now (skinds .entry)) (now (spool .entry))) (programFor (now (job .entry))) rule (bindingsIn (now (bound .entry)) (now (pairs .entry)) (now (globals .entry))) (headOf head) (now (args .entry)) (termsIn (now (skinds .entry)) (now (sends .entry)) (now (spool .entry)) fill)) ⌝ }
 {
     match head {
         Head::Lit(l) => add_lit(skinds, sends, spool, fill, near, l),
@@ -186,17 +177,14 @@ pub fn head_value(
         Head::Custom(f) => custom_value(fact, skinds, sends, spool, fill, near, f, args),
         Head::Primitive(p) => {
             let n = no_validator(fact);
-            validated(kinds, ends, pool, z, n, skinds, sends, spool, fill, p, args)
+            validated(job, n, skinds, sends, spool, fill, p, args)
         }
     }
 }
 
 // The value of expression e, noted. One that is noted is not evaluated again; the term that it was in an earlier round is looked at first.
 fn eval(
-    kinds: &[u32],
-    ends: &[u32],
-    pool: &[u32],
-    z: Sizes,
+    job: &[u32],
     bound: &[u32],
     pairs: &[u32],
     globals: &[u32],
@@ -209,27 +197,24 @@ fn eval(
     memo: &mut [u32],
     e: u32,
 ) -> Checked
-    requires { ⌜ Ready (now kinds) (now ends) (now pool) z ⌝ }
+    requires { ⌜ Ready (now job) ⌝ }
     requires { ⌜ Stored (now skinds) (now sends) (now spool) fill ⌝ }
-    requires { ⌜ e < z .expressions ⌝ }
-    requires { ⌜ Memo (argumentsFor (now kinds) (now ends) (now pool) z) (evalFor fact (now kinds) (now ends) (now pool) z rule (bindingsIn (now bound) (now pairs) (now globals)) (roomOf (now skinds) (now spool))) (z .expressions) (termsIn (now skinds) (now sends) (now spool) fill) (now memo) ⌝ }
-    ensures { λ r. ⌜ Evaluates (argumentsFor (now (kinds .entry)) (now (ends .entry)) (now (pool .entry)) z) (evalFor fact (now (kinds .entry)) (now (ends .entry)) (now (pool .entry)) z rule (bindingsIn (now (bound .entry)) (now (pairs .entry)) (now (globals .entry)))) (z .expressions) e (now (skinds .entry)) (now (sends .entry)) (now (spool .entry)) fill (now (memo .entry)) (now (skinds .exit)) (now (sends .exit)) (now (spool .exit)) r (now (memo .exit)) ⌝ }
+    requires { ⌜ e < sizesOf (now job) .expressions ⌝ }
+    requires { ⌜ Memo (argumentsFor (now job)) (evalFor fact (now job) rule (bindingsIn (now bound) (now pairs) (now globals)) (roomOf (now skinds) (now spool))) (sizesOf (now job) .expressions) (termsIn (now skinds) (now sends) (now spool) fill) (now memo) ⌝ }
+    ensures { λ r. ⌜ Evaluates (argumentsFor (now (job .entry))) (evalFor fact (now (job .entry)) rule (bindingsIn (now (bound .entry)) (now (pairs .entry)) (now (globals .entry)))) (sizesOf (now (job .entry)) .expressions) e (now (skinds .entry)) (now (sends .entry)) (now (spool .entry)) fill (now (memo .entry)) (now (skinds .exit)) (now (sends .exit)) (now (spool .exit)) r (now (memo .exit)) ⌝ }
 {
     let at = wide(e);
     if memo::is_noted(memo, at) {
         return pass(memo::value_of(memo, at), fill);
     }
-    let args = arguments_at(kinds, ends, pool, z, at);
+    let args = arguments_at(job, at);
     let count = args.len();
     let mut vals = [0u32; 16];
     let mut have = fill;
     let mut i = 0;
     while i < count {
         let r = eval(
-            kinds,
-            ends,
-            pool,
-            z,
+            job,
             bound,
             pairs,
             globals,
@@ -249,13 +234,10 @@ fn eval(
         have = r.fill;
         i += 1;
     }
-    let head = head_at(kinds, ends, pool, z, at);
+    let head = head_at(job, at);
     let near = memo::value_of(memo, at);
     let r = head_value(
-        kinds,
-        ends,
-        pool,
-        z,
+        job,
         bound,
         pairs,
         globals,
@@ -275,10 +257,7 @@ fn eval(
 
 // The value of expression e: in an ordinary fact, or elsewhere.
 pub fn evaluate(
-    kinds: &[u32],
-    ends: &[u32],
-    pool: &[u32],
-    z: Sizes,
+    job: &[u32],
     bound: &[u32],
     pairs: &[u32],
     globals: &[u32],
@@ -291,19 +270,16 @@ pub fn evaluate(
     memo: &mut [u32],
     e: u32,
 ) -> Checked
-    requires { ⌜ Ready (now kinds) (now ends) (now pool) z ⌝ }
+    requires { ⌜ Ready (now job) ⌝ }
     requires { ⌜ Stored (now skinds) (now sends) (now spool) fill ⌝ }
-    requires { ⌜ e < z .expressions ⌝ }
-    requires { ⌜ z .expressions + z .expressions < length (now memo) ⌝ }
+    requires { ⌜ e < sizesOf (now job) .expressions ⌝ }
+    requires { ⌜ sizesOf (now job) .expressions + sizesOf (now job) .expressions < length (now memo) ⌝ }
     requires { ⌜ Past (now memo) ⌝ }
-    ensures { λ r. ⌜ EvaluatesRoot (argumentsFor (now (kinds .entry)) (now (ends .entry)) (now (pool .entry)) z) (valueFor fact (now (kinds .entry)) (now (ends .entry)) (now (pool .entry)) z rule (bindingsIn (now (bound .entry)) (now (pairs .entry)) (now (globals .entry)))) (z .expressions) e (now (skinds .entry)) (now (sends .entry)) (now (spool .entry)) fill (now (skinds .exit)) (now (sends .exit)) (now (spool .exit)) r (now (memo .exit)) ⌝ }
+    ensures { λ r. ⌜ EvaluatesRoot (argumentsFor (now (job .entry))) (valueFor fact (now (job .entry)) rule (bindingsIn (now (bound .entry)) (now (pairs .entry)) (now (globals .entry)))) (sizesOf (now (job .entry)) .expressions) e (now (skinds .entry)) (now (sends .entry)) (now (spool .entry)) fill (now (skinds .exit)) (now (sends .exit)) (now (spool .exit)) r (now (memo .exit)) ⌝ }
 {
     memo::new_round(memo);
     eval(
-        kinds,
-        ends,
-        pool,
-        z,
+        job,
         bound,
         pairs,
         globals,

@@ -23,7 +23,6 @@ use Rattle.outcome.specs.Does.{passed, outcomeOf, Does}
 use Rattle.outcome.specs.declared.Refusal.{Refusal}
 use Rattle.outcome.specs.declared.Checked.{Checked}
 use Rattle.outcome.proofs.Laws.{does-here, does-map}
-use Rattle.load.specs.declared.sizes.Sizes.{Sizes}
 use Rattle.program.specs.Ready.{programFor, optionOf}
 use Rattle.program.specs.declared.Looked.{Looked}
 use Rattle.program.specs.Read.{exprFor, argumentsFor}
@@ -45,12 +44,12 @@ then-pure (ok a s) = refl
 then-pure (refused r s) = refl
 
 -- the arguments of a call, one after the other
-module _ (K E P : List ℕ) (z : Sizes) (rule : ℕ) (σ : List Binding) where
+module _ (J : List ℕ) (rule : ℕ) (σ : List Binding) where
   abbrev value : Room → ℕ → Check ℕ
-  value = valueFor true K E P z rule σ
+  value = valueFor true J rule σ
 
   abbrev values : Room → List ℕ → Check (List ℕ)
-  values room xs = evalFactExprs room (programFor K E P z) rule σ (argumentsBy (exprFor K E P z) xs)
+  values room xs = evalFactExprs room (programFor J) rule σ (argumentsBy (exprFor J) xs)
 
   values-each : (room : Room) (xs : List ℕ) (s : List Term) → each (value room) xs s ≡ values room xs s
   unfolding evalFactExprs valueOf
@@ -58,12 +57,12 @@ module _ (K E P : List ℕ) (z : Sizes) (rule : ℕ) (σ : List Binding) where
 
   -- after i of them, whose numbers are xs
   pub record Turn (e : ℕ) (xs K₀ E₀ P₀ : List ℕ) (f₀ : Fill) (m₀ v₀ K₁ E₁ P₁ : List ℕ) (f₁ : Fill) (m vals : List ℕ) (i : ℕ) : Type 0 where
-    pub run : Run value (λ room. pure) xs K₀ E₀ P₀ f₀ K₁ E₁ P₁ f₁ vals i (values (roomOf K₀ P₀) (argumentsFor K E P z e) (termsIn K₀ E₀ P₀ f₀))
+    pub run : Run value (λ room. pure) xs K₀ E₀ P₀ f₀ K₁ E₁ P₁ f₁ vals i (values (roomOf K₀ P₀) (argumentsFor J e) (termsIn K₀ E₀ P₀ f₀))
     pub past : Past m
     pub lenM : length m ≡ length m₀
     pub lenV : length vals ≡ length v₀
 
-  pub arguments-start : {e : ℕ} {xs K₀ E₀ P₀ : List ℕ} {f₀ : Fill} {m v : List ℕ} → xs ≡ argumentsFor K E P z e → Stored K₀ E₀ P₀ f₀ → Past m → Turn e xs K₀ E₀ P₀ f₀ m v K₀ E₀ P₀ f₀ m v 0
+  pub arguments-start : {e : ℕ} {xs K₀ E₀ P₀ : List ℕ} {f₀ : Fill} {m v : List ℕ} → xs ≡ argumentsFor J e → Stored K₀ E₀ P₀ f₀ → Past m → Turn e xs K₀ E₀ P₀ f₀ m v K₀ E₀ P₀ f₀ m v 0
   arguments-start {e} {xs} {K₀} {E₀} {P₀} {f₀} q S p = record {
     run = run-start S (then-pure (each (value (roomOf K₀ P₀)) xs (termsIn K₀ E₀ P₀ f₀)) ∙ values-each (roomOf K₀ P₀) xs (termsIn K₀ E₀ P₀ f₀)
         ∙ ap (λ (ys : List ℕ). values (roomOf K₀ P₀) ys (termsIn K₀ E₀ P₀ f₀)) q);
@@ -74,7 +73,7 @@ module _ (K E P : List ℕ) (z : Sizes) (rule : ℕ) (σ : List Binding) where
 
   module _ {e : ℕ} {xs K₀ E₀ P₀ : List ℕ} {f₀ : Fill} {m₀ v₀ K₁ E₁ P₁ : List ℕ} {f₁ : Fill} {m vals : List ℕ} {i : ℕ} (T : Turn e xs K₀ E₀ P₀ f₀ m₀ v₀ K₁ E₁ P₁ f₁ m vals i) where
     abbrev whole : Outcome (List ℕ)
-    whole = values (roomOf K₀ P₀) (argumentsFor K E P z e) (termsIn K₀ E₀ P₀ f₀)
+    whole = values (roomOf K₀ P₀) (argumentsFor J e) (termsIn K₀ E₀ P₀ f₀)
 
     module _ {args : ℕ → List ℕ} {n : ℕ} {K₂ E₂ P₂ : List ℕ} {c : Checked} {m₂ : List ℕ} (h : i < length xs)
         (d : EvaluatesRoot args value n (getD xs i 0) K₁ E₁ P₁ f₁ K₂ E₂ P₂ c m₂) where
@@ -89,10 +88,10 @@ module _ (K E P : List ℕ) (z : Sizes) (rule : ℕ) (σ : List Binding) where
         lenV = length-set vals i (c .value) ∙ T .lenV;
       }
 
-    pub arguments-done : {c : Checked} → xs ≡ argumentsFor K E P z e → length xs ≤ i → c ≡ record { refusal = passed; value = 0; fill = f₁ }
-        → Checks K₀ E₀ P₀ f₀ K₁ E₁ P₁ (c .fill) (c .refusal) (take (length (argumentsFor K E P z e)) vals) m whole
+    pub arguments-done : {c : Checked} → xs ≡ argumentsFor J e → length xs ≤ i → c ≡ record { refusal = passed; value = 0; fill = f₁ }
+        → Checks K₀ E₀ P₀ f₀ K₁ E₁ P₁ (c .fill) (c .refusal) (take (length (argumentsFor J e)) vals) m whole
     arguments-done q h g =
-        subst (λ (x : Checked). Checks K₀ E₀ P₀ f₀ K₁ E₁ P₁ (x .fill) (x .refusal) (take (length (argumentsFor K E P z e)) vals) m whole) (sym g)
+        subst (λ (x : Checked). Checks K₀ E₀ P₀ f₀ K₁ E₁ P₁ (x .fill) (x .refusal) (take (length (argumentsFor J e)) vals) m whole) (sym g)
         (subst (λ (ys : List ℕ). Checks K₀ E₀ P₀ f₀ K₁ E₁ P₁ f₁ passed (take (length ys) vals) m whole) q
         (checks-does (T .past) (run-done (T .run) h (does-here (T .run .grown .stored) refl))))
 

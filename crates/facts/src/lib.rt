@@ -5,7 +5,6 @@ use decode::Fact;
 use decode::Head;
 use decode::Proposition;
 use evaluate::evaluate;
-use load::sizes::Sizes;
 use normal_form::variable_of;
 use outcome::Checked;
 use outcome::Refusal;
@@ -21,6 +20,7 @@ ghost use mathlib.Core.Option.{none, some};
 ghost use Prim.Native.Nat.{_+_, _<_};
 ghost use lib.Dec.{eqb};
 ghost use lib.ListN.{length, take};
+ghost use Rattle.model.specs.Layout.{sizesOf};
 ghost use Rattle.model.specs.Term.{Term};
 ghost use Rattle.model.specs.Program.{Expr, equal, bare};
 ghost use Rattle.model.specs.Decode.{argumentsBy};
@@ -50,12 +50,12 @@ pub enum FunctionCall {
 }
 
 // The function that expression e calls, if it is a custom call.
-fn custom_of(kinds: &[u32], ends: &[u32], pool: &[u32], z: Sizes, e: u32) -> Looked
-    requires { ⌜ Ready (now kinds) (now ends) (now pool) z ⌝ }
-    requires { ⌜ e < z .expressions ⌝ }
-    ensures { λ r. ⌜ optionOf r ≡ model.customOf (model.headOf (exprFor (now (kinds .entry)) (now (ends .entry)) (now (pool .entry)) z e)) ⌝ }
+fn custom_of(job: &[u32], e: u32) -> Looked
+    requires { ⌜ Ready (now job) ⌝ }
+    requires { ⌜ e < sizesOf (now job) .expressions ⌝ }
+    ensures { λ r. ⌜ optionOf r ≡ model.customOf (model.headOf (exprFor (now (job .entry)) e)) ⌝ }
 {
-    let head = head_at(kinds, ends, pool, z, wide(e));
+    let head = head_at(job, wide(e));
     match head {
         Head::Lit(_) => Looked::None,
         Head::Var(_) => Looked::None,
@@ -67,10 +67,7 @@ fn custom_of(kinds: &[u32], ends: &[u32], pool: &[u32], z: Sizes, e: u32) -> Loo
 
 // The values of the arguments of expression e in an ordinary fact, written into `values`.
 fn evaluate_arguments(
-    kinds: &[u32],
-    ends: &[u32],
-    pool: &[u32],
-    z: Sizes,
+    job: &[u32],
     bound: &[u32],
     pairs: &[u32],
     globals: &[u32],
@@ -83,24 +80,21 @@ fn evaluate_arguments(
     e: u32,
     values: &mut [u32],
 ) -> Checked
-    requires { ⌜ Ready (now kinds) (now ends) (now pool) z ⌝ }
+    requires { ⌜ Ready (now job) ⌝ }
     requires { ⌜ Stored (now skinds) (now sends) (now spool) fill ⌝ }
-    requires { ⌜ z .expressions + z .expressions < length (now memo) ⌝ }
+    requires { ⌜ sizesOf (now job) .expressions + sizesOf (now job) .expressions < length (now memo) ⌝ }
     requires { ⌜ Past (now memo) ⌝ }
-    requires { ⌜ e < z .expressions ⌝ }
+    requires { ⌜ e < sizesOf (now job) .expressions ⌝ }
     requires { ⌜ 16 < length (now values) ⌝ }
-    ensures { λ r. ⌜ Checks (now (skinds .entry)) (now (sends .entry)) (now (spool .entry)) fill (now (skinds .exit)) (now (sends .exit)) (now (spool .exit)) (r .fill) (r .refusal) (take (length (argumentsFor (now (kinds .entry)) (now (ends .entry)) (now (pool .entry)) z e)) (now (values .exit))) (now (memo .exit)) (evalFactExprs (roomOf (now (skinds .entry)) (now (spool .entry))) (programFor (now (kinds .entry)) (now (ends .entry)) (now (pool .entry)) z) rule (bindingsIn (now (bound .entry)) (now (pairs .entry)) (now (globals .entry))) (argumentsBy (exprFor (now (kinds .entry)) (now (ends .entry)) (now (pool .entry)) z) (argumentsFor (now (kinds .entry)) (now (ends .entry)) (now (pool .entry)) z e)) (termsIn (now (skinds .entry)) (now (sends .entry)) (now (spool .entry)) fill)) ⌝ }
+    ensures { λ r. ⌜ Checks (now (skinds .entry)) (now (sends .entry)) (now (spool .entry)) fill (now (skinds .exit)) (now (sends .exit)) (now (spool .exit)) (r .fill) (r .refusal) (take (length (argumentsFor (now (job .entry)) e)) (now (values .exit))) (now (memo .exit)) (evalFactExprs (roomOf (now (skinds .entry)) (now (spool .entry))) (programFor (now (job .entry))) rule (bindingsIn (now (bound .entry)) (now (pairs .entry)) (now (globals .entry))) (argumentsBy (exprFor (now (job .entry))) (argumentsFor (now (job .entry)) e)) (termsIn (now (skinds .entry)) (now (sends .entry)) (now (spool .entry)) fill)) ⌝ }
 {
-    let args = arguments_at(kinds, ends, pool, z, wide(e));
+    let args = arguments_at(job, wide(e));
     let count = args.len();
     let mut have = fill;
     let mut i = 0;
     while i < count {
         let r = evaluate(
-            kinds,
-            ends,
-            pool,
-            z,
+            job,
             bound,
             pairs,
             globals,
@@ -138,10 +132,7 @@ fn asks(c: Checked, lhs: u32, rhs: u32) -> Asked
 
 // What a function fact asks for: the call, the variable's value appended, equal to itself.
 fn wanted_call(
-    kinds: &[u32],
-    ends: &[u32],
-    pool: &[u32],
-    z: Sizes,
+    job: &[u32],
     bound: &[u32],
     pairs: &[u32],
     globals: &[u32],
@@ -155,12 +146,12 @@ fn wanted_call(
     function: u32,
     variable: u32,
 ) -> Asked
-    requires { ⌜ Ready (now kinds) (now ends) (now pool) z ⌝ }
+    requires { ⌜ Ready (now job) ⌝ }
     requires { ⌜ Stored (now skinds) (now sends) (now spool) fill ⌝ }
-    requires { ⌜ z .expressions + z .expressions < length (now memo) ⌝ }
+    requires { ⌜ sizesOf (now job) .expressions + sizesOf (now job) .expressions < length (now memo) ⌝ }
     requires { ⌜ Past (now memo) ⌝ }
-    requires { ⌜ e < z .expressions ⌝ }
-    ensures { λ r. ⌜ ((right : Expr) → Checks (now (skinds .entry)) (now (sends .entry)) (now (spool .entry)) fill (now (skinds .exit)) (now (sends .exit)) (now (spool .exit)) (r .fill) (r .refusal) (propositionOf (r .pair)) (now (memo .exit)) (model.wantedEquality (roomOf (now (skinds .entry)) (now (spool .entry))) (programFor (now (kinds .entry)) (now (ends .entry)) (now (pool .entry)) z) rule (bindingsIn (now (bound .entry)) (now (pairs .entry)) (now (globals .entry))) (exprFor (now (kinds .entry)) (now (ends .entry)) (now (pool .entry)) z e) right (some (record { function = function; variable = variable })) (termsIn (now (skinds .entry)) (now (sends .entry)) (now (spool .entry)) fill))) ⌝ }
+    requires { ⌜ e < sizesOf (now job) .expressions ⌝ }
+    ensures { λ r. ⌜ ((right : Expr) → Checks (now (skinds .entry)) (now (sends .entry)) (now (spool .entry)) fill (now (skinds .exit)) (now (sends .exit)) (now (spool .exit)) (r .fill) (r .refusal) (propositionOf (r .pair)) (now (memo .exit)) (model.wantedEquality (roomOf (now (skinds .entry)) (now (spool .entry))) (programFor (now (job .entry))) rule (bindingsIn (now (bound .entry)) (now (pairs .entry)) (now (globals .entry))) (exprFor (now (job .entry)) e) right (some (record { function = function; variable = variable })) (termsIn (now (skinds .entry)) (now (sends .entry)) (now (spool .entry)) fill))) ⌝ }
 {
     let v = evaluate::variable(bound, pairs, globals, rule, variable, fill);
     if v.refusal.number != 0 {
@@ -168,10 +159,7 @@ fn wanted_call(
     }
     let mut values = [0u32; 17];
     let r = evaluate_arguments(
-        kinds,
-        ends,
-        pool,
-        z,
+        job,
         bound,
         pairs,
         globals,
@@ -187,7 +175,7 @@ fn wanted_call(
     if r.refusal.number != 0 {
         return asks(r, 0, 0);
     }
-    let count = arguments_at(kinds, ends, pool, z, wide(e)).len();
+    let count = arguments_at(job, wide(e)).len();
     values[count] = v.value;
     let end = count + 1;
     let t = add_app(skinds, sends, spool, r.fill, 0, function, &values[..end]);
@@ -196,10 +184,7 @@ fn wanted_call(
 
 // What an equality asks for that is no function fact: the values of its sides.
 fn wanted_values(
-    kinds: &[u32],
-    ends: &[u32],
-    pool: &[u32],
-    z: Sizes,
+    job: &[u32],
     bound: &[u32],
     pairs: &[u32],
     globals: &[u32],
@@ -212,19 +197,16 @@ fn wanted_values(
     left: u32,
     right: u32,
 ) -> Asked
-    requires { ⌜ Ready (now kinds) (now ends) (now pool) z ⌝ }
+    requires { ⌜ Ready (now job) ⌝ }
     requires { ⌜ Stored (now skinds) (now sends) (now spool) fill ⌝ }
-    requires { ⌜ z .expressions + z .expressions < length (now memo) ⌝ }
+    requires { ⌜ sizesOf (now job) .expressions + sizesOf (now job) .expressions < length (now memo) ⌝ }
     requires { ⌜ Past (now memo) ⌝ }
-    requires { ⌜ left < z .expressions ⌝ }
-    requires { ⌜ right < z .expressions ⌝ }
-    ensures { λ r. ⌜ Checks (now (skinds .entry)) (now (sends .entry)) (now (spool .entry)) fill (now (skinds .exit)) (now (sends .exit)) (now (spool .exit)) (r .fill) (r .refusal) (propositionOf (r .pair)) (now (memo .exit)) (model.wantedEquality (roomOf (now (skinds .entry)) (now (spool .entry))) (programFor (now (kinds .entry)) (now (ends .entry)) (now (pool .entry)) z) rule (bindingsIn (now (bound .entry)) (now (pairs .entry)) (now (globals .entry))) (exprFor (now (kinds .entry)) (now (ends .entry)) (now (pool .entry)) z left) (exprFor (now (kinds .entry)) (now (ends .entry)) (now (pool .entry)) z right) none (termsIn (now (skinds .entry)) (now (sends .entry)) (now (spool .entry)) fill)) ⌝ }
+    requires { ⌜ left < sizesOf (now job) .expressions ⌝ }
+    requires { ⌜ right < sizesOf (now job) .expressions ⌝ }
+    ensures { λ r. ⌜ Checks (now (skinds .entry)) (now (sends .entry)) (now (spool .entry)) fill (now (skinds .exit)) (now (sends .exit)) (now (spool .exit)) (r .fill) (r .refusal) (propositionOf (r .pair)) (now (memo .exit)) (model.wantedEquality (roomOf (now (skinds .entry)) (now (spool .entry))) (programFor (now (job .entry))) rule (bindingsIn (now (bound .entry)) (now (pairs .entry)) (now (globals .entry))) (exprFor (now (job .entry)) left) (exprFor (now (job .entry)) right) none (termsIn (now (skinds .entry)) (now (sends .entry)) (now (spool .entry)) fill)) ⌝ }
 {
     let a = evaluate(
-        kinds,
-        ends,
-        pool,
-        z,
+        job,
         bound,
         pairs,
         globals,
@@ -241,10 +223,7 @@ fn wanted_values(
         return asks(a, 0, 0);
     }
     let b = evaluate(
-        kinds,
-        ends,
-        pool,
-        z,
+        job,
         bound,
         pairs,
         globals,
@@ -262,10 +241,7 @@ fn wanted_values(
 
 // What a bare fact asks for: its value, equal to itself.
 fn wanted_bare(
-    kinds: &[u32],
-    ends: &[u32],
-    pool: &[u32],
-    z: Sizes,
+    job: &[u32],
     bound: &[u32],
     pairs: &[u32],
     globals: &[u32],
@@ -278,18 +254,15 @@ fn wanted_bare(
     i: u32,
     e: u32,
 ) -> Asked
-    requires { ⌜ Ready (now kinds) (now ends) (now pool) z ⌝ }
+    requires { ⌜ Ready (now job) ⌝ }
     requires { ⌜ Stored (now skinds) (now sends) (now spool) fill ⌝ }
-    requires { ⌜ z .expressions + z .expressions < length (now memo) ⌝ }
+    requires { ⌜ sizesOf (now job) .expressions + sizesOf (now job) .expressions < length (now memo) ⌝ }
     requires { ⌜ Past (now memo) ⌝ }
-    requires { ⌜ e < z .expressions ⌝ }
-    ensures { λ r. ⌜ Checks (now (skinds .entry)) (now (sends .entry)) (now (spool .entry)) fill (now (skinds .exit)) (now (sends .exit)) (now (spool .exit)) (r .fill) (r .refusal) (propositionOf (r .pair)) (now (memo .exit)) (model.wanted (roomOf (now (skinds .entry)) (now (spool .entry))) (programFor (now (kinds .entry)) (now (ends .entry)) (now (pool .entry)) z) rule (bindingsIn (now (bound .entry)) (now (pairs .entry)) (now (globals .entry))) (bare i (exprFor (now (kinds .entry)) (now (ends .entry)) (now (pool .entry)) z e)) (termsIn (now (skinds .entry)) (now (sends .entry)) (now (spool .entry)) fill)) ⌝ }
+    requires { ⌜ e < sizesOf (now job) .expressions ⌝ }
+    ensures { λ r. ⌜ Checks (now (skinds .entry)) (now (sends .entry)) (now (spool .entry)) fill (now (skinds .exit)) (now (sends .exit)) (now (spool .exit)) (r .fill) (r .refusal) (propositionOf (r .pair)) (now (memo .exit)) (model.wanted (roomOf (now (skinds .entry)) (now (spool .entry))) (programFor (now (job .entry))) rule (bindingsIn (now (bound .entry)) (now (pairs .entry)) (now (globals .entry))) (bare i (exprFor (now (job .entry)) e)) (termsIn (now (skinds .entry)) (now (sends .entry)) (now (spool .entry)) fill)) ⌝ }
 {
     let t = evaluate(
-        kinds,
-        ends,
-        pool,
-        z,
+        job,
         bound,
         pairs,
         globals,
@@ -306,24 +279,17 @@ fn wanted_bare(
 }
 
 // The function fact that an equality is, if it is one.
-fn function_fact(
-    kinds: &[u32],
-    ends: &[u32],
-    pool: &[u32],
-    z: Sizes,
-    left: u32,
-    right: u32,
-) -> FunctionCall
-    requires { ⌜ Ready (now kinds) (now ends) (now pool) z ⌝ }
-    requires { ⌜ left < z .expressions ⌝ }
-    requires { ⌜ right < z .expressions ⌝ }
-    ensures { λ r. ⌜ functionFactOf r ≡ model.functionFact (exprFor (now (kinds .entry)) (now (ends .entry)) (now (pool .entry)) z left) (exprFor (now (kinds .entry)) (now (ends .entry)) (now (pool .entry)) z right) ⌝ }
+fn function_fact(job: &[u32], left: u32, right: u32) -> FunctionCall
+    requires { ⌜ Ready (now job) ⌝ }
+    requires { ⌜ left < sizesOf (now job) .expressions ⌝ }
+    requires { ⌜ right < sizesOf (now job) .expressions ⌝ }
+    ensures { λ r. ⌜ functionFactOf r ≡ model.functionFact (exprFor (now (job .entry)) left) (exprFor (now (job .entry)) right) ⌝ }
 {
-    let custom = custom_of(kinds, ends, pool, z, left);
+    let custom = custom_of(job, left);
     let Looked::Some(f) = custom else {
         return FunctionCall::No;
     };
-    let variable = variable_of(kinds, ends, pool, z, right);
+    let variable = variable_of(job, right);
     match variable {
         Looked::Some(x) => FunctionCall::Call(f, x),
         Looked::None => FunctionCall::No,
@@ -332,10 +298,7 @@ fn function_fact(
 
 // What an equality asks its premise to prove.
 fn wanted_equality(
-    kinds: &[u32],
-    ends: &[u32],
-    pool: &[u32],
-    z: Sizes,
+    job: &[u32],
     bound: &[u32],
     pairs: &[u32],
     globals: &[u32],
@@ -349,21 +312,18 @@ fn wanted_equality(
     left: u32,
     right: u32,
 ) -> Asked
-    requires { ⌜ Ready (now kinds) (now ends) (now pool) z ⌝ }
+    requires { ⌜ Ready (now job) ⌝ }
     requires { ⌜ Stored (now skinds) (now sends) (now spool) fill ⌝ }
-    requires { ⌜ z .expressions + z .expressions < length (now memo) ⌝ }
+    requires { ⌜ sizesOf (now job) .expressions + sizesOf (now job) .expressions < length (now memo) ⌝ }
     requires { ⌜ Past (now memo) ⌝ }
-    requires { ⌜ left < z .expressions ⌝ }
-    requires { ⌜ right < z .expressions ⌝ }
-    ensures { λ r. ⌜ Checks (now (skinds .entry)) (now (sends .entry)) (now (spool .entry)) fill (now (skinds .exit)) (now (sends .exit)) (now (spool .exit)) (r .fill) (r .refusal) (propositionOf (r .pair)) (now (memo .exit)) (model.wanted (roomOf (now (skinds .entry)) (now (spool .entry))) (programFor (now (kinds .entry)) (now (ends .entry)) (now (pool .entry)) z) rule (bindingsIn (now (bound .entry)) (now (pairs .entry)) (now (globals .entry))) (equal i (exprFor (now (kinds .entry)) (now (ends .entry)) (now (pool .entry)) z left) (exprFor (now (kinds .entry)) (now (ends .entry)) (now (pool .entry)) z right)) (termsIn (now (skinds .entry)) (now (sends .entry)) (now (spool .entry)) fill)) ⌝ }
+    requires { ⌜ left < sizesOf (now job) .expressions ⌝ }
+    requires { ⌜ right < sizesOf (now job) .expressions ⌝ }
+    ensures { λ r. ⌜ Checks (now (skinds .entry)) (now (sends .entry)) (now (spool .entry)) fill (now (skinds .exit)) (now (sends .exit)) (now (spool .exit)) (r .fill) (r .refusal) (propositionOf (r .pair)) (now (memo .exit)) (model.wanted (roomOf (now (skinds .entry)) (now (spool .entry))) (programFor (now (job .entry))) rule (bindingsIn (now (bound .entry)) (now (pairs .entry)) (now (globals .entry))) (equal i (exprFor (now (job .entry)) left) (exprFor (now (job .entry)) right)) (termsIn (now (skinds .entry)) (now (sends .entry)) (now (spool .entry)) fill)) ⌝ }
 {
-    let call = function_fact(kinds, ends, pool, z, left, right);
+    let call = function_fact(job, left, right);
     match call {
         FunctionCall::Call(f, x) => wanted_call(
-            kinds,
-            ends,
-            pool,
-            z,
+            job,
             bound,
             pairs,
             globals,
@@ -378,10 +338,7 @@ fn wanted_equality(
             x,
         ),
         FunctionCall::No => wanted_values(
-            kinds,
-            ends,
-            pool,
-            z,
+            job,
             bound,
             pairs,
             globals,
@@ -399,10 +356,7 @@ fn wanted_equality(
 
 // What an ordinary fact asks its premise to prove.
 fn wanted(
-    kinds: &[u32],
-    ends: &[u32],
-    pool: &[u32],
-    z: Sizes,
+    job: &[u32],
     bound: &[u32],
     pairs: &[u32],
     globals: &[u32],
@@ -414,20 +368,17 @@ fn wanted(
     memo: &mut [u32],
     i: u32,
 ) -> Asked
-    requires { ⌜ Ready (now kinds) (now ends) (now pool) z ⌝ }
+    requires { ⌜ Ready (now job) ⌝ }
     requires { ⌜ Stored (now skinds) (now sends) (now spool) fill ⌝ }
-    requires { ⌜ z .expressions + z .expressions < length (now memo) ⌝ }
+    requires { ⌜ sizesOf (now job) .expressions + sizesOf (now job) .expressions < length (now memo) ⌝ }
     requires { ⌜ Past (now memo) ⌝ }
-    requires { ⌜ i < z .facts ⌝ }
-    ensures { λ r. ⌜ Checks (now (skinds .entry)) (now (sends .entry)) (now (spool .entry)) fill (now (skinds .exit)) (now (sends .exit)) (now (spool .exit)) (r .fill) (r .refusal) (propositionOf (r .pair)) (now (memo .exit)) (model.wanted (roomOf (now (skinds .entry)) (now (spool .entry))) (programFor (now (kinds .entry)) (now (ends .entry)) (now (pool .entry)) z) rule (bindingsIn (now (bound .entry)) (now (pairs .entry)) (now (globals .entry))) (factFor (now (kinds .entry)) (now (ends .entry)) (now (pool .entry)) z i) (termsIn (now (skinds .entry)) (now (sends .entry)) (now (spool .entry)) fill)) ⌝ }
+    requires { ⌜ i < sizesOf (now job) .facts ⌝ }
+    ensures { λ r. ⌜ Checks (now (skinds .entry)) (now (sends .entry)) (now (spool .entry)) fill (now (skinds .exit)) (now (sends .exit)) (now (spool .exit)) (r .fill) (r .refusal) (propositionOf (r .pair)) (now (memo .exit)) (model.wanted (roomOf (now (skinds .entry)) (now (spool .entry))) (programFor (now (job .entry))) rule (bindingsIn (now (bound .entry)) (now (pairs .entry)) (now (globals .entry))) (factFor (now (job .entry)) i) (termsIn (now (skinds .entry)) (now (sends .entry)) (now (spool .entry)) fill)) ⌝ }
 {
-    let fact = fact_at(kinds, ends, pool, z, wide(i));
+    let fact = fact_at(job, wide(i));
     match fact {
         Fact::Equal(l, r) => wanted_equality(
-            kinds,
-            ends,
-            pool,
-            z,
+            job,
             bound,
             pairs,
             globals,
@@ -442,10 +393,7 @@ fn wanted(
             r,
         ),
         Fact::Bare(e) => wanted_bare(
-            kinds,
-            ends,
-            pool,
-            z,
+            job,
             bound,
             pairs,
             globals,
@@ -463,10 +411,7 @@ fn wanted(
 
 // The premise's pair q is what the equality asks for, w.
 fn equality_matches(
-    kinds: &[u32],
-    ends: &[u32],
-    pool: &[u32],
-    z: Sizes,
+    job: &[u32],
     rule: u32,
     i: u32,
     left: u32,
@@ -474,12 +419,12 @@ fn equality_matches(
     w: Proposition,
     q: Proposition,
 ) -> Refusal
-    requires { ⌜ Ready (now kinds) (now ends) (now pool) z ⌝ }
-    requires { ⌜ left < z .expressions ⌝ }
-    requires { ⌜ right < z .expressions ⌝ }
-    ensures { λ r. ⌜ ((s : List Term) → outcomeOf r tt s ≡ model.matches rule (equal i (exprFor (now (kinds .entry)) (now (ends .entry)) (now (pool .entry)) z left) (exprFor (now (kinds .entry)) (now (ends .entry)) (now (pool .entry)) z right)) (propositionOf w) (propositionOf q) s) ⌝ }
+    requires { ⌜ Ready (now job) ⌝ }
+    requires { ⌜ left < sizesOf (now job) .expressions ⌝ }
+    requires { ⌜ right < sizesOf (now job) .expressions ⌝ }
+    ensures { λ r. ⌜ ((s : List Term) → outcomeOf r tt s ≡ model.matches rule (equal i (exprFor (now (job .entry)) left) (exprFor (now (job .entry)) right)) (propositionOf w) (propositionOf q) s) ⌝ }
 {
-    let call = function_fact(kinds, ends, pool, z, left, right);
+    let call = function_fact(job, left, right);
     if (q.lhs == w.lhs) & (q.rhs == w.rhs) {
         return Refusal {
             number: 0,
@@ -527,33 +472,21 @@ fn bare_matches(rule: u32, i: u32, w: Proposition, q: Proposition) -> Refusal
 }
 
 // The premise's pair q is what the fact asks for, w.
-fn matches(
-    kinds: &[u32],
-    ends: &[u32],
-    pool: &[u32],
-    z: Sizes,
-    rule: u32,
-    i: u32,
-    w: Proposition,
-    q: Proposition,
-) -> Refusal
-    requires { ⌜ Ready (now kinds) (now ends) (now pool) z ⌝ }
-    requires { ⌜ i < z .facts ⌝ }
-    ensures { λ r. ⌜ ((s : List Term) → outcomeOf r tt s ≡ model.matches rule (factFor (now (kinds .entry)) (now (ends .entry)) (now (pool .entry)) z i) (propositionOf w) (propositionOf q) s) ⌝ }
+fn matches(job: &[u32], rule: u32, i: u32, w: Proposition, q: Proposition) -> Refusal
+    requires { ⌜ Ready (now job) ⌝ }
+    requires { ⌜ i < sizesOf (now job) .facts ⌝ }
+    ensures { λ r. ⌜ ((s : List Term) → outcomeOf r tt s ≡ model.matches rule (factFor (now (job .entry)) i) (propositionOf w) (propositionOf q) s) ⌝ }
 {
-    let fact = fact_at(kinds, ends, pool, z, wide(i));
+    let fact = fact_at(job, wide(i));
     match fact {
-        Fact::Equal(l, r) => equality_matches(kinds, ends, pool, z, rule, i, l, r, w, q),
+        Fact::Equal(l, r) => equality_matches(job, rule, i, l, r, w, q),
         Fact::Bare(_) => bare_matches(rule, i, w, q),
     }
 }
 
 // `check_fact_matches_proposition`
 pub fn check_fact_matches_proposition(
-    kinds: &[u32],
-    ends: &[u32],
-    pool: &[u32],
-    z: Sizes,
+    job: &[u32],
     bound: &[u32],
     pairs: &[u32],
     globals: &[u32],
@@ -566,18 +499,15 @@ pub fn check_fact_matches_proposition(
     i: u32,
     q: Proposition,
 ) -> Checked
-    requires { ⌜ Ready (now kinds) (now ends) (now pool) z ⌝ }
+    requires { ⌜ Ready (now job) ⌝ }
     requires { ⌜ Stored (now skinds) (now sends) (now spool) fill ⌝ }
-    requires { ⌜ z .expressions + z .expressions < length (now memo) ⌝ }
+    requires { ⌜ sizesOf (now job) .expressions + sizesOf (now job) .expressions < length (now memo) ⌝ }
     requires { ⌜ Past (now memo) ⌝ }
-    requires { ⌜ i < z .facts ⌝ }
-    ensures { λ r. ⌜ Checks (now (skinds .entry)) (now (sends .entry)) (now (spool .entry)) fill (now (skinds .exit)) (now (sends .exit)) (now (spool .exit)) (r .fill) (r .refusal) tt (now (memo .exit)) (model.checkFactMatchesProposition (roomOf (now (skinds .entry)) (now (spool .entry))) (programFor (now (kinds .entry)) (now (ends .entry)) (now (pool .entry)) z) rule (bindingsIn (now (bound .entry)) (now (pairs .entry)) (now (globals .entry))) (factFor (now (kinds .entry)) (now (ends .entry)) (now (pool .entry)) z i) (propositionOf q) (termsIn (now (skinds .entry)) (now (sends .entry)) (now (spool .entry)) fill)) ⌝ }
+    requires { ⌜ i < sizesOf (now job) .facts ⌝ }
+    ensures { λ r. ⌜ Checks (now (skinds .entry)) (now (sends .entry)) (now (spool .entry)) fill (now (skinds .exit)) (now (sends .exit)) (now (spool .exit)) (r .fill) (r .refusal) tt (now (memo .exit)) (model.checkFactMatchesProposition (roomOf (now (skinds .entry)) (now (spool .entry))) (programFor (now (job .entry))) rule (bindingsIn (now (bound .entry)) (now (pairs .entry)) (now (globals .entry))) (factFor (now (job .entry)) i) (propositionOf q) (termsIn (now (skinds .entry)) (now (sends .entry)) (now (spool .entry)) fill)) ⌝ }
 {
     let w = wanted(
-        kinds,
-        ends,
-        pool,
-        z,
+        job,
         bound,
         pairs,
         globals,
@@ -598,7 +528,7 @@ pub fn check_fact_matches_proposition(
             fill: have,
         };
     }
-    let refusal = matches(kinds, ends, pool, z, rule, i, w.pair, q);
+    let refusal = matches(job, rule, i, w.pair, q);
     Checked {
         refusal,
         value: 0,

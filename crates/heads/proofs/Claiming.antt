@@ -21,18 +21,16 @@ use Rattle.outcome.proofs.Laws.{does-here, does-then, does-stop}
 use Rattle.marks.specs.Marks.{zeros, close}
 use Rattle.marks.proofs.Marking.{marks-cleared, marks-closed}
 use Rattle.termdag.proofs.Laws.{terms-length}
-use Rattle.load.specs.Held.{tablesFor}
-use Rattle.load.specs.declared.sizes.Sizes.{Sizes}
-use Rattle.program.specs.Ready.{programFor, ruleFor}
+use Rattle.program.specs.Ready.{tablesFor, programFor, ruleFor}
 use Rattle.program.specs.Read.{actionFor}
 use Rattle.program.proofs.Reading.{rule-for}
 use Rattle.evaluate.specs.Evaluation.{Sane}
 use Rattle.heads.specs.declared.Headed.{Headed}
 use Rattle.heads.specs.Heading.{clearedIf, claimedBy, Heads, Produces}
 
-module _ (K E P : List ℕ) (z : Sizes) (r : ℕ) (σ : List Binding) (q : Proposition) where
+module _ (J : List ℕ) (r : ℕ) (σ : List Binding) (q : Proposition) where
   abbrev prog : Program
-  prog = programFor K E P z
+  prog = programFor J
 
   abbrev marking : Bool
   marking = eqb (q .lhs) (q .rhs)
@@ -41,19 +39,19 @@ module _ (K E P : List ℕ) (z : Sizes) (r : ℕ) (σ : List Binding) (q : Propo
   abbrev checkOf : Room → ℕ → List Action → Check (Unit {0})
   checkOf room name as′ s = andThen (processActions room prog name as′ (startContext σ) s) (λ c. checkThat (among q (c .pairs)) 31 (name ∷ q .lhs ∷ q .rhs ∷ []))
 
-  is-check : (room : Room) (s : List Term) {name : ℕ} {xs : List ℕ} → name ≡ ruleFor K E P z r .name → xs ≡ ruleActions (getD (tablesFor K E P z .rules) r noCell)
-      → checkOf room name (map (actionFor K E P z) xs) s ≡ checkRuleProducesEquality room prog (ruleFor K E P z r) σ q s
+  is-check : (room : Room) (s : List Term) {name : ℕ} {xs : List ℕ} → name ≡ ruleFor J r .name → xs ≡ ruleActions (getD (tablesFor J .rules) r noCell)
+      → checkOf room name (map (actionFor J) xs) s ≡ checkRuleProducesEquality room prog (ruleFor J r) σ q s
   unfolding checkRuleProducesEquality
-  is-check room s {name} {xs} e f = λ i. checkOf room (e i) ((ap (map (actionFor K E P z)) f ∙ ap (λ (t : Rule). t .actions) (sym (rule-for K E P z r))) i) s
+  is-check room s {name} {xs} e f = λ i. checkOf room (e i) ((ap (map (actionFor J)) f ∙ ap (λ (t : Rule). t .actions) (sym (rule-for J r))) i) s
 
-  module _ {name : ℕ} {xs k e p : List ℕ} {f : Fill} {m k₁ e₁ p₁ : List ℕ} {h : Headed} {memo₁ m₁ : List ℕ} (nq : name ≡ ruleFor K E P z r .name) (xq : xs ≡ ruleActions (getD (tablesFor K E P z .rules) r noCell))
-      (H : Heads prog name (map (actionFor K E P z) xs) σ q marking k e p f m k₁ e₁ p₁ h memo₁ m₁) where
+  module _ {name : ℕ} {xs k e p : List ℕ} {f : Fill} {m k₁ e₁ p₁ : List ℕ} {h : Headed} {memo₁ m₁ : List ℕ} (nq : name ≡ ruleFor J r .name) (xq : xs ≡ ruleActions (getD (tablesFor J .rules) r noCell))
+      (H : Heads prog name (map (actionFor J) xs) σ q marking k e p f m k₁ e₁ p₁ h memo₁ m₁) where
     abbrev s₁ : List Term
     s₁ = termsIn k₁ e₁ p₁ (h .fill)
 
     pub produce-stops : {c : Checked} → (h .refusal .number ≡ 0 → ⊥) → c ≡ record { refusal = h .refusal; value = 0; fill = h .fill }
-        → Produces prog (ruleFor K E P z r) σ q k e p f k₁ e₁ p₁ c memo₁
-    produce-stops n d = subst⁻¹ (λ (x : Checked). Produces prog (ruleFor K E P z r) σ q k e p f k₁ e₁ p₁ x memo₁) d (record {
+        → Produces prog (ruleFor J r) σ q k e p f k₁ e₁ p₁ c memo₁
+    produce-stops n d = subst⁻¹ (λ (x : Checked). Produces prog (ruleFor J r) σ q k e p f k₁ e₁ p₁ x memo₁) d (record {
       checks = record {
         does = subst (Does k e p f k₁ e₁ p₁ (h .fill) (h .refusal) tt) (is-check (roomOf k p) (termsIn k e p f) nq xq) (does-stop tt (λ c. checkThat (among q (c .pairs)) 31 (name ∷ q .lhs ∷ q .rhs ∷ [])) (H .does) n);
         past = λ u. absurd (n u);
@@ -76,7 +74,7 @@ module _ (K E P : List ℕ) (z : Sizes) (r : ℕ) (σ : List Binding) (q : Propo
 
       pub produce-ends : {claimed : Bool} {c : Checked} → claimed ≡ claimedBy marking (h .found) (ltb 0 (getD (close s₁ (h .fill .cells) m₁) (q .lhs) 0))
           → (c .fill ≡ h .fill) × ((s : List Term) → outcomeOf (c .refusal) tt s ≡ checkThat claimed 31 (name ∷ q .lhs ∷ q .rhs ∷ []) s)
-          → Produces prog (ruleFor K E P z r) σ q k e p f k₁ e₁ p₁ c memo₁
+          → Produces prog (ruleFor J r) σ q k e p f k₁ e₁ p₁ c memo₁
       produce-ends {claimed} {c} cq d = record {
         checks = record {
           does = subst (Does k e p f k₁ e₁ p₁ (c .fill) (c .refusal) tt) (is-check (roomOf k p) (termsIn k e p f) nq xq)

@@ -21,7 +21,6 @@ use Rattle.outcome.specs.Does.{passed, outcomeOf, Grown}
 use Rattle.outcome.specs.declared.Checked.{Checked}
 use Rattle.outcome.proofs.Laws.{ok-of, refused-of, grown-same, grown-then, room-same}
 use Rattle.marks.specs.Covering.{Marks}
-use Rattle.load.specs.declared.sizes.Sizes.{Sizes}
 use Rattle.program.specs.Ready.{programFor}
 use Rattle.program.specs.Read.{actionFor}
 use Rattle.evaluate.specs.Value.{bindingsIn}
@@ -47,12 +46,12 @@ pushed-bindings {T} {at} {e} S G p = sym (over-others e (readBindings (drop at T
 pub sane-fewer : {prog : Program} {σ τ : List Binding} {s s′ : List Term} → Sane prog σ s → Extends s s′ → Sane prog τ s′ → Sane prog σ s′
 sane-fewer {s = s} {s′ = s′} w x v = let l : length s ≤ length s′ = extends-length x in record { ordered = v .ordered; bound = λ b m. let h = w .bound b m in omega arith; rows = v .rows }
 
-module _ (K E P : List ℕ) (z : Sizes) (rule : ℕ) (S G : List ℕ) (q : Proposition) (marking : Bool) where
+module _ (J : List ℕ) (rule : ℕ) (S G : List ℕ) (q : Proposition) (marking : Bool) where
   abbrev prog : Program
-  prog = programFor K E P z
+  prog = programFor J
 
   abbrev action : ℕ → Action
-  action = actionFor K E P z
+  action = actionFor J
 
   -- after i of the actions xs, from the bindings σ
   pub record Turn (xs : List ℕ) (σ : List Binding) (k₀ e₀ p₀ : List ℕ) (f₀ : Fill) (memo₀ m₀ k e p : List ℕ) (f : Fill) (memo m T : List ℕ) (at : ℕ) (found : Bool) (i : ℕ) : Type 0 where
@@ -61,8 +60,8 @@ module _ (K E P : List ℕ) (z : Sizes) (rule : ℕ) (S G : List ℕ) (q : Propo
     pub full : length T ≡ 160
     pub low : at ≤ 160
     pub free : (length xs - i) + (length xs - i) ≤ at
-    pub first : Standing K E P z σ k₀ e₀ p₀ f₀ memo₀ m₀
-    pub stand : Standing K E P z (bindingsIn (drop at T) S G) k e p f memo m
+    pub first : Standing J σ k₀ e₀ p₀ f₀ memo₀ m₀
+    pub stand : Standing J (bindingsIn (drop at T) S G) k e p f memo m
     pub lenMemo : length memo ≡ length memo₀
     pub lenM : length m ≡ length m₀
     pub bindings : context .bindings ≡ bindingsIn (drop at T) S G
@@ -72,7 +71,7 @@ module _ (K E P : List ℕ) (z : Sizes) (rule : ℕ) (S G : List ℕ) (q : Propo
     pub others : (q .lhs ≡ q .rhs → ⊥) → among q (context .pairs) ≡ found
     pub marks : marking ≡ true → Marks (termsIn k₀ e₀ p₀ f₀) m₀ [] → Marks (termsIn k e p f) m (context .pairs)
 
-  pub start : {xs : List ℕ} {B k e p : List ℕ} {f : Fill} {memo m T : List ℕ} {at : ℕ} → Standing K E P z (bindingsIn B S G) k e p f memo m → length xs ≤ 64 → at ≤ 160 → 128 ≤ at
+  pub start : {xs : List ℕ} {B k e p : List ℕ} {f : Fill} {memo m T : List ℕ} {at : ℕ} → Standing J (bindingsIn B S G) k e p f memo m → length xs ≤ 64 → at ≤ 160 → 128 ≤ at
       → length T ≡ 160 → drop at T ≡ B → Turn xs (bindingsIn B S G) k e p f memo m k e p f memo m T at false 0
   start {xs} {B} {k} {e} {p} {f} {memo} {m} {T} {at} st few low high full q = record {
     context = startContext (bindingsIn B S G);
@@ -81,7 +80,7 @@ module _ (K E P : List ℕ) (z : Sizes) (rule : ℕ) (S G : List ℕ) (q : Propo
     low = low;
     free = omega arith;
     first = st;
-    stand = subst⁻¹ (λ (X : List ℕ). Standing K E P z (bindingsIn X S G) k e p f memo m) q st;
+    stand = subst⁻¹ (λ (X : List ℕ). Standing J (bindingsIn X S G) k e p f memo m) q st;
     lenMemo = refl;
     lenM = refl;
     bindings = ap (λ (X : List ℕ). bindingsIn X S G) (sym q);
@@ -188,8 +187,8 @@ module _ (K E P : List ℕ) (z : Sizes) (rule : ℕ) (S G : List ℕ) (q : Propo
 pub part-is : {n : ℕ} (T : List ℕ) (at : ℕ) → length T ≡ n → take (n - at) (drop at T) ≡ drop at T
 part-is T at e = ap (λ (m : ℕ). take (m - at) (drop at T)) (sym e) ∙ to-end at T
 
-pub standing-part : (S G : List ℕ) {K E P : List ℕ} {z : Sizes} {X Y k e p : List ℕ} {f : Fill} {memo m : List ℕ} → X ≡ Y → Standing K E P z (bindingsIn Y S G) k e p f memo m → Standing K E P z (bindingsIn X S G) k e p f memo m
-standing-part S G {K} {E} {P} {z} {k = k} {e = e} {p = p} {f = f} {memo = memo} {m = m} q st = subst⁻¹ (λ (X : List ℕ). Standing K E P z (bindingsIn X S G) k e p f memo m) q st
+pub standing-part : (S G : List ℕ) {J : List ℕ} {X Y k e p : List ℕ} {f : Fill} {memo m : List ℕ} → X ≡ Y → Standing J (bindingsIn Y S G) k e p f memo m → Standing J (bindingsIn X S G) k e p f memo m
+standing-part S G {J} {k = k} {e = e} {p = p} {f = f} {memo = memo} {m = m} q st = subst⁻¹ (λ (X : List ℕ). Standing J (bindingsIn X S G) k e p f memo m) q st
 
 pub acts-part : (S G : List ℕ) {prog : Program} {rule : ℕ} {a : Action} {X Y : List ℕ} {marking : Bool} {K E P : List ℕ} {f : Fill} {m K₁ E₁ P₁ : List ℕ} {r : Acted} {memo₁ m₁ : List ℕ} → X ≡ Y
     → Acts prog rule a (bindingsIn X S G) marking K E P f m K₁ E₁ P₁ r memo₁ m₁ → Acts prog rule a (bindingsIn Y S G) marking K E P f m K₁ E₁ P₁ r memo₁ m₁

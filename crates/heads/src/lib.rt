@@ -7,7 +7,6 @@ use cells::Fill;
 use decode::Merge;
 use decode::Name;
 use decode::Proposition;
-use load::sizes::Sizes;
 use outcome::Checked;
 use outcome::Refusal;
 use outcome::pass;
@@ -20,6 +19,7 @@ ghost use mathlib.Core.List.{List, [], _∷_, map};
 ghost use Prim.Native.Nat.{ℕ, _≤_, _<_};
 ghost use lib.Dec.{ltb};
 ghost use lib.ListN.{length, getD};
+ghost use Rattle.model.specs.Layout.{sizesOf};
 ghost use Rattle.model.specs.Term.{Term};
 ghost use Rattle.model.specs.Check.{checkThat};
 ghost use Rattle.model.specs.Action as model;
@@ -27,7 +27,7 @@ ghost use Rattle.decode.specs.View.{propositionOf};
 ghost use Rattle.termdag.specs.Store.{termsIn, Stored, roomOf};
 ghost use Rattle.outcome.specs.Does.{outcomeOf};
 ghost use Rattle.marks.specs.Marks as closing;
-ghost use Rattle.program.specs.Ready.{Ready, programFor, ruleFor};
+ghost use Rattle.program.specs.Ready.{programFor, ruleFor};
 ghost use Rattle.program.specs.Read.{actionFor};
 ghost use Rattle.evaluate.specs.Value.{bindingsIn};
 ghost use Rattle.actions.specs.Acting.{Standing, Yields, effectHas};
@@ -53,10 +53,7 @@ fn has_pair(effect: Effect, q: Proposition) -> bool
 
 // `process_actions` for a head.
 fn head_actions(
-    kinds: &[u32],
-    ends: &[u32],
-    pool: &[u32],
-    z: Sizes,
+    job: &[u32],
     bound: &[u32],
     pairs: &[u32],
     globals: &[u32],
@@ -71,11 +68,11 @@ fn head_actions(
     actions: &[u32],
     q: Proposition,
 ) -> Headed
-    requires { ⌜ Standing (now kinds) (now ends) (now pool) z (bindingsIn (now bound) (now pairs) (now globals)) (now skinds) (now sends) (now spool) fill (now memo) (now marks) ⌝ }
+    requires { ⌜ Standing (now job) (bindingsIn (now bound) (now pairs) (now globals)) (now skinds) (now sends) (now spool) fill (now memo) (now marks) ⌝ }
     requires { ⌜ length (now bound) ≤ 32 ⌝ }
     requires { ⌜ length (now actions) ≤ 64 ⌝ }
-    requires { ⌜ ((i : ℕ) → i < length (now actions) → getD (now actions) i 0 < z .actions) ⌝ }
-    ensures { λ r. ⌜ Heads (programFor (now (kinds .entry)) (now (ends .entry)) (now (pool .entry)) z) rule (map (actionFor (now (kinds .entry)) (now (ends .entry)) (now (pool .entry)) z) (now (actions .entry))) (bindingsIn (now (bound .entry)) (now (pairs .entry)) (now (globals .entry))) (propositionOf q) marking (now (skinds .entry)) (now (sends .entry)) (now (spool .entry)) fill (now (marks .entry)) (now (skinds .exit)) (now (sends .exit)) (now (spool .exit)) r (now (memo .exit)) (now (marks .exit)) ⌝ }
+    requires { ⌜ ((i : ℕ) → i < length (now actions) → getD (now actions) i 0 < sizesOf (now job) .actions) ⌝ }
+    ensures { λ r. ⌜ Heads (programFor (now (job .entry))) rule (map (actionFor (now (job .entry))) (now (actions .entry))) (bindingsIn (now (bound .entry)) (now (pairs .entry)) (now (globals .entry))) (propositionOf q) marking (now (skinds .entry)) (now (sends .entry)) (now (spool .entry)) fill (now (marks .entry)) (now (skinds .exit)) (now (sends .exit)) (now (spool .exit)) r (now (memo .exit)) (now (marks .exit)) ⌝ }
 {
     let mut table = [0u32; 160];
     let mut at = 160 - bound.len();
@@ -85,10 +82,7 @@ fn head_actions(
     let mut i = 0;
     while i < actions.len() {
         let r = process_action(
-            kinds,
-            ends,
-            pool,
-            z,
+            job,
             &table[at..],
             pairs,
             globals,
@@ -194,10 +188,7 @@ fn produced(claimed: bool, rule: u32, q: Proposition, fill: Fill) -> Checked
 
 // `check_rule_produces_equality` for rule r.
 pub fn check_rule_produces_equality(
-    kinds: &[u32],
-    ends: &[u32],
-    pool: &[u32],
-    z: Sizes,
+    job: &[u32],
     bound: &[u32],
     pairs: &[u32],
     globals: &[u32],
@@ -210,20 +201,17 @@ pub fn check_rule_produces_equality(
     r: usize,
     q: Proposition,
 ) -> Checked
-    requires { ⌜ Standing (now kinds) (now ends) (now pool) z (bindingsIn (now bound) (now pairs) (now globals)) (now skinds) (now sends) (now spool) fill (now memo) (now marks) ⌝ }
+    requires { ⌜ Standing (now job) (bindingsIn (now bound) (now pairs) (now globals)) (now skinds) (now sends) (now spool) fill (now memo) (now marks) ⌝ }
     requires { ⌜ length (now bound) ≤ 32 ⌝ }
-    requires { ⌜ r < z .rules ⌝ }
-    ensures { λ c. ⌜ Produces (programFor (now (kinds .entry)) (now (ends .entry)) (now (pool .entry)) z) (ruleFor (now (kinds .entry)) (now (ends .entry)) (now (pool .entry)) z r) (bindingsIn (now (bound .entry)) (now (pairs .entry)) (now (globals .entry))) (propositionOf q) (now (skinds .entry)) (now (sends .entry)) (now (spool .entry)) fill (now (skinds .exit)) (now (sends .exit)) (now (spool .exit)) c (now (memo .exit)) ⌝ }
+    requires { ⌜ r < sizesOf (now job) .rules ⌝ }
+    ensures { λ c. ⌜ Produces (programFor (now (job .entry))) (ruleFor (now (job .entry)) r) (bindingsIn (now (bound .entry)) (now (pairs .entry)) (now (globals .entry))) (propositionOf q) (now (skinds .entry)) (now (sends .entry)) (now (spool .entry)) fill (now (skinds .exit)) (now (sends .exit)) (now (spool .exit)) c (now (memo .exit)) ⌝ }
 {
     let marking = q.lhs == q.rhs;
     clear_if(marking, marks);
-    let rule = rule_name_at(kinds, ends, pool, z, r);
-    let actions = rule_actions_at(kinds, ends, pool, z, r);
+    let rule = rule_name_at(job, r);
+    let actions = rule_actions_at(job, r);
     let h = head_actions(
-        kinds,
-        ends,
-        pool,
-        z,
+        job,
         bound,
         pairs,
         globals,
@@ -253,10 +241,7 @@ pub fn check_rule_produces_equality(
 
 // `run_merge`: with `old` and `new` alone.
 pub fn run_merge(
-    kinds: &[u32],
-    ends: &[u32],
-    pool: &[u32],
-    z: Sizes,
+    job: &[u32],
     skinds: &mut [u32],
     sends: &mut [u32],
     spool: &mut [u32],
@@ -268,19 +253,16 @@ pub fn run_merge(
     old: u32,
     new: u32,
 ) -> Checked
-    requires { ⌜ Standing (now kinds) (now ends) (now pool) z (model.mergeBindings old new) (now skinds) (now sends) (now spool) fill (now memo) (now marks) ⌝ }
-    ensures { λ r. ⌜ Yields (programFor (now (kinds .entry)) (now (ends .entry)) (now (pool .entry)) z) (model.mergeBindings old new) (model.runMerge (roomOf (now (skinds .entry)) (now (spool .entry))) (programFor (now (kinds .entry)) (now (ends .entry)) (now (pool .entry)) z) function old new (termsIn (now (skinds .entry)) (now (sends .entry)) (now (spool .entry)) fill)) marking (now (skinds .entry)) (now (sends .entry)) (now (spool .entry)) fill (now (marks .entry)) (now (skinds .exit)) (now (sends .exit)) (now (spool .exit)) r (now (memo .exit)) (now (marks .exit)) ⌝ }
+    requires { ⌜ Standing (now job) (model.mergeBindings old new) (now skinds) (now sends) (now spool) fill (now memo) (now marks) ⌝ }
+    ensures { λ r. ⌜ Yields (programFor (now (job .entry))) (model.mergeBindings old new) (model.runMerge (roomOf (now (skinds .entry)) (now (spool .entry))) (programFor (now (job .entry))) function old new (termsIn (now (skinds .entry)) (now (sends .entry)) (now (spool .entry)) fill)) marking (now (skinds .entry)) (now (sends .entry)) (now (spool .entry)) fill (now (marks .entry)) (now (skinds .exit)) (now (sends .exit)) (now (spool .exit)) r (now (memo .exit)) (now (marks .exit)) ⌝ }
 {
-    let merge = merge_of(kinds, ends, pool, z, function);
+    let merge = merge_of(job, function);
     let bound = [Name::OLD.number, old, Name::NEW.number, new];
     let none = [0u32; 0];
     match merge {
         Merge::Nothing => refuse1(43, function, fill),
         Merge::Expr(e) => yield_value(
-            kinds,
-            ends,
-            pool,
-            z,
+            job,
             &bound,
             &none,
             &none,

@@ -1,4 +1,5 @@
 -- Laws of heights: the greatest of a list, the height of a proof by those that it refers to, and the table of heights.
+use Rattle.program.specs.Ready.{tablesFor}
 use mathlib.Core.Path.{_≡_, refl, sym, ap, ap₂, subst, _∙_}
 use mathlib.Core.List.{List, [], _∷_, _++_, map, List·Memᴰ, List·Memᴰ·head, List·Memᴰ·tail}
 use Prim.Native.Nat.{ℕ, zero, suc, _+_, _≤_, _<_, max}
@@ -9,6 +10,7 @@ use native.Mathlib.Decide.{decLt}
 use lib.Dec.{lit<}
 use lib.ListN.{length, getD, set, drop, drop-of-length-le, length-set, length-append, length-map, List·getD-append}
 use lib.Seq.{drop-cons, getD-set-same, getD-set-other, getD-append-seam}
+use Rattle.model.specs.Layout.{sizesOf}
 use Rattle.model.specs.Program as program
 use Rattle.model.specs.Program.{Proof, references}
 use Rattle.model.specs.Decode.{readProof}
@@ -16,8 +18,6 @@ use Rattle.model.specs.Walk.{noProof}
 use Rattle.model.specs.Answer.{maximum, heightsFrom, height}
 use Rattle.decode.specs.View.{justificationOf}
 use Rattle.decode.specs.declared.Justification.{Justification}
-use Rattle.load.specs.Held.{tablesFor}
-use Rattle.load.specs.declared.sizes.Sizes.{Sizes}
 use Rattle.program.specs.Read.{proofsFor, premisesFor, pairsFor, JustificationAt}
 use Rattle.program.proofs.Laws.{table-long}
 use Rattle.height.specs.Heights.{HeightAt, HighestAt, HeightsTo}
@@ -88,39 +88,39 @@ height-is proofs p l h =
     let e : 0 + p ≡ p = omega arith in
     ap (λ (i : ℕ). height proofs i) (sym e) ∙ heights-at [] proofs p l (λ x m. omega (arith, h x m))
 
-module _ (K E P : List ℕ) (z : Sizes) where
+module _ (W : List ℕ) where
   -- the proofs are as many as the size says
-  pub proofs-long : length (proofsFor K E P z) ≡ z .proofs
-  proofs-long = length-map (tablesFor K E P z .proofs) readProof ∙ table-long K E P z 9 (lit< tt)
+  pub proofs-long : length (proofsFor W) ≡ sizesOf W .proofs
+  proofs-long = length-map (tablesFor W .proofs) readProof ∙ table-long W 9 (lit< tt)
 
   -- the greatest height among the references of a justification as it is read
-  pub highest-read : (H : List ℕ) (p : ℕ) {j : Justification} (x : Justification) {m : ℕ} → HeightsTo K E P z p H → p < z .proofs → JustificationAt K E P z p j → j ≡ x
-      → m ≡ maximum (map (λ r. getD H r 0) (references (justificationOf x (premisesFor K E P z p) (pairsFor K E P z p)))) → HighestAt K E P z p m
+  pub highest-read : (H : List ℕ) (p : ℕ) {j : Justification} (x : Justification) {m : ℕ} → HeightsTo W p H → p < sizesOf W .proofs → JustificationAt W p j → j ≡ x
+      → m ≡ maximum (map (λ r. getD H r 0) (references (justificationOf x (premisesFor W p) (pairsFor W p)))) → HighestAt W p m
   highest-read H p {j} x {m} T l J q e =
-      let refs = references (getD (proofsFor K E P z) p noProof .justification) in
+      let refs = references (getD (proofsFor W) p noProof .justification) in
       let s : m ≡ maximum (map (λ r. getD H r 0) refs)
-      = e ∙ ap (λ (u : program.Justification). maximum (map (λ r. getD H r 0) (references u))) (ap (λ (u : Justification). justificationOf u (premisesFor K E P z p) (pairsFor K E P z p)) (sym q) ∙ J .is) in
+      = e ∙ ap (λ (u : program.Justification). maximum (map (λ r. getD H r 0) (references u))) (ap (λ (u : Justification). justificationOf u (premisesFor W p) (pairsFor W p)) (sym q) ∙ J .is) in
       record {
-        is = ap suc (s ∙ ap maximum (map-same (λ r. getD H r 0) (height (proofsFor K E P z)) refs (λ r n. T .says r (J .lower r n) .is)))
-            ∙ sym (height-is (proofsFor K E P z) p (omega (arith, proofs-long)) (J .lower));
+        is = ap suc (s ∙ ap maximum (map-same (λ r. getD H r 0) (height (proofsFor W)) refs (λ r n. T .says r (J .lower r n) .is)))
+            ∙ sym (height-is (proofsFor W) p (omega (arith, proofs-long)) (J .lower));
         low = subst (λ (i : ℕ). i ≤ p) (sym s) (maximum-low (λ r. getD H r 0) p refs (λ r n. omega (arith, J .lower r n, T .says r (J .lower r n) .low)));
       }
 
-  pub height-above : (p m : ℕ) → HighestAt K E P z p m → HeightAt K E P z p (m + 1)
+  pub height-above : (p m : ℕ) → HighestAt W p m → HeightAt W p (m + 1)
   height-above p m A = record { is = add-one m ∙ A .is; low = omega (arith, A .low) }
 
   -- one height after another
-  pub heights-none : (H : List ℕ) → HeightsTo K E P z 0 H
+  pub heights-none : (H : List ℕ) → HeightsTo W 0 H
   heights-none H = record { long = omega arith; says = λ i h. absurd (omega arith) }
 
-  pub heights-more : (H : List ℕ) (n h : ℕ) → HeightsTo K E P z n H → n < length H → HeightAt K E P z n h → HeightsTo K E P z (n + 1) (set H n h)
+  pub heights-more : (H : List ℕ) (n h : ℕ) → HeightsTo W n H → n < length H → HeightAt W n h → HeightsTo W (n + 1) (set H n h)
   heights-more H n h T l s = record {
     long = simp length-set (omega arith);
     says = λ i k. go i k (decLt i n);
   }
     where
-      go : (i : ℕ) → i < n + 1 → Dec (i < n) → HeightAt K E P z i (getD (set H n h) i 0)
-      go i k (yes q) = subst (HeightAt K E P z i) (sym (getD-set-other H n i h 0 (λ e. omega arith))) (T .says i q)
+      go : (i : ℕ) → i < n + 1 → Dec (i < n) → HeightAt W i (getD (set H n h) i 0)
+      go i k (yes q) = subst (HeightAt W i) (sym (getD-set-other H n i h 0 (λ e. omega arith))) (T .says i q)
       go i k (no q) =
           let e : n ≡ i = omega arith in
-          subst (λ (x : ℕ). HeightAt K E P z x (getD (set H n h) x 0)) e (subst (HeightAt K E P z n) (sym (getD-set-same H n h 0 l)) s)
+          subst (λ (x : ℕ). HeightAt W x (getD (set H n h) x 0)) e (subst (HeightAt W n) (sym (getD-set-same H n h 0 l)) s)

@@ -4,20 +4,19 @@ use mathlib.Core.List.{List}
 use Prim.Native.Nat.{ℕ, suc, _≤_, _<_}
 use lib.ListN.{length, getD}
 use Rattle.model.specs.Answer.{height}
-use Rattle.load.specs.declared.sizes.Sizes.{Sizes}
 use Rattle.program.specs.Read.{proofsFor}
 
 -- h is the height of proof p, at most one more than its number.
-pub record HeightAt (K E P : List ℕ) (z : Sizes) (p h : ℕ) : Type 0 where
-  pub is : h ≡ height (proofsFor K E P z) p
+pub record HeightAt (J : List ℕ) (p h : ℕ) : Type 0 where
+  pub is : h ≡ height (proofsFor J) p
   pub low : h ≤ suc p
 
 -- m is one less than the height of proof p.
-pub record HighestAt (K E P : List ℕ) (z : Sizes) (p m : ℕ) : Type 0 where
-  pub is : suc m ≡ height (proofsFor K E P z) p
+pub record HighestAt (J : List ℕ) (p m : ℕ) : Type 0 where
+  pub is : suc m ≡ height (proofsFor J) p
   pub low : m ≤ p
 
 -- The first n words of H are the heights of the first n proofs.
-pub record HeightsTo (K E P : List ℕ) (z : Sizes) (n : ℕ) (H : List ℕ) : Type 0 where
+pub record HeightsTo (J : List ℕ) (n : ℕ) (H : List ℕ) : Type 0 where
   pub long : n ≤ length H
-  pub says : (i : ℕ) → i < n → HeightAt K E P z i (getD H i 0)
+  pub says : (i : ℕ) → i < n → HeightAt J i (getD H i 0)

@@ -2,13 +2,13 @@
 use cell_tests::words::at;
 use cells::wide;
 use decode::Justification;
-use load::sizes::Sizes;
 use program::read::justification_at;
 use program::read::premises_at;
 ghost use mathlib.Core.Path.{_≡_};
 ghost use mathlib.Core.List.{[], _∷_, map};
 ghost use Prim.Native.Nat.{_<_, max};
 ghost use lib.ListN.{getD};
+ghost use Rattle.model.specs.Layout.{sizesOf};
 ghost use Rattle.model.specs.Answer as answer;
 ghost use Rattle.model.specs.Answer.{maximum};
 ghost use Rattle.program.specs.Ready.{Ready};
@@ -55,23 +55,16 @@ fn highest_of_two(heights: &[u32], a: u32, b: u32) -> u32
 }
 
 // The greatest height among the proofs that proof p refers to, by the heights of the proofs before it.
-fn highest_reference(
-    kinds: &[u32],
-    ends: &[u32],
-    pool: &[u32],
-    z: Sizes,
-    heights: &[u32],
-    p: usize,
-) -> u32
-    requires { ⌜ Ready (now kinds) (now ends) (now pool) z ⌝ }
-    requires { ⌜ HeightsTo (now kinds) (now ends) (now pool) z p (now heights) ⌝ }
-    requires { ⌜ p < z .proofs ⌝ }
-    ensures { λ r. ⌜ HighestAt (now (kinds .entry)) (now (ends .entry)) (now (pool .entry)) z p r ⌝ }
+fn highest_reference(job: &[u32], heights: &[u32], p: usize) -> u32
+    requires { ⌜ Ready (now job) ⌝ }
+    requires { ⌜ HeightsTo (now job) p (now heights) ⌝ }
+    requires { ⌜ p < sizesOf (now job) .proofs ⌝ }
+    ensures { λ r. ⌜ HighestAt (now (job .entry)) p r ⌝ }
 {
-    let j = justification_at(kinds, ends, pool, z, p);
+    let j = justification_at(job, p);
     match j {
         Justification::Fiat => 0,
-        Justification::Rule(_) => highest(heights, premises_at(kinds, ends, pool, z, p)),
+        Justification::Rule(_) => highest(heights, premises_at(job, p)),
         Justification::MergeFn(s) => highest_of_two(heights, s.old_proof, s.new_proof),
         Justification::Trans(a, b) => highest_of_two(heights, a, b),
         Justification::Sym(a) => highest_of_one(heights, a),
@@ -82,26 +75,26 @@ fn highest_reference(
 }
 
 // The height of proof p, by the heights of the proofs before it.
-fn height_at(kinds: &[u32], ends: &[u32], pool: &[u32], z: Sizes, heights: &[u32], p: usize) -> u32
-    requires { ⌜ Ready (now kinds) (now ends) (now pool) z ⌝ }
-    requires { ⌜ HeightsTo (now kinds) (now ends) (now pool) z p (now heights) ⌝ }
-    requires { ⌜ p < z .proofs ⌝ }
-    ensures { λ r. ⌜ HeightAt (now (kinds .entry)) (now (ends .entry)) (now (pool .entry)) z p r ⌝ }
+fn height_at(job: &[u32], heights: &[u32], p: usize) -> u32
+    requires { ⌜ Ready (now job) ⌝ }
+    requires { ⌜ HeightsTo (now job) p (now heights) ⌝ }
+    requires { ⌜ p < sizesOf (now job) .proofs ⌝ }
+    ensures { λ r. ⌜ HeightAt (now (job .entry)) p r ⌝ }
 {
-    highest_reference(kinds, ends, pool, z, heights, p) + 1
+    highest_reference(job, heights, p) + 1
 }
 
 // The height of proof p.
-pub fn height(kinds: &[u32], ends: &[u32], pool: &[u32], z: Sizes, p: usize) -> u32
-    requires { ⌜ Ready (now kinds) (now ends) (now pool) z ⌝ }
-    requires { ⌜ p < z .proofs ⌝ }
-    ensures { λ r. ⌜ r ≡ answer.height (proofsFor (now (kinds .entry)) (now (ends .entry)) (now (pool .entry)) z) p ⌝ }
+pub fn height(job: &[u32], p: usize) -> u32
+    requires { ⌜ Ready (now job) ⌝ }
+    requires { ⌜ p < sizesOf (now job) .proofs ⌝ }
+    ensures { λ r. ⌜ r ≡ answer.height (proofsFor (now (job .entry))) p ⌝ }
 {
     let mut heights = [0u32; 4096];
     let mut i = 0;
     while i < p {
-        heights[i] = height_at(kinds, ends, pool, z, &heights, i);
+        heights[i] = height_at(job, &heights, i);
         i += 1;
     }
-    height_at(kinds, ends, pool, z, &heights, p)
+    height_at(job, &heights, p)
 }

@@ -17,7 +17,7 @@ use Rattle.model.specs.Layout.{Sizes, sizesOf, cellCount, kindsOf, endsOf, pool
 use Rattle.model.specs.Check.{Refusal}
 use Rattle.model.specs.Load.{Lent, wrongLength, tooLarge, endsRise, noRoom, refusedIf, termFits, fitTests, firstRefusal, Admitted, loadTests, loadRefusal}
 use Rattle.model.proofs.Tests.{eq-of, le-of, and-left, and-right, or-left, or-right, not-false}
-use Rattle.model.proofs.Valid.{term-cell, pass, table-passes, loads-admitted, length-tabulate}
+use Rattle.model.proofs.Valid.{term-cell, pass, table-passes, length-tabulate}
 use Rattle.cells.specs.Table.{total}
 use Rattle.cells.proofs.Laws.{to-end}
 use Rattle.cells.proofs.Appending.{total-at}
@@ -59,7 +59,7 @@ start-from p E (suc i) = refl
 
 pub held-of : {K E P : List ℕ} {z : SizesHeld} → Cut K E P z → endsRise 0 E (z .pool) ≡ true → Held K E P z
 held-of {K} {E} {P} {z} C h =
-    let l : Limits z = C .limits in
+    let l : Limits (sizesIn z) = C .limits in
     let p = z .pool in
     record {
       formed = record {
@@ -160,7 +160,7 @@ module _ {K E P : List ℕ} {z : SizesHeld} (H : Held K E P z) (l : Lent) where
 pub or-no : (a b : Bool) → (a || b) ≡ false → (a ≡ false) × (b ≡ false)
 or-no a b h = (or-left a b h, or-right a b h)
 
-pub limits-of : (z : SizesHeld) → tooLarge (sizesIn z) ≡ false → Limits z
+pub limits-of : (z : Sizes) → tooLarge z ≡ false → Limits z
 limits-of z h =
     let a1 = or-no _ (ltb 131072 (z .pool)) h in
     let a2 = or-no _ (ltb 4096 (z .proofs)) (a1 .0) in
@@ -212,7 +212,7 @@ pub sizes-words : (ws : List ℕ) → wrongLength ws ≡ false → 12 ≤ length
 sizes-words ws w = ltb-false (length ws) 12 (or-no (ltb (length ws) 12) _ w .0)
 
 -- the three arrays of a job's words, as the code cuts them
-module _ (ws : List ℕ) (z : SizesHeld) (n : ℕ) (s : sizesIn z ≡ sizesOf ws) (e : n ≡ cellCount (sizesIn z)) (w : wrongLength ws ≡ false) where
+module _ (ws : List ℕ) (n : ℕ) where
   abbrev kindsCut : List ℕ
   kindsCut = take (12 + n - 12) (drop 12 ws)
 
@@ -222,6 +222,20 @@ module _ (ws : List ℕ) (z : SizesHeld) (n : ℕ) (s : sizesIn z ≡ sizesOf ws
   abbrev poolCut : List ℕ
   poolCut = take (length ws - (12 + n + n)) (drop (12 + n + n) ws)
 
+  module _ (e : n ≡ cellCount (sizesOf ws)) where
+    pub kinds-cut : kindsCut ≡ kindsOf ws
+    unfolding kindsOf
+    kinds-cut = let q : 12 + n - 12 ≡ n = omega arith in ap (λ (k : ℕ). take k (drop 12 ws)) (q ∙ e)
+
+    pub ends-cut : endsCut ≡ endsOf ws
+    unfolding endsOf
+    ends-cut = let q : 12 + n + n - (12 + n) ≡ n = omega arith in ap (λ (k : ℕ). take k (drop (12 + n) ws)) q ∙ ap (λ (k : ℕ). take k (drop (12 + k) ws)) e
+
+    pub pool-cut : poolCut ≡ poolOf ws
+    unfolding poolOf
+    pool-cut = to-end (12 + n + n) ws ∙ ap (λ (k : ℕ). drop (12 + k + k) ws) e
+
+module _ (ws : List ℕ) (z : SizesHeld) (n : ℕ) (s : sizesIn z ≡ sizesOf ws) (e : n ≡ cellCount (sizesIn z)) (w : wrongLength ws ≡ false) where
   count : n ≡ cellCount (sizesOf ws)
   count = e ∙ ap cellCount s
 
@@ -231,19 +245,7 @@ module _ (ws : List ℕ) (z : SizesHeld) (n : ℕ) (s : sizesIn z ≡ sizesOf ws
   pub inside : 12 + n + n ≤ length ws
   inside = omega (arith, words, e)
 
-  pub kinds-cut : kindsCut ≡ kindsOf ws
-  unfolding kindsOf
-  kinds-cut = let q : 12 + n - 12 ≡ n = omega arith in ap (λ (k : ℕ). take k (drop 12 ws)) (q ∙ count)
-
-  pub ends-cut : endsCut ≡ endsOf ws
-  unfolding endsOf
-  ends-cut = let q : 12 + n + n - (12 + n) ≡ n = omega arith in ap (λ (k : ℕ). take k (drop (12 + n) ws)) q ∙ ap (λ (k : ℕ). take k (drop (12 + k) ws)) count
-
-  pub pool-cut : poolCut ≡ poolOf ws
-  unfolding poolOf
-  pool-cut = to-end (12 + n + n) ws ∙ ap (λ (k : ℕ). drop (12 + k + k) ws) count
-
-  pub cut-of : Limits z → Cut kindsCut endsCut poolCut z
+  pub cut-of : Limits (sizesIn z) → Cut (kindsCut ws n) (endsCut ws n) (poolCut ws n) z
   cut-of l = record {
     kinds = simp (length-take, length-drop) (omega (arith, inside, e));
     ends = simp (length-take, length-drop) (omega (arith, inside, e));
@@ -251,11 +253,28 @@ module _ (ws : List ℕ) (z : SizesHeld) (n : ℕ) (s : sizesIn z ≡ sizesOf ws
     limits = l;
   }
 
-  pub cut-refusal : (l : Lent) → cellRefusal endsCut (sizesIn z) (tablesFor kindsCut endsCut poolCut z) l ≡ cellRefusal (endsOf ws) (sizesOf ws) (tablesOf ws) l
+  pub cut-refusal : (l : Lent) → cellRefusal (endsCut ws n) (sizesIn z) (tablesFor (kindsCut ws n) (endsCut ws n) (poolCut ws n) z) l ≡ cellRefusal (endsOf ws) (sizesOf ws) (tablesOf ws) l
   unfolding tablesOf
-  cut-refusal l = λ i. cellRefusal (ends-cut i) (s i) (tablesIn (s i) (cellsOf (kinds-cut i) (ends-cut i) (pool-cut i) (cellCount (s i)))) l
+  cut-refusal l = λ i. cellRefusal (ends-cut ws n count i) (s i) (tablesIn (s i) (cellsOf (kinds-cut ws n count i) (ends-cut ws n count i) (pool-cut ws n count i) (cellCount (s i)))) l
 
--- a job that loads: its arrays, as the code cuts them, hold its cells, and its tables pass
+-- the sizes of the definitions, as loading holds them
+abbrev pub heldOf : Sizes → SizesHeld
+heldOf z = record {
+  terms = z .terms;
+  expressions = z .expressions;
+  facts = z .facts;
+  actions = z .actions;
+  globals = z .globals;
+  functions = z .functions;
+  primitives = z .primitives;
+  rows = z .rows;
+  normalisers = z .normalisers;
+  rules = z .rules;
+  proofs = z .proofs;
+  pool = z .pool;
+}
+
+-- a job that loads: its arrays hold its cells
 pub refused-no : (b : Bool) (n : ℕ) → refusedIf b n ≡ none → b ≡ false
 unfolding refusedIf
 refused-no false n h = refl
@@ -272,25 +291,11 @@ module _ (ws : List ℕ) (asked : ℕ) (l : Lent) (a : loadRefusal ws asked l �
   pub right-length : wrongLength ws ≡ false
   right-length = refused-no _ 1 (test-passes _ (List·Memᴰ·head refl))
 
-  module _ (z : SizesHeld) (n : ℕ) (s : sizesIn z ≡ sizesOf ws) (e : n ≡ cellCount (sizesIn z)) where
-    abbrev K : List ℕ
-    K = kindsCut ws z n s e right-length
-
-    abbrev E : List ℕ
-    E = endsCut ws z n s e right-length
-
-    abbrev P : List ℕ
-    P = poolCut ws z n s e right-length
-
-    pub loads-held : Held K E P z
-    loads-held =
-        let small : tooLarge (sizesIn z) ≡ false = ap tooLarge s ∙ refused-no _ 2 (test-passes _ (List·Memᴰ·tail (List·Memᴰ·head refl))) in
-        let rise = not-false _ (refused-no _ 5 (test-passes _ (List·Memᴰ·tail (List·Memᴰ·tail (List·Memᴰ·tail (List·Memᴰ·head refl)))))) in
-        held-of (cut-of ws z n s e right-length (limits-of z small)) ((λ i. endsRise 0 (ends-cut ws z n s e right-length i) (s i .pool)) ∙ rise)
-
-    pub loads-pass : Admitted (sizesIn z) (tablesFor K E P z)
-    unfolding tablesOf
-    loads-pass =
-        let same : _≡_ {A = Sizes × Tables} (sizesIn z, tablesFor K E P z) (sizesOf ws, tablesOf ws) =
-        λ i. (s i, tablesIn (s i) (cellsOf (kinds-cut ws z n s e right-length i) (ends-cut ws z n s e right-length i) (pool-cut ws z n s e right-length i) (cellCount (s i)))) in
-        subst (λ (x : Sizes × Tables). Admitted (x .0) (x .1)) (sym same) (loads-admitted ws asked l a)
+  pub loads-held : Held (kindsOf ws) (endsOf ws) (poolOf ws) (heldOf (sizesOf ws))
+  loads-held =
+      let z = heldOf (sizesOf ws) in
+      let n = cellCount (sizesOf ws) in
+      let cut = cut-of ws z n refl refl right-length (limits-of (sizesOf ws) (refused-no _ 2 (test-passes _ (List·Memᴰ·tail (List·Memᴰ·head refl))))) in
+      held-of
+      (subst (λ (x : List ℕ × List ℕ × List ℕ). Cut (x .0) (x .1) (x .2) z) (λ i. (kinds-cut ws n refl i, ends-cut ws n refl i, pool-cut ws n refl i)) cut)
+      (not-false _ (refused-no _ 5 (test-passes _ (List·Memᴰ·tail (List·Memᴰ·tail (List·Memᴰ·tail (List·Memᴰ·head refl)))))))

@@ -54,7 +54,7 @@ countsOf z =
     z .terms ∷ z .expressions ∷ z .facts ∷ z .actions ∷ z .functions ∷ z .primitives ∷ z .rows ∷ z .normalisers ∷ z .rules ∷ z .proofs ∷ []
 
 -- The limits of the sizes.
-pub record Limits (z : SizesHeld) : Type 0 where
+pub record Limits (z : Sizes) : Type 0 where
   pub terms : z .terms ≤ 16384
   pub expressions : z .expressions ≤ 4096
   pub facts : z .facts ≤ 4096
@@ -76,7 +76,7 @@ fillOf z = record { cells = cellCount (sizesIn z); words = z .pool }
 -- Three arrays that hold the cells of a job with these sizes.
 pub record Held (K E P : List ℕ) (z : SizesHeld) : Type 0 where
   pub formed : Formed K E P (fillOf z)
-  pub limits : Limits z
+  pub limits : Limits (sizesIn z)
 
 -- The tables that they hold.
 abbrev pub tablesFor : List ℕ → List ℕ → List ℕ → SizesHeld → Tables
@@ -149,7 +149,7 @@ pub record Cut (K E P : List ℕ) (z : SizesHeld) : Type 0 where
   pub kinds : length K ≡ cellCount (sizesIn z)
   pub ends : length E ≡ cellCount (sizesIn z)
   pub pool : length P ≡ z .pool
-  pub limits : Limits z
+  pub limits : Limits (sizesIn z)
 
 -- The tests for 5 to 10, in their order.
 abbrev pub cellTests : List ℕ → Sizes → Tables → Lent → List (Unit {0} → Option Refusal)

@@ -13,13 +13,9 @@ use cells::Found;
 use cells::start;
 use cells::wide;
 ghost use mathlib.Core.Path.{_≡_};
-ghost use mathlib.Core.Bool.{Bool, true, false};
-ghost use mathlib.Core.List.{map};
-ghost use Prim.Native.Nat.{ℕ, _+_, _≤_};
-ghost use lib.ListN.{length};
-ghost use Rattle.model.specs.Cell.{startOf};
-ghost use Rattle.model.specs.Term.{readTerm};
-ghost use Rattle.model.specs.Load.{endsRise, firstRefusal, noRoom, loadRefusal};
+ghost use mathlib.Core.Bool.{true, false};
+ghost use Prim.Native.Nat.{_+_};
+ghost use Rattle.model.specs.Load.{endsRise, firstRefusal, loadRefusal};
 ghost use Rattle.load.specs.Held.{sizesIn, Limits, Held, tablesFor, refusalOf, writerTests, roomLacks, Cut, cellRefusal};
 
 // What loading answers: the job is admitted, the host is at fault, or the job's writer, with the least cell.
@@ -71,7 +67,7 @@ pub fn no_room(
     pool: usize,
     scratch: usize,
 ) -> bool
-    requires { ⌜ Limits z ⌝ }
+    requires { ⌜ Limits (sizesIn z) ⌝ }
     ensures { λ r. ⌜ r ≡ roomLacks (sizesIn z) words (record { kinds = kinds; ends = ends; pool = pool; scratch = scratch }) ⌝ }
 {
     if 65536 < kinds {

@@ -1,9 +1,8 @@
 // The twelve sizes of a job, and what they alone refuse: 1 and 2.
 use cells::wide;
 ghost use mathlib.Core.Path.{_≡_};
-ghost use mathlib.Core.Bool.{Bool, true, false};
-ghost use mathlib.Core.List.{List};
-ghost use Prim.Native.Nat.{ℕ, _+_, _≤_};
+ghost use mathlib.Core.Bool.{true};
+ghost use Prim.Native.Nat.{_+_, _≤_};
 ghost use lib.ListN.{length};
 ghost use Rattle.model.specs.Layout.{cellCount, sizesOf};
 ghost use Rattle.model.specs.Load.{wrongLength, tooLarge};

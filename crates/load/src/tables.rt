@@ -14,11 +14,10 @@ use cells::same_words;
 use cells::wide;
 use cells::words;
 ghost use mathlib.Core.Path.{_≡_};
-ghost use mathlib.Core.Bool.{Bool, true, false};
-ghost use Prim.Native.Nat.{ℕ, _+_, _<_, _≤_};
-ghost use lib.ListN.{length, getD};
+ghost use mathlib.Core.Bool.{true, false};
+ghost use Prim.Native.Nat.{ℕ, _+_, _<_};
+ghost use lib.ListN.{getD};
 ghost use mathlib.Core.List.{[]};
-ghost use Rattle.model.specs.Cell.{Cell, noCell};
 ghost use Rattle.model.specs.Load.{counts as operandCounts, failsFrom, marks, setFits, actionFits, passed, fitTests, referTests, validTests, onceTests, validates, bindsOnce};
 ghost use Rattle.model.specs.Cell.{cellsOf};
 ghost use Rattle.model.specs.Layout.{cellCount, tableList};
@@ -28,7 +27,7 @@ ghost use Rattle.load.specs.Held.{sizesIn, fillOf, Limits, Held, tablesF
 
 // How much the job's arrays hold.
 pub fn fill(z: Sizes) -> Fill
-    requires { ⌜ Limits z ⌝ }
+    requires { ⌜ Limits (sizesIn z) ⌝ }
     ensures { λ r. ⌜ r ≡ fillOf z ⌝ }
 {
     Fill {

@@ -6,16 +6,12 @@ use native.Mathlib.Numerals.{add-one}
 use mathlib.Core.Path.{_≡_, refl, sym, ap, _∙_}
 use mathlib.Core.List.{List, _∷_, _++_, append-nil}
 use mathlib.Core.Bool.{Bool, true, false, not}
-use lib.ListN.{length, getD, drop, set, length-map, length-replicate, drop-of-length-le, List·getD-eq-default}
+use lib.ListN.{length, getD, drop, set, length-replicate, drop-of-length-le, List·getD-eq-default}
 use lib.Seq.{drop-cons, set-at}
 use lib.Dec.{ltb}
 use borrow.Author.Tests.{not-true, not-false}
-use Rattle.model.specs.Cell.{cellsOf}
-use Rattle.model.specs.Term.{Term, readTerm, getTerm}
+use Rattle.model.specs.Term.{Term, getTerm}
 use Rattle.model.specs.Evaluate.{children}
-use Rattle.cells.specs.declared.Fill.{Fill}
-use Rattle.cells.proofs.Laws.{cells-length}
-use Rattle.termdag.specs.Store.{termsIn}
 use Rattle.marks.specs.Marks.{zeros, markAll, closeAt, close}
 use Rattle.marks.proofs.Closing.{at-length}
 

@@ -1,9 +1,9 @@
 // The memo of an evaluation: the value of each expression that was evaluated in this round. Word 0 is the round; two words for each expression are the round
 // in which it was evaluated last, and its value.
 ghost use mathlib.Core.Path.{_≡_};
-ghost use Prim.Native.Nat.{_+_, _<_, _^_};
+ghost use Prim.Native.Nat.{_+_, _<_};
 ghost use lib.ListN.{length, set, replicate};
-ghost use Rattle.memo.specs.Memo.{roundOf, valueAt, isNoted, noteAt, Past, Started};
+ghost use Rattle.memo.specs.Memo.{valueAt, isNoted, noteAt, Past, Started};
 
 // Expression e was evaluated in this round.
 pub fn is_noted(memo: &[u32], e: usize) -> bool

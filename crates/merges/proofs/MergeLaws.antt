@@ -26,7 +26,6 @@ use Rattle.outcome.specs.declared.Checked.{Checked}
 use Rattle.outcome.proofs.Laws.{ok-of, does-here, does-then, does-stop}
 use Rattle.marks.specs.Covering.{Marks}
 use Rattle.marks.proofs.Marking.{marks-cleared}
-use Rattle.load.specs.declared.sizes.Sizes.{Sizes}
 use Rattle.program.specs.Ready.{programFor}
 use Rattle.evaluate.specs.Evaluation.{Checks}
 use Rattle.actions.specs.Acting.{Standing, Yields}
@@ -124,11 +123,11 @@ cleared-length true m = length-replicate (length m) 0
 cleared-length false m = refl
 
 -- the code's merge
-module _ (K E P : List ℕ) (z : Sizes) (p : ℕ) (q : Proposition) (function : ℕ) (a b : Proposition) (k e pool : List ℕ) (f : Fill) (memo m : List ℕ)
-    (S : Standing K E P z [] k e pool f memo m) (sa : Small (termsIn k e pool f) (a .rhs)) (sb : Small (termsIn k e pool f) (b .rhs))
+module _ (J : List ℕ) (p : ℕ) (q : Proposition) (function : ℕ) (a b : Proposition) (k e pool : List ℕ) (f : Fill) (memo m : List ℕ)
+    (S : Standing J [] k e pool f memo m) (sa : Small (termsIn k e pool f) (a .rhs)) (sb : Small (termsIn k e pool f) (b .rhs))
     (v : Views) (R : outcomeOf (v .refusal) (mergingOf v (front (children (getTerm (termsIn k e pool f) (a .rhs))))) (termsIn k e pool f) ≡ readViews p a b (termsIn k e pool f)) where
   abbrev prog : Program
-  prog = programFor K E P z
+  prog = programFor J
 
   abbrev s : List Term
   s = termsIn k e pool f
@@ -149,7 +148,7 @@ module _ (K E P : List ℕ) (z : Sizes) (p : ℕ) (q : Proposition) (function : 
     values : (last (children (getTerm s (a .rhs))) ≡ some (v .old)) × (last (children (getTerm s (b .rhs))) ≡ some (v .new))
     values = let w = post-result (read-values p a b s) (sym R ∙ ok-of (v .refusal) (mergingOf v inputs) s n) in (w .0, w .1)
 
-    pub merge-standing : {m₁ : List ℕ} → length m₁ ≡ length m → Standing K E P z (mergeBindings (v .old) (v .new)) k e pool f memo m₁
+    pub merge-standing : {m₁ : List ℕ} → length m₁ ≡ length m → Standing J (mergeBindings (v .old) (v .new)) k e pool f memo m₁
     merge-standing l = record {
       ready = S .ready;
       stored = S .stored;

@@ -6,7 +6,6 @@ use decode::Term;
 use heads::clear_if;
 use heads::is_claimed;
 use heads::run_merge;
-use load::sizes::Sizes;
 use outcome::Checked;
 use outcome::Refusal;
 use outcome::add_app;
@@ -275,10 +274,7 @@ fn add_view(
 
 // `MergeFn`: the views of a and b, merged by the function named.
 pub fn merge_step(
-    kinds: &[u32],
-    ends: &[u32],
-    pool: &[u32],
-    z: Sizes,
+    job: &[u32],
     skinds: &mut [u32],
     sends: &mut [u32],
     spool: &mut [u32],
@@ -291,10 +287,10 @@ pub fn merge_step(
     a: Proposition,
     b: Proposition,
 ) -> Checked
-    requires { ⌜ Standing (now kinds) (now ends) (now pool) z [] (now skinds) (now sends) (now spool) fill (now memo) (now marks) ⌝ }
+    requires { ⌜ Standing (now job) [] (now skinds) (now sends) (now spool) fill (now memo) (now marks) ⌝ }
     requires { ⌜ Small (termsIn (now skinds) (now sends) (now spool) fill) (a .rhs) ⌝ }
     requires { ⌜ Small (termsIn (now skinds) (now sends) (now spool) fill) (b .rhs) ⌝ }
-    ensures { λ r. ⌜ Checks (now (skinds .entry)) (now (sends .entry)) (now (spool .entry)) fill (now (skinds .exit)) (now (sends .exit)) (now (spool .exit)) (r .fill) (r .refusal) tt (now (memo .exit)) (mergeStep (roomOf (now (skinds .entry)) (now (spool .entry))) (programFor (now (kinds .entry)) (now (ends .entry)) (now (pool .entry)) z) p (propositionOf q) function (propositionOf a) (propositionOf b) (termsIn (now (skinds .entry)) (now (sends .entry)) (now (spool .entry)) fill)) ⌝ }
+    ensures { λ r. ⌜ Checks (now (skinds .entry)) (now (sends .entry)) (now (spool .entry)) fill (now (skinds .exit)) (now (sends .exit)) (now (spool .exit)) (r .fill) (r .refusal) tt (now (memo .exit)) (mergeStep (roomOf (now (skinds .entry)) (now (spool .entry))) (programFor (now (job .entry))) p (propositionOf q) function (propositionOf a) (propositionOf b) (termsIn (now (skinds .entry)) (now (sends .entry)) (now (spool .entry)) fill)) ⌝ }
 {
     let v = read_views(skinds, sends, spool, fill, p, a, b);
     let first = v.refusal;
@@ -308,10 +304,7 @@ pub fn merge_step(
     let marking = q.lhs == q.rhs;
     clear_if(marking, marks);
     let m = run_merge(
-        kinds,
-        ends,
-        pool,
-        z,
+        job,
         skinds,
         sends,
         spool,

@@ -11,6 +11,7 @@ use lib.Dec.{eqb}
 use lib.ListN.{length, getD, set, drop, drop-of-length-le, length-set}
 use lib.Seq.{drop-cons, getD-set-same, getD-set-other}
 use borrow.Author.Tests.{eq-eqb, ne-eqb, eqb-true, eqb-false}
+use Rattle.model.specs.Layout.{sizesOf}
 use Rattle.model.specs.Term.{Term}
 use Rattle.model.specs.Cell.{Cell, noCell}
 use Rattle.model.specs.Program.{Head, Expr, Program}
@@ -23,11 +24,8 @@ use Rattle.model.proofs.Valid.{expressions-lower}
 use Rattle.decode.specs.View.{headOf, factOf}
 use Rattle.decode.specs.declared.Head.{Head as HeadView}
 use Rattle.decode.specs.declared.Fact.{Fact as FactView}
-use Rattle.load.specs.Held.{sizesIn, tablesFor}
-use Rattle.load.specs.declared.sizes.Sizes.{Sizes}
-use Rattle.program.specs.Ready.{Ready, programFor}
-use Rattle.program.specs.Read.{HeadAt, ArgumentsAt, FactAt}
-use Rattle.program.specs.Read.{exprFor, factFor}
+use Rattle.program.specs.Ready.{tablesFor, Ready, programFor}
+use Rattle.program.specs.Read.{HeadAt, ArgumentsAt, FactAt, exprFor, factFor}
 use Rattle.normal_form.specs.Search.{offenceOf, offenceBy, offenceIn, SearchedTo, Searched}
 use Rattle.normal_form.specs.declared.Offence.{Offence}
 
@@ -94,15 +92,15 @@ module _ (cells : List Cell) (j : ℕ) where
       ∙ sym (argument-is prog h)
 
 -- what is said of a head
-pub head-by : {A : Type 0} (k : Head → A) {K E P : List ℕ} {z : Sizes} {n e : ℕ} {h g : HeadView} {a : A} → HeadAt K E P z n h → n ≡ e → h ≡ g → a ≡ k (headOf g)
-    → a ≡ k (fact.headOf (exprFor K E P z e))
-head-by k {K} {E} {P} {z} {n} {e} H q p r =
-    r ∙ ap k (ap headOf (sym p) ∙ H .is ∙ sym (head-is (tablesFor K E P z .expressions) n) ∙ ap (λ (j : ℕ). fact.headOf (exprFor K E P z j)) q)
+pub head-by : {A : Type 0} (k : Head → A) {J : List ℕ} {n e : ℕ} {h g : HeadView} {a : A} → HeadAt J n h → n ≡ e → h ≡ g → a ≡ k (headOf g)
+    → a ≡ k (fact.headOf (exprFor J e))
+head-by k {J} {n} {e} H q p r =
+    r ∙ ap k (ap headOf (sym p) ∙ H .is ∙ sym (head-is (tablesFor J .expressions) n) ∙ ap (λ (j : ℕ). fact.headOf (exprFor J j)) q)
 
 -- fact i
-pub fact-by : {K E P : List ℕ} {z : Sizes} {n i : ℕ} {f g : FactView} → FactAt K E P z n f → n ≡ i → f ≡ g → factOf (exprFor K E P z) i g ≡ factFor K E P z i
-fact-by {K} {E} {P} {z} {n} {i} {f} A q p =
-    ap (factOf (exprFor K E P z) i) (sym p) ∙ subst (λ (j : ℕ). factOf (exprFor K E P z) j f ≡ factFor K E P z j) q (A .is)
+pub fact-by : {J : List ℕ} {n i : ℕ} {f g : FactView} → FactAt J n f → n ≡ i → f ≡ g → factOf (exprFor J) i g ≡ factFor J i
+fact-by {J} {n} {i} {f} A q p =
+    ap (factOf (exprFor J) i) (sym p) ∙ subst (λ (j : ℕ). factOf (exprFor J) j f ≡ factFor J j) q (A .is)
 
 -- the tests' outcomes
 pub says-first : (j : ℕ) (a b : Bool) → a ≡ true → offenceIn (2 * j + 1) ≡ firstOf (offenceIf a (primitiveNonNormalArg j)) (offenceIf b (containerPrimitiveNotSideCondition j))
@@ -115,31 +113,31 @@ pub says-none : (j : ℕ) (a b : Bool) → a ≡ false → b ≡ false → offen
 says-none j a b e f = sym word-none ∙ ap₂ (λ (x y : Bool). firstOf (offenceIf x (primitiveNonNormalArg j)) (offenceIf y (containerPrimitiveNotSideCondition j))) (sym e) (sym f)
 
 -- what is left of an expression's arguments
-module _ (K E P : List ℕ) (z : Sizes) where
+module _ (J : List ℕ) where
   abbrev pub rest : Head → List ℕ → ℕ → Option fact.Offence
-  rest h xs k = offences (argumentsBy (exprFor K E P z) (drop k xs)) (programFor K E P z) h
+  rest h xs k = offences (argumentsBy (exprFor J) (drop k xs)) (programFor J) h
 
-  pub rest-all : Ready K E P z → (e : ℕ) (h : HeadView) (xs : List ℕ) → HeadAt K E P z e h → ArgumentsAt K E P z e xs → rest (headOf h) xs 0 ≡ offence (exprFor K E P z e) (programFor K E P z)
+  pub rest-all : Ready J → (e : ℕ) (h : HeadView) (xs : List ℕ) → HeadAt J e h → ArgumentsAt J e xs → rest (headOf h) xs 0 ≡ offence (exprFor J e) (programFor J)
   unfolding offence offences
   rest-all R e h xs H A =
-      let T = tablesFor K E P z in
-      ap₂ (λ (g : Head) (ys : List ℕ). offences (argumentsBy (exprFor K E P z) ys) (programFor K E P z) g) (H .is) (A .is)
-      ∙ ap (λ (x : Expr). offence x (programFor K E P z)) (sym (expr-node (T .expressions) (expressions-lower (sizesIn z) T (R .admitted)) e))
+      let T = tablesFor J in
+      ap₂ (λ (g : Head) (ys : List ℕ). offences (argumentsBy (exprFor J) ys) (programFor J) g) (H .is) (A .is)
+      ∙ ap (λ (x : Expr). offence x (programFor J)) (sym (expr-node (T .expressions) (expressions-lower (sizesOf J) T (R .admitted)) e))
 
   pub rest-none : (h : Head) (xs : List ℕ) (k : ℕ) → length xs ≤ k → offenceIn 0 ≡ rest h xs k
   unfolding offences
-  rest-none h xs k l = sym word-none ∙ ap (λ (ys : List ℕ). offences (argumentsBy (exprFor K E P z) ys) (programFor K E P z) h) (sym (drop-of-length-le xs l))
+  rest-none h xs k l = sym word-none ∙ ap (λ (ys : List ℕ). offences (argumentsBy (exprFor J) ys) (programFor J) h) (sym (drop-of-length-le xs l))
 
   -- one argument after another
-  module _ (h : Head) (xs F : List ℕ) (e k a n w : ℕ) (S : SearchedTo K E P z e F) (l : k < length xs) (lower : getD xs k 0 < e) (at : n ≡ getD xs k 0)
-      (s : offenceIn a ≡ argumentOffence (programFor K E P z) h (exprFor K E P z (getD xs k 0))) (v : offenceIn w ≡ firstOf (offenceIn a) (offenceIn (getD F n 0))) where
+  module _ (h : Head) (xs F : List ℕ) (e k a n w : ℕ) (S : SearchedTo J e F) (l : k < length xs) (lower : getD xs k 0 < e) (at : n ≡ getD xs k 0)
+      (s : offenceIn a ≡ argumentOffence (programFor J) h (exprFor J (getD xs k 0))) (v : offenceIn w ≡ firstOf (offenceIn a) (offenceIn (getD F n 0))) where
     rest-step : rest h xs k ≡ firstOf (offenceIn w) (rest h xs (k + 1))
     unfolding offences
     rest-step =
         let x = getD xs k 0 in
-        let inside : offenceIn (getD F n 0) ≡ offence (exprFor K E P z x) (programFor K E P z) = ap (λ (i : ℕ). offenceIn (getD F i 0)) at ∙ S .says x lower in
-        ap (λ (ys : List ℕ). offences (argumentsBy (exprFor K E P z) ys) (programFor K E P z) h) (drop-cons xs k 0 l)
-        ∙ first-both (argumentOffence (programFor K E P z) h (exprFor K E P z x)) (offence (exprFor K E P z x) (programFor K E P z)) (rest h xs (suc k))
+        let inside : offenceIn (getD F n 0) ≡ offence (exprFor J x) (programFor J) = ap (λ (i : ℕ). offenceIn (getD F i 0)) at ∙ S .says x lower in
+        ap (λ (ys : List ℕ). offences (argumentsBy (exprFor J) ys) (programFor J) h) (drop-cons xs k 0 l)
+        ∙ first-both (argumentOffence (programFor J) h (exprFor J x)) (offence (exprFor J x) (programFor J)) (rest h xs (suc k))
         ∙ ap₂ (λ (o : Option fact.Offence) (i : ℕ). firstOf o (rest h xs i)) (sym (v ∙ ap₂ (λ (o u : Option fact.Offence). firstOf o u) s inside)) (sym (add-one k))
 
     pub rest-yes : (w ≡ 0 → ⊥) → offenceIn w ≡ rest h xs k
@@ -149,60 +147,60 @@ module _ (K E P : List ℕ) (z : Sizes) where
     rest-no q = word-second w (rest h xs (k + 1)) q ∙ sym rest-step
 
   -- one expression after another
-  pub searched-none : (F : List ℕ) → SearchedTo K E P z 0 F
+  pub searched-none : (F : List ℕ) → SearchedTo J 0 F
   searched-none F = record { long = omega arith; says = λ e h. absurd (omega arith) }
 
-  pub searched-more : (F : List ℕ) (n w : ℕ) → SearchedTo K E P z n F → n < length F → offenceIn w ≡ offence (exprFor K E P z n) (programFor K E P z) → SearchedTo K E P z (n + 1) (set F n w)
+  pub searched-more : (F : List ℕ) (n w : ℕ) → SearchedTo J n F → n < length F → offenceIn w ≡ offence (exprFor J n) (programFor J) → SearchedTo J (n + 1) (set F n w)
   searched-more F n w S l s = record {
     long = simp length-set (omega arith);
     says = λ e h. go e h (decLt e n);
   }
     where
-      go : (e : ℕ) → e < n + 1 → Dec (e < n) → offenceIn (getD (set F n w) e 0) ≡ offence (exprFor K E P z e) (programFor K E P z)
+      go : (e : ℕ) → e < n + 1 → Dec (e < n) → offenceIn (getD (set F n w) e 0) ≡ offence (exprFor J e) (programFor J)
       go e h (yes q) = ap offenceIn (getD-set-other F n e w 0 (λ i. omega arith)) ∙ S .says e q
       go e h (no q) =
           let i : n ≡ e = omega arith in
-          subst (λ (x : ℕ). offenceIn (getD (set F n w) x 0) ≡ offence (exprFor K E P z x) (programFor K E P z)) i (ap offenceIn (getD-set-same F n w 0 l) ∙ s)
+          subst (λ (x : ℕ). offenceIn (getD (set F n w) x 0) ≡ offence (exprFor J x) (programFor J)) i (ap offenceIn (getD-set-same F n w 0 l) ∙ s)
 
   -- the head of an expression
-  pub container-by : (e : ℕ) (h g : HeadView) (b : Bool) → HeadAt K E P z e h → h ≡ g → b ≡ isContainerPrimitive (programFor K E P z) (headOf g)
-      → b ≡ isContainerPrimitive (programFor K E P z) (fact.headOf (exprFor K E P z e))
-  container-by e h g b H q r = head-by (isContainerPrimitive (programFor K E P z)) H refl q r
+  pub container-by : (e : ℕ) (h g : HeadView) (b : Bool) → HeadAt J e h → h ≡ g → b ≡ isContainerPrimitive (programFor J) (headOf g)
+      → b ≡ isContainerPrimitive (programFor J) (fact.headOf (exprFor J e))
+  container-by e h g b H q r = head-by (isContainerPrimitive (programFor J)) H refl q r
 
   -- the sides of a fact
-  module _ (i : ℕ) (f : FactView) (A : FactAt K E P z i f) where
-    fact-is : (g : FactView) → f ≡ g → factOf (exprFor K E P z) i g ≡ factFor K E P z i
+  module _ (i : ℕ) (f : FactView) (A : FactAt J i f) where
+    fact-is : (g : FactView) → f ≡ g → factOf (exprFor J) i g ≡ factFor J i
     fact-is g q = fact-by A refl q
 
-    pub equal-offence : (F : List ℕ) (l r n m w : ℕ) → f ≡ FactView.Equal l r → Searched K E P z F → n ≡ l → m ≡ r → offenceIn w ≡ firstOf (offenceIn (getD F n 0)) (offenceIn (getD F m 0))
-        → offenceIn w ≡ factOffence (programFor K E P z) (factFor K E P z i)
+    pub equal-offence : (F : List ℕ) (l r n m w : ℕ) → f ≡ FactView.Equal l r → Searched J F → n ≡ l → m ≡ r → offenceIn w ≡ firstOf (offenceIn (getD F n 0)) (offenceIn (getD F m 0))
+        → offenceIn w ≡ factOffence (programFor J) (factFor J i)
     equal-offence F l r n m w q S en em s =
         let b = A .equal l r q in
-        let x : offenceIn (getD F n 0) ≡ offence (exprFor K E P z l) (programFor K E P z) = ap (λ (k : ℕ). offenceIn (getD F k 0)) en ∙ S .says l (b .0) in
-        let y : offenceIn (getD F m 0) ≡ offence (exprFor K E P z r) (programFor K E P z) = ap (λ (k : ℕ). offenceIn (getD F k 0)) em ∙ S .says r (b .1) in
-        s ∙ ap₂ (λ (o u : Option fact.Offence). firstOf o u) x y ∙ ap (factOffence (programFor K E P z)) (fact-is (FactView.Equal l r) q)
+        let x : offenceIn (getD F n 0) ≡ offence (exprFor J l) (programFor J) = ap (λ (k : ℕ). offenceIn (getD F k 0)) en ∙ S .says l (b .0) in
+        let y : offenceIn (getD F m 0) ≡ offence (exprFor J r) (programFor J) = ap (λ (k : ℕ). offenceIn (getD F k 0)) em ∙ S .says r (b .1) in
+        s ∙ ap₂ (λ (o u : Option fact.Offence). firstOf o u) x y ∙ ap (factOffence (programFor J)) (fact-is (FactView.Equal l r) q)
 
-    pub bare-offence : (F : List ℕ) (e n : ℕ) → f ≡ FactView.Bare e → Searched K E P z F → n ≡ e → offenceIn (getD F n 0) ≡ factOffence (programFor K E P z) (factFor K E P z i)
+    pub bare-offence : (F : List ℕ) (e n : ℕ) → f ≡ FactView.Bare e → Searched J F → n ≡ e → offenceIn (getD F n 0) ≡ factOffence (programFor J) (factFor J i)
     bare-offence F e n q S en =
-        ap (λ (k : ℕ). offenceIn (getD F k 0)) en ∙ S .says e (A .bare e q) ∙ ap (factOffence (programFor K E P z)) (fact-is (FactView.Bare e) q)
+        ap (λ (k : ℕ). offenceIn (getD F k 0)) en ∙ S .says e (A .bare e q) ∙ ap (factOffence (programFor J)) (fact-is (FactView.Bare e) q)
 
     pub equal-side : (l r n m : ℕ) {a b : Bool} → f ≡ FactView.Equal l r → n ≡ l → m ≡ r
-        → a ≡ isContainerPrimitive (programFor K E P z) (fact.headOf (exprFor K E P z n)) → b ≡ isContainerPrimitive (programFor K E P z) (fact.headOf (exprFor K E P z m))
-        → (a || b) ≡ isContainerSideCondition (programFor K E P z) (factFor K E P z i)
+        → a ≡ isContainerPrimitive (programFor J) (fact.headOf (exprFor J n)) → b ≡ isContainerPrimitive (programFor J) (fact.headOf (exprFor J m))
+        → (a || b) ≡ isContainerSideCondition (programFor J) (factFor J i)
     equal-side l r n m {a} {b} q en em ea eb =
-        let at : ℕ → Bool = λ k. isContainerPrimitive (programFor K E P z) (fact.headOf (exprFor K E P z k)) in
-        ap₂ (λ (x y : Bool). x || y) (ea ∙ ap at en) (eb ∙ ap at em) ∙ ap (isContainerSideCondition (programFor K E P z)) (fact-is (FactView.Equal l r) q)
+        let at : ℕ → Bool = λ k. isContainerPrimitive (programFor J) (fact.headOf (exprFor J k)) in
+        ap₂ (λ (x y : Bool). x || y) (ea ∙ ap at en) (eb ∙ ap at em) ∙ ap (isContainerSideCondition (programFor J)) (fact-is (FactView.Equal l r) q)
 
-    pub bare-side : (e n : ℕ) {a : Bool} → f ≡ FactView.Bare e → n ≡ e → a ≡ isContainerPrimitive (programFor K E P z) (fact.headOf (exprFor K E P z n))
-        → a ≡ isContainerSideCondition (programFor K E P z) (factFor K E P z i)
+    pub bare-side : (e n : ℕ) {a : Bool} → f ≡ FactView.Bare e → n ≡ e → a ≡ isContainerPrimitive (programFor J) (fact.headOf (exprFor J n))
+        → a ≡ isContainerSideCondition (programFor J) (factFor J i)
     bare-side e n q en ea =
-        ea ∙ ap (λ (k : ℕ). isContainerPrimitive (programFor K E P z) (fact.headOf (exprFor K E P z k))) en ∙ ap (isContainerSideCondition (programFor K E P z)) (fact-is (FactView.Bare e) q)
+        ea ∙ ap (λ (k : ℕ). isContainerPrimitive (programFor J) (fact.headOf (exprFor J k))) en ∙ ap (isContainerSideCondition (programFor J)) (fact-is (FactView.Bare e) q)
 
 -- normal form, by the offence that was found
-pub normal-form : (K E P : List ℕ) (z : Sizes) (rule : ℕ) (s : List Term) {n i : ℕ} {o g : Offence} → offenceOf o ≡ factOffence (programFor K E P z) (factFor K E P z n) → n ≡ i → o ≡ g
-    → noOffence rule (offenceOf g) s ≡ assertBodyProofNormalForm (programFor K E P z) rule (factFor K E P z i) s
+pub normal-form : (J : List ℕ) (rule : ℕ) (s : List Term) {n i : ℕ} {o g : Offence} → offenceOf o ≡ factOffence (programFor J) (factFor J n) → n ≡ i → o ≡ g
+    → noOffence rule (offenceOf g) s ≡ assertBodyProofNormalForm (programFor J) rule (factFor J i) s
 unfolding assertBodyProofNormalForm
-normal-form K E P z rule s d q p =
+normal-form J rule s d q p =
     ap (λ (x : Offence). noOffence rule (offenceOf x) s) (sym p)
     ∙ ap (λ (x : Option fact.Offence). noOffence rule x s) d
-    ∙ ap (λ (j : ℕ). noOffence rule (factOffence (programFor K E P z) (factFor K E P z j)) s) q
+    ∙ ap (λ (j : ℕ). noOffence rule (factOffence (programFor J) (factFor J j)) s) q

@@ -6,9 +6,9 @@ use mathlib.Core.Option.{Option, none, some}
 use Prim.Native.Nat.{ℕ, _-_, _/_, _%_, _≤_, _<_}
 use lib.Dec.{eqb}
 use lib.ListN.{length, getD}
+use Rattle.model.specs.Layout.{sizesOf}
 use Rattle.model.specs.Fact as fact
 use Rattle.model.specs.Fact.{primitiveNonNormalArg, containerPrimitiveNotSideCondition, offence}
-use Rattle.load.specs.declared.sizes.Sizes.{Sizes}
 use Rattle.program.specs.Ready.{programFor}
 use Rattle.program.specs.Read.{exprFor}
 use Rattle.normal_form.specs.declared.Offence.{Offence}
@@ -30,10 +30,10 @@ unfoldable pub offenceIn : ℕ → Option fact.Offence
 offenceIn w = offenceBy (eqb w 0) (eqb (w % 2) 1) w
 
 -- The first n words of F say the first offence in each of the first n expressions.
-pub record SearchedTo (K E P : List ℕ) (z : Sizes) (n : ℕ) (F : List ℕ) : Type 0 where
+pub record SearchedTo (J : List ℕ) (n : ℕ) (F : List ℕ) : Type 0 where
   pub long : n ≤ length F
-  pub says : (e : ℕ) → e < n → offenceIn (getD F e 0) ≡ offence (exprFor K E P z e) (programFor K E P z)
+  pub says : (e : ℕ) → e < n → offenceIn (getD F e 0) ≡ offence (exprFor J e) (programFor J)
 
 -- A word for each expression.
-abbrev pub Searched : List ℕ → List ℕ → List ℕ → Sizes → List ℕ → Type 0
-Searched K E P z F = SearchedTo K E P z (z .expressions) F
+abbrev pub Searched : List ℕ → List ℕ → Type 0
+Searched J F = SearchedTo J (sizesOf J .expressions) F

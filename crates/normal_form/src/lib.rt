@@ -2,9 +2,10 @@
 use cells::wide;
 use decode::Fact;
 use decode::Head;
-use load::sizes::Sizes;
 use outcome::Refusal;
 use program::Looked;
+use program::job::EXPRESSIONS;
+use program::job::size;
 use program::primitive_at;
 use program::read::arguments_at;
 use program::read::fact_at;
@@ -13,6 +14,7 @@ ghost use mathlib.Core.Path.{_≡_};
 ghost use mathlib.Core.List.{List};
 ghost use Prim.Native.Nat.{_≤_, _<_};
 ghost use lib.ListN.{length};
+ghost use Rattle.model.specs.Layout.{sizesOf};
 ghost use Rattle.model.specs.Term.{Term};
 ghost use Rattle.model.specs.Check.{firstOf};
 ghost use Rattle.model.specs.Fact as fact;
@@ -80,31 +82,31 @@ fn is_primitive(h: Head) -> bool
 }
 
 // A call of a primitive whose output is a container.
-fn is_container_primitive(kinds: &[u32], ends: &[u32], pool: &[u32], z: Sizes, e: usize) -> bool
-    requires { ⌜ Ready (now kinds) (now ends) (now pool) z ⌝ }
-    requires { ⌜ e < z .expressions ⌝ }
-    ensures { λ r. ⌜ r ≡ isContainerPrimitive (programFor (now (kinds .entry)) (now (ends .entry)) (now (pool .entry)) z) (fact.headOf (exprFor (now (kinds .entry)) (now (ends .entry)) (now (pool .entry)) z e)) ⌝ }
+fn is_container_primitive(job: &[u32], e: usize) -> bool
+    requires { ⌜ Ready (now job) ⌝ }
+    requires { ⌜ e < sizesOf (now job) .expressions ⌝ }
+    ensures { λ r. ⌜ r ≡ isContainerPrimitive (programFor (now (job .entry))) (fact.headOf (exprFor (now (job .entry)) e)) ⌝ }
 {
-    let h = head_at(kinds, ends, pool, z, e);
+    let h = head_at(job, e);
     match h {
         Head::Lit(_) => false,
         Head::Var(_) => false,
         Head::Constructor(_) => false,
         Head::Custom(_) => false,
         Head::Primitive(p) => {
-            let primitive = primitive_at(kinds, ends, pool, z, wide(p));
+            let primitive = primitive_at(job, wide(p));
             primitive.container
         }
     }
 }
 
 // The variable that expression e is, if it is one.
-pub fn variable_of(kinds: &[u32], ends: &[u32], pool: &[u32], z: Sizes, e: u32) -> Looked
-    requires { ⌜ Ready (now kinds) (now ends) (now pool) z ⌝ }
-    requires { ⌜ e < z .expressions ⌝ }
-    ensures { λ r. ⌜ optionOf r ≡ variableOf (fact.headOf (exprFor (now (kinds .entry)) (now (ends .entry)) (now (pool .entry)) z e)) ⌝ }
+pub fn variable_of(job: &[u32], e: u32) -> Looked
+    requires { ⌜ Ready (now job) ⌝ }
+    requires { ⌜ e < sizesOf (now job) .expressions ⌝ }
+    ensures { λ r. ⌜ optionOf r ≡ variableOf (fact.headOf (exprFor (now (job .entry)) e)) ⌝ }
 {
-    let head = head_at(kinds, ends, pool, z, wide(e));
+    let head = head_at(job, wide(e));
     match head {
         Head::Lit(_) => Looked::None,
         Head::Var(x) => Looked::Some(x),
@@ -115,14 +117,14 @@ pub fn variable_of(kinds: &[u32], ends: &[u32], pool: &[u32], z: Sizes, e: u32) 
 }
 
 // The offence of the argument j directly under a head.
-fn argument_offence(kinds: &[u32], ends: &[u32], pool: &[u32], z: Sizes, h: Head, j: u32) -> u32
-    requires { ⌜ Ready (now kinds) (now ends) (now pool) z ⌝ }
-    requires { ⌜ j < z .expressions ⌝ }
-    ensures { λ r. ⌜ offenceIn r ≡ argumentOffence (programFor (now (kinds .entry)) (now (ends .entry)) (now (pool .entry)) z) (headOf h) (exprFor (now (kinds .entry)) (now (ends .entry)) (now (pool .entry)) z j) ⌝ }
+fn argument_offence(job: &[u32], h: Head, j: u32) -> u32
+    requires { ⌜ Ready (now job) ⌝ }
+    requires { ⌜ j < sizesOf (now job) .expressions ⌝ }
+    ensures { λ r. ⌜ offenceIn r ≡ argumentOffence (programFor (now (job .entry))) (headOf h) (exprFor (now (job .entry)) j) ⌝ }
 {
-    let g = head_at(kinds, ends, pool, z, wide(j));
+    let g = head_at(job, wide(j));
     let func = is_func(g);
-    let container = is_container_primitive(kinds, ends, pool, z, wide(j));
+    let container = is_container_primitive(job, wide(j));
     if is_primitive(h) & func {
         return 2 * j + 1;
     }
@@ -133,25 +135,18 @@ fn argument_offence(kinds: &[u32], ends: &[u32], pool: &[u32], z: Sizes, h: Head
 }
 
 // The first offence in expression e, by the words of the expressions before it.
-fn first_offence(
-    kinds: &[u32],
-    ends: &[u32],
-    pool: &[u32],
-    z: Sizes,
-    found: &[u32],
-    e: usize,
-) -> u32
-    requires { ⌜ Ready (now kinds) (now ends) (now pool) z ⌝ }
-    requires { ⌜ SearchedTo (now kinds) (now ends) (now pool) z e (now found) ⌝ }
-    requires { ⌜ e < z .expressions ⌝ }
-    ensures { λ r. ⌜ offenceIn r ≡ offence (exprFor (now (kinds .entry)) (now (ends .entry)) (now (pool .entry)) z e) (programFor (now (kinds .entry)) (now (ends .entry)) (now (pool .entry)) z) ⌝ }
+fn first_offence(job: &[u32], found: &[u32], e: usize) -> u32
+    requires { ⌜ Ready (now job) ⌝ }
+    requires { ⌜ SearchedTo (now job) e (now found) ⌝ }
+    requires { ⌜ e < sizesOf (now job) .expressions ⌝ }
+    ensures { λ r. ⌜ offenceIn r ≡ offence (exprFor (now (job .entry)) e) (programFor (now (job .entry))) ⌝ }
 {
-    let h = head_at(kinds, ends, pool, z, e);
-    let args = arguments_at(kinds, ends, pool, z, e);
+    let h = head_at(job, e);
+    let args = arguments_at(job, e);
     let mut k = 0;
     while k < args.len() {
         let j = args[k];
-        let w = first_of(argument_offence(kinds, ends, pool, z, h, j), found[wide(j)]);
+        let w = first_of(argument_offence(job, h, j), found[wide(j)]);
         if w != 0 {
             return w;
         }
@@ -161,34 +156,27 @@ fn first_offence(
 }
 
 // Fills the table: for each expression the word of the first offence in it.
-pub fn find_offences(kinds: &[u32], ends: &[u32], pool: &[u32], z: Sizes, found: &mut [u32])
-    requires { ⌜ Ready (now kinds) (now ends) (now pool) z ⌝ }
-    requires { ⌜ z .expressions ≤ length (now found) ⌝ }
-    ensures { λ _. ⌜ Searched (now (kinds .entry)) (now (ends .entry)) (now (pool .entry)) z (now (found .exit)) ⌝ }
+pub fn find_offences(job: &[u32], found: &mut [u32])
+    requires { ⌜ Ready (now job) ⌝ }
+    requires { ⌜ sizesOf (now job) .expressions ≤ length (now found) ⌝ }
+    ensures { λ _. ⌜ Searched (now (job .entry)) (now (found .exit)) ⌝ }
 {
-    let count = z.expressions;
+    let count = size(job, EXPRESSIONS);
     let mut e = 0;
     while e < count {
-        found[e] = first_offence(kinds, ends, pool, z, found, e);
+        found[e] = first_offence(job, found, e);
         e += 1;
     }
 }
 
 // The first offence in a fact.
-fn fact_offence(
-    kinds: &[u32],
-    ends: &[u32],
-    pool: &[u32],
-    z: Sizes,
-    found: &[u32],
-    i: usize,
-) -> Offence
-    requires { ⌜ Ready (now kinds) (now ends) (now pool) z ⌝ }
-    requires { ⌜ Searched (now kinds) (now ends) (now pool) z (now found) ⌝ }
-    requires { ⌜ i < z .facts ⌝ }
-    ensures { λ r. ⌜ offenceOf r ≡ factOffence (programFor (now (kinds .entry)) (now (ends .entry)) (now (pool .entry)) z) (factFor (now (kinds .entry)) (now (ends .entry)) (now (pool .entry)) z i) ⌝ }
+fn fact_offence(job: &[u32], found: &[u32], i: usize) -> Offence
+    requires { ⌜ Ready (now job) ⌝ }
+    requires { ⌜ Searched (now job) (now found) ⌝ }
+    requires { ⌜ i < sizesOf (now job) .facts ⌝ }
+    ensures { λ r. ⌜ offenceOf r ≡ factOffence (programFor (now (job .entry))) (factFor (now (job .entry)) i) ⌝ }
 {
-    let f = fact_at(kinds, ends, pool, z, i);
+    let f = fact_at(job, i);
     match f {
         Fact::Equal(l, r) => read_offence(first_of(found[wide(l)], found[wide(r)])),
         Fact::Bare(e) => read_offence(found[wide(e)]),
@@ -196,21 +184,13 @@ fn fact_offence(
 }
 
 // `assert_body_proof_normal_form`
-pub fn assert_body_proof_normal_form(
-    kinds: &[u32],
-    ends: &[u32],
-    pool: &[u32],
-    z: Sizes,
-    found: &[u32],
-    rule: u32,
-    i: u32,
-) -> Refusal
-    requires { ⌜ Ready (now kinds) (now ends) (now pool) z ⌝ }
-    requires { ⌜ Searched (now kinds) (now ends) (now pool) z (now found) ⌝ }
-    requires { ⌜ i < z .facts ⌝ }
-    ensures { λ r. ⌜ ((s : List Term) → outcomeOf r tt s ≡ assertBodyProofNormalForm (programFor (now (kinds .entry)) (now (ends .entry)) (now (pool .entry)) z) rule (factFor (now (kinds .entry)) (now (ends .entry)) (now (pool .entry)) z i) s) ⌝ }
+pub fn assert_body_proof_normal_form(job: &[u32], found: &[u32], rule: u32, i: u32) -> Refusal
+    requires { ⌜ Ready (now job) ⌝ }
+    requires { ⌜ Searched (now job) (now found) ⌝ }
+    requires { ⌜ i < sizesOf (now job) .facts ⌝ }
+    ensures { λ r. ⌜ ((s : List Term) → outcomeOf r tt s ≡ assertBodyProofNormalForm (programFor (now (job .entry))) rule (factFor (now (job .entry)) i) s) ⌝ }
 {
-    let offence = fact_offence(kinds, ends, pool, z, found, wide(i));
+    let offence = fact_offence(job, found, wide(i));
     match offence {
         Offence::None => Refusal {
             number: 0,
@@ -231,24 +211,18 @@ pub fn assert_body_proof_normal_form(
 }
 
 // A fact with a container primitive at the top is a side condition.
-pub fn is_container_side_condition(
-    kinds: &[u32],
-    ends: &[u32],
-    pool: &[u32],
-    z: Sizes,
-    i: usize,
-) -> bool
-    requires { ⌜ Ready (now kinds) (now ends) (now pool) z ⌝ }
-    requires { ⌜ i < z .facts ⌝ }
-    ensures { λ r. ⌜ r ≡ isContainerSideCondition (programFor (now (kinds .entry)) (now (ends .entry)) (now (pool .entry)) z) (factFor (now (kinds .entry)) (now (ends .entry)) (now (pool .entry)) z i) ⌝ }
+pub fn is_container_side_condition(job: &[u32], i: usize) -> bool
+    requires { ⌜ Ready (now job) ⌝ }
+    requires { ⌜ i < sizesOf (now job) .facts ⌝ }
+    ensures { λ r. ⌜ r ≡ isContainerSideCondition (programFor (now (job .entry))) (factFor (now (job .entry)) i) ⌝ }
 {
-    let f = fact_at(kinds, ends, pool, z, i);
+    let f = fact_at(job, i);
     match f {
         Fact::Equal(l, r) => {
-            let left = is_container_primitive(kinds, ends, pool, z, wide(l));
-            let right = is_container_primitive(kinds, ends, pool, z, wide(r));
+            let left = is_container_primitive(job, wide(l));
+            let right = is_container_primitive(job, wide(r));
             left | right
         }
-        Fact::Bare(e) => is_container_primitive(kinds, ends, pool, z, wide(e)),
+        Fact::Bare(e) => is_container_primitive(job, wide(e)),
     }
 }

@@ -5,6 +5,7 @@ use mathlib.Core.Path.{_≡_, sym, ap, _∙_}
 use mathlib.Core.List.{List, List·Memᴰ}
 use mathlib.Core.Bool.{false}
 use lib.ListN.{length}
+use Rattle.model.specs.Layout.{sizesOf}
 use Rattle.model.specs.Term.{Term, Extends, Below}
 use Rattle.model.specs.Program.{Expr, Proposition, Binding, Program}
 use Rattle.model.specs.Check.{Outcome, ok, refused, Room}
@@ -17,9 +18,7 @@ use Rattle.outcome.specs.declared.Checked.{Checked}
 use Rattle.outcome.proofs.Laws.{ok-of}
 use Rattle.marks.specs.Covering.{Marked}
 use Rattle.marks.proofs.Marking.{AddsMarks}
-use Rattle.load.specs.Held.{sizesIn, tablesFor}
-use Rattle.load.specs.declared.sizes.Sizes.{Sizes}
-use Rattle.program.specs.Ready.{Ready, programFor}
+use Rattle.program.specs.Ready.{tablesFor, Ready, programFor}
 use Rattle.program.specs.Read.{exprFor, argumentsFor}
 use Rattle.evaluate.specs.Value.{termOutcome, valueOf, evalFor, valueFor, Reaches, here, down}
 use Rattle.evaluate.specs.Evaluation.{Sane, EvaluatesRoot}
@@ -51,9 +50,9 @@ known-term : (o : Outcome Value) (t : ℕ) (s : List Term) → termOutcome o ≡
 known-term (ok v u) t s q = (v, same-value q, ap (λ (x : List Term). ok v x) (same-store q))
 known-term (refused r u) t s q = let x : _≡_ {A = ℕ} 0 1 = cc in absurd (omega arith)
 
-module _ {K E P : List ℕ} {z : Sizes} (R : Ready K E P z) (rule : ℕ) (σ : List Binding) {e : ℕ} {K₀ E₀ P₀ : List ℕ} {f : Fill} {K₁ E₁ P₁ : List ℕ} {r : Checked} {memo : List ℕ}
-    (root : EvaluatesRoot (argumentsFor K E P z) (valueFor false K E P z rule σ) (z .expressions) e K₀ E₀ P₀ f K₁ E₁ P₁ r memo)
-    (passed : r .refusal .number ≡ 0) (sane : Sane (programFor K E P z) σ (termsIn K₀ E₀ P₀ f)) where
+module _ {J : List ℕ} (R : Ready J) (rule : ℕ) (σ : List Binding) {e : ℕ} {K₀ E₀ P₀ : List ℕ} {f : Fill} {K₁ E₁ P₁ : List ℕ} {r : Checked} {memo : List ℕ}
+    (root : EvaluatesRoot (argumentsFor J) (valueFor false J rule σ) (sizesOf J .expressions) e K₀ E₀ P₀ f K₁ E₁ P₁ r memo)
+    (passed : r .refusal .number ≡ 0) (sane : Sane (programFor J) σ (termsIn K₀ E₀ P₀ f)) where
   abbrev before : List Term
   before = termsIn K₀ E₀ P₀ f
 
@@ -64,19 +63,19 @@ module _ {K E P : List ℕ} {z : Sizes} (R : Ready K E P z) (rule : ℕ) (σ : L
   room = roomOf K₀ P₀
 
   abbrev prog : Program
-  prog = programFor K E P z
+  prog = programFor J
 
-  value-is : valueFor false K E P z rule σ room e before ≡ ok (r .value) after
+  value-is : valueFor false J rule σ room e before ≡ ok (r .value) after
   value-is = sym (root .does .outcome) ∙ ok-of (r .refusal) (r .value) after passed
 
-  known : (v : Value) × (v .term ≡ r .value) × (evalExpr room prog rule σ (exprFor K E P z e) before ≡ ok v after)
+  known : (v : Value) × (v .term ≡ r .value) × (evalExpr room prog rule σ (exprFor J e) before ≡ ok v after)
   unfolding valueOf
-  known = known-term (evalExpr room prog rule σ (exprFor K E P z e) before) (r .value) after value-is
+  known = known-term (evalExpr room prog rule σ (exprFor J e) before) (r .value) after value-is
 
   -- the value that a caller is given
-  pub root-evaluated : Evaluated room prog rule σ (exprFor K E P z e) before (r .value) after
+  pub root-evaluated : Evaluated room prog rule σ (exprFor J e) before (r .value) after
   root-evaluated =
-      let h = post-result (term-sane false room prog rule σ (exprFor K E P z e) sane) (sym (value-term false room prog rule σ (exprFor K E P z e) before) ∙ value-is) in
+      let h = post-result (term-sane false room prog rule σ (exprFor J e) sane) (sym (value-term false room prog rule σ (exprFor J e) before) ∙ value-is) in
       record {
         value = known .0;
         is = known .2;
@@ -87,15 +86,15 @@ module _ {K E P : List ℕ} {z : Sizes} (R : Ready K E P z) (rule : ℕ) (σ : L
         sides = pairs-reflexive R room rule σ e sane (known .2);
       }
 
-  noted-below : e < z .expressions → NotedBelow (argumentsFor K E P z) (evalFor false K E P z rule σ room) (z .expressions) e after memo
+  noted-below : e < sizesOf J .expressions → NotedBelow (argumentsFor J) (evalFor false J rule σ room) (sizesOf J .expressions) e after memo
   noted-below h = record {
-    value = λ k l b. sym (value-term false room prog rule σ (exprFor K E P z k) after) ∙ root .value passed k l b;
-    below = λ k d. let l = reaches-most (expressions-lower (sizesIn z) (tablesFor K E P z) (R .admitted)) d in (omega arith, root .below passed k d);
+    value = λ k l b. sym (value-term false room prog rule σ (exprFor J k) after) ∙ root .value passed k l b;
+    below = λ k d. let l = reaches-most (expressions-lower (sizesOf J) (tablesFor J) (R .admitted)) d in (omega arith, root .below passed k d);
     only = root .only passed;
-    inside = λ k t q. post-result (term-sane false room prog rule σ (exprFor K E P z k) (root-evaluated .sane)) q .2;
+    inside = λ k t q. post-result (term-sane false room prog rule σ (exprFor J k) (root-evaluated .sane)) q .2;
   }
 
   -- what marking the values does
-  pub root-adds : e < z .expressions → {m m′ : List ℕ} → ((t : ℕ) → Marked m t → t < length after) → length after ≤ length m → m′ ≡ markValues memo (z .expressions) m
+  pub root-adds : e < sizesOf J .expressions → {m m′ : List ℕ} → ((t : ℕ) → Marked m t → t < length after) → length after ≤ length m → m′ ≡ markValues memo (sizesOf J .expressions) m
       → AddsMarks after m m′ (root-evaluated .value .pairs)
   root-adds h i l q = rw q (values-adds (noted-below h) i l (pairs-values R room rule σ e sane (root-evaluated .is)))

@@ -7,6 +7,7 @@ use mathlib.Core.Logic.{_⊎_, inl, inr, _↔_}
 use mathlib.Core.List.{List, [], _∷_, _++_, List·Memᴰ, List·Memᴰ·head, List·Memᴰ·tail, List·Memᴰ·not-nil, List·Memᴰ·cases-cons, List·Memᴰ·append-cases, Memᴰ·append-left, Memᴰ·append-right, Memᴰ·of-map}
 use mathlib.Core.Bool.{false}
 use lib.ListN.{length, getD}
+use Rattle.model.specs.Layout.{sizesOf}
 use Rattle.model.specs.Cell.{Cell, noCell}
 use Rattle.model.specs.Term.{Term, lit, app, Extends, Below}
 use Rattle.model.specs.Program.{Head, literal, variable, constructor, custom, primitive, Proposition, Binding, Program}
@@ -21,9 +22,7 @@ use Rattle.model.proofs.Again as again
 use Rattle.model.proofs.Again.{settled-or, added, validated-settled, eval-settled}
 use Rattle.marks.specs.Covering.{Under}
 use Rattle.marks.proofs.Subterms.{reflexive-under, under-reflexive, under-extends, under-back}
-use Rattle.load.specs.Held.{sizesIn, tablesFor}
-use Rattle.load.specs.declared.sizes.Sizes.{Sizes}
-use Rattle.program.specs.Ready.{Ready, programFor}
+use Rattle.program.specs.Ready.{tablesFor, Ready, programFor}
 use Rattle.program.specs.Read.{exprFor, argumentsFor}
 use Rattle.evaluate.specs.Value.{termOutcome, valueOf, evalTerm, evalFor, Reaches, here, down}
 use Rattle.evaluate.specs.Evaluation.{Sane}
@@ -223,20 +222,20 @@ module _ (cells : List Cell) (lower : (e : ℕ) → Below e (readArguments (getD
       (eval-settled prog room rule σ (exprOf cells e) s (record { ordered = w .ordered; bound = w .bound; rows = w .rows }))
       (headed e (λ a m. let l = lower e a m in paired n a (omega arith)) s w)) λ v s′ p. node-paired e s v s′ (p .0) (p .1)
 
-module _ {K E P : List ℕ} {z : Sizes} (R : Ready K E P z) (room : Room) (rule : ℕ) (σ : List Binding) (e : ℕ) {s : List Term} (w : Sane (programFor K E P z) σ s) where
-  lower : (k : ℕ) → Below k (argumentsFor K E P z k)
-  lower = expressions-lower (sizesIn z) (tablesFor K E P z) (R .admitted)
+module _ {J : List ℕ} (R : Ready J) (room : Room) (rule : ℕ) (σ : List Binding) (e : ℕ) {s : List Term} (w : Sane (programFor J) σ s) where
+  lower : (k : ℕ) → Below k (argumentsFor J k)
+  lower = expressions-lower (sizesOf J) (tablesFor J) (R .admitted)
 
-  result : {v : Value} {s′ : List Term} → evalExpr room (programFor K E P z) rule σ (exprFor K E P z e) s ≡ ok v s′
-      → Paired (tablesFor K E P z .expressions) lower room (programFor K E P z) rule σ e s v s′
-  result q = post-result (paired (tablesFor K E P z .expressions) lower room (programFor K E P z) rule σ (suc e) e (omega arith) s w) q
+  result : {v : Value} {s′ : List Term} → evalExpr room (programFor J) rule σ (exprFor J e) s ≡ ok v s′
+      → Paired (tablesFor J .expressions) lower room (programFor J) rule σ e s v s′
+  result q = post-result (paired (tablesFor J .expressions) lower room (programFor J) rule σ (suc e) e (omega arith) s w) q
 
   -- the pairs of an evaluation, by the values below it
-  pub pairs-values : {v : Value} {s′ : List Term} → evalExpr room (programFor K E P z) rule σ (exprFor K E P z e) s ≡ ok v s′
-      → (x : ℕ) → List·Memᴰ (same x) (v .pairs) ↔ Valued (argumentsFor K E P z) (evalFor false K E P z rule σ room) s′ e x
+  pub pairs-values : {v : Value} {s′ : List Term} → evalExpr room (programFor J) rule σ (exprFor J e) s ≡ ok v s′
+      → (x : ℕ) → List·Memᴰ (same x) (v .pairs) ↔ Valued (argumentsFor J) (evalFor false J rule σ room) s′ e x
   pairs-values {v} {s′} q x = (result q .to s′ extends-same x, result q .back s′ extends-same x)
 
   -- each of them is reflexive
-  pub pairs-reflexive : {v : Value} {s′ : List Term} → evalExpr room (programFor K E P z) rule σ (exprFor K E P z e) s ≡ ok v s′
+  pub pairs-reflexive : {v : Value} {s′ : List Term} → evalExpr room (programFor J) rule σ (exprFor J e) s ≡ ok v s′
       → (q : Proposition) → List·Memᴰ q (v .pairs) → q .lhs ≡ q .rhs
   pairs-reflexive q = result q .sides

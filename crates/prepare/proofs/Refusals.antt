@@ -9,21 +9,21 @@ use lib.Dec.{leb, lit<}
 use lib.ListN.{length, getD, length-append}
 use Rattle.model.specs.Cell.{Cell}
 use Rattle.model.specs.Term.{readTerm}
-use Rattle.model.specs.Layout.{Sizes, sizesOf, kindsOf, endsOf, poolOf, Tables, tableList, tablesOf}
+use Rattle.model.specs.Layout.{cellCount, sizesOf, kindsOf, endsOf, poolOf, Tables, tableList, tablesOf}
 use Rattle.model.specs.Check.{Refusal}
 use Rattle.model.specs.Load.{Lent, wrongLength, tooLarge, endsRise, noRoom, refusedIf, firstMarked, firstRefusal, failsFrom, marks, firstFailing, fitTests, referTests, validTests, onceTests, loadTests, loadRefusal}
 use Rattle.model.specs.Answer.{lentBy}
-use Rattle.load.specs.declared.sizes.Sizes.{Sizes as SizesHeld}
 use Rattle.load.specs.declared.Loaded.{Loaded}
-use Rattle.load.specs.Held.{sizesIn, Limits, countsOf, tablesFor, refusalOf}
+use Rattle.load.specs.Held.{Limits, refusalOf}
 use Rattle.load.proofs.Loading.{limits-of, refuses-1, refuses-2}
-use Rattle.load.proofs.TableLaws.{fails-length}
-use Rattle.program.proofs.Laws.{table-long}
+use Rattle.load.proofs.TableLaws.{fails-length, table-length}
+use Rattle.cells.proofs.Laws.{cells-length}
 use Rattle.outcome.specs.Does as outcome
 use Rattle.outcome.specs.declared.Refusal.{Refusal as Held}
 use Rattle.prepare.specs.declared.Prepared.{Prepared}
 use Rattle.prepare.specs.Prepares.{arraysOf, refusalBy, Started, Prepares}
-use Rattle.prepare.proofs.Jobs.{tables-for, loads-asked, loads-enough}
+use Rattle.program.specs.Ready.{cellsFor, tablesFor, tableFor, countFor}
+use Rattle.prepare.proofs.Jobs.{tables-for, loads-asked, loads-room}
 
 -- a refusal that there is, whose only field is a word
 record Word (r : Refusal) : Type 0 where
@@ -70,58 +70,40 @@ first-word (t ∷ ts) r h e = go (t tt) refl e (first-word ts r (h .1))
     go none q e k = k e
     go (some x) q e k = subst Word (Option·some-injective x r e) (h .0 x q)
 
--- the sizes as the code holds them
-abbrev heldOf : Sizes → SizesHeld
-heldOf z = record {
-  terms = z .terms;
-  expressions = z .expressions;
-  facts = z .facts;
-  actions = z .actions;
-  globals = z .globals;
-  functions = z .functions;
-  primitives = z .primitives;
-  rows = z .rows;
-  normalisers = z .normalisers;
-  rules = z .rules;
-  proofs = z .proofs;
-  pool = z .pool;
-}
-
-module _ (K E P : List ℕ) (z : SizesHeld) (l : Limits z) where
-  cells-few : lengths (tableList (tablesFor K E P z)) < 2 ^ 32
-  unfolding lengths
-  cells-few =
-      let n : (k : ℕ) → k < 10 → length (getD (tableList (tablesFor K E P z)) k []) ≡ getD (countsOf (sizesIn z)) k 0 = table-long K E P z in
-      omega (
-        arith,
-        n 0 (lit< tt),
-        n 1 (lit< tt),
-        n 2 (lit< tt),
-        n 3 (lit< tt),
-        n 4 (lit< tt),
-        n 5 (lit< tt),
-        n 6 (lit< tt),
-        n 7 (lit< tt),
-        n 8 (lit< tt),
-        n 9 (lit< tt),
-        l .terms,
-        l .expressions,
-        l .facts,
-        l .actions,
-        l .functions,
-        l .primitives,
-        l .rows,
-        l .normalisers,
-        l .rules,
-        l .proofs,
-      )
+cells-few : (ws : List ℕ) → Limits (sizesOf ws) → lengths (tableList (tablesFor ws)) < 2 ^ 32
+unfolding lengths
+cells-few ws l =
+    let n : (k : ℕ) → k < 10 → length (tableFor ws k) ≡ countFor ws k = λ k h. table-length (sizesOf ws) (cellsFor ws) (cells-length (kindsOf ws) (endsOf ws) (poolOf ws) (cellCount (sizesOf ws))) k h in
+    omega (
+      arith,
+      n 0 (lit< tt),
+      n 1 (lit< tt),
+      n 2 (lit< tt),
+      n 3 (lit< tt),
+      n 4 (lit< tt),
+      n 5 (lit< tt),
+      n 6 (lit< tt),
+      n 7 (lit< tt),
+      n 8 (lit< tt),
+      n 9 (lit< tt),
+      l .terms,
+      l .expressions,
+      l .facts,
+      l .actions,
+      l .functions,
+      l .primitives,
+      l .rows,
+      l .normalisers,
+      l .rules,
+      l .proofs,
+    )
 
 module _ (ws : List ℕ) (asked : ℕ) (l : Lent) where
   tests-words : tooLarge (sizesOf ws) ≡ false → Each (loadTests ws (sizesOf ws) (tablesOf ws) asked l)
   tests-words h =
       let z = sizesOf ws in
       let t = tablesOf ws in
-      let few : lengths (tableList t) < 2 ^ 32 = subst (λ (x : Tables). lengths (tableList x) < 2 ^ 32) (tables-for ws (heldOf z) refl) (cells-few (kindsOf ws) (endsOf ws) (poolOf ws) (heldOf z) (limits-of (heldOf z) h)) in
+      let few : lengths (tableList t) < 2 ^ 32 = subst (λ (x : Tables). lengths (tableList x) < 2 ^ 32) (tables-for ws) (cells-few ws (limits-of z h)) in
       let cell : (n : ℕ) (fs : List (ℕ → Cell → Bool)) → (n ≡ 0 → ⊥) → (r : Refusal) → firstFailing n fs t ≡ some r → Word r =
       λ n fs p r e. marked-word n 0 (marks fs (tableList t)) r p (let m = marks-few fs (tableList t) in omega arith) e in (
         λ r e. host-word (wrongLength ws) 1 r (λ q. omega arith) e,
@@ -199,7 +181,7 @@ module _ (ws : List ℕ) (asked : ℕ) (K E P : List ℕ) (scratch : ℕ) where
     pub loads-none : o ≡ Loaded.Admitted → loadRefusal ws asked lent ≡ none
     loads-none h = sym e ∙ ap refusalOf h
 
-    pub admits : {K′ E′ P′ : List ℕ} (p : Prepared) → o ≡ Loaded.Admitted → p .refusal ≡ outcome.passed → Started ws K E P K′ E′ P′ (p .z) (p .fill) → Prepares ws asked K E P scratch K′ E′ P′ p
+    pub admits : {K′ E′ P′ : List ℕ} (p : Prepared) → o ≡ Loaded.Admitted → p .refusal ≡ outcome.passed → Started ws K E P K′ E′ P′ (p .fill) → Prepares ws asked K E P scratch K′ E′ P′ p
     admits p h q S =
         let a = loads-none h in
         let n : p .refusal .number ≡ 0 = ap (λ (x : Held). x .number) q in
@@ -207,6 +189,6 @@ module _ (ws : List ℕ) (asked : ℕ) (K E P : List ℕ) (scratch : ℕ) where
           refusal = ap (λ (x : Held). refusalBy (x .number) x) q ∙ sym a;
           kept = λ x. absurd (x n);
           started = λ x. S;
-          there = λ x. loads-asked ws asked lent a (p .z) (S .whole .sizes);
-          enough = λ x. loads-enough ws asked lent a (p .z) (S .whole .sizes);
+          there = λ x. loads-asked ws asked lent a;
+          enough = λ x. loads-room ws asked lent a .enough;
         }

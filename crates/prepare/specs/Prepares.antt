@@ -1,21 +1,18 @@
 -- What preparing a job leaves: the refusal below 20, or the job's terms in the lent arrays.
 use mathlib.Core.Path.{_≡_}
-use mathlib.Core.Bool.{false}
 use mathlib.Core.List.{List, []}
 use mathlib.Core.Option.{Option, none, some}
 use Prim.Native.Nat.{ℕ, zero, suc, _+_, _*_, _≤_, _<_}
 use lib.ListN.{length, drop}
-use Rattle.model.specs.Layout.{sizesOf, kindsOf, endsOf, poolOf}
+use Rattle.model.specs.Layout.{sizesOf}
 use Rattle.model.specs.Decode.{jobOf}
 use Rattle.model.specs.Check as model
-use Rattle.model.specs.Load.{wrongLength, loadRefusal}
+use Rattle.model.specs.Load.{loadRefusal}
 use Rattle.model.specs.Answer.{Arrays, lentBy}
 use Rattle.cells.specs.declared.Fill.{Fill}
 use Rattle.termdag.specs.Store.{termsIn, Stored}
 use Rattle.outcome.specs.Does.{refusalOf}
 use Rattle.outcome.specs.declared.Refusal.{Refusal}
-use Rattle.load.specs.Held.{sizesIn, Limits}
-use Rattle.load.specs.declared.sizes.Sizes.{Sizes}
 use Rattle.program.specs.Ready.{Ready, programFor}
 use Rattle.evaluate.specs.Evaluation.{Sane}
 use Rattle.prepare.specs.declared.Prepared.{Prepared}
@@ -29,25 +26,18 @@ abbrev pub refusalBy : ℕ → Refusal → Option model.Refusal
 refusalBy zero r = none
 refusalBy (suc n) r = some (refusalOf r)
 
--- The sizes of a job's words, whose length is as they say.
-pub record Whole (ws : List ℕ) (z : Sizes) : Type 0 where
-  pub sizes : sizesIn z ≡ sizesOf ws
-  pub long : wrongLength ws ≡ false
-  pub limits : Limits z
-
 -- The words load, for some asked proof and some scratch, with the arrays lent.
 pub record Loads (ws K E P : List ℕ) : Type 0 where
   pub asked : ℕ
   pub scratch : ℕ
   pub passes : loadRefusal ws asked (lentBy (arraysOf K E P) scratch) ≡ none
 
--- The lent arrays K, E, P now hold the job's terms, and past these are as they were; the job's arrays are ready.
-pub record Started (ws K E P K′ E′ P′ : List ℕ) (z : Sizes) (f : Fill) : Type 0 where
-  pub whole : Whole ws z
-  pub ready : Ready (kindsOf ws) (endsOf ws) (poolOf ws) z
+-- The lent arrays K, E, P now hold the job's terms, and past these are as they were; the job is admitted.
+pub record Started (ws K E P K′ E′ P′ : List ℕ) (f : Fill) : Type 0 where
+  pub ready : Ready ws
   pub stored : Stored K′ E′ P′ f
   pub terms : termsIn K′ E′ P′ f ≡ jobOf ws .terms
-  pub cells : f .cells ≡ z .terms
+  pub cells : f .cells ≡ sizesOf ws .terms
   pub lenK : length K′ ≡ length K
   pub lenE : length E′ ≡ length E
   pub lenP : length P′ ≡ length P
@@ -57,12 +47,12 @@ pub record Started (ws K E P K′ E′ P′ : List ℕ) (z : Sizes) (f : Fill) :
   pub even : length E ≡ length K
   pub few : length K ≤ 65536
   pub small : length P ≤ 1048576
-  pub sane : Sane (programFor (kindsOf ws) (endsOf ws) (poolOf ws) z) [] (termsIn K′ E′ P′ f)
+  pub sane : Sane (programFor ws) [] (termsIn K′ E′ P′ f)
 
 -- The contract of `prepare`: the refusal is the definition's, with the arrays as they were; without one the terms are loaded, the proof is there, and the scratch is enough.
 pub record Prepares (ws : List ℕ) (asked : ℕ) (K E P : List ℕ) (scratch : ℕ) (K′ E′ P′ : List ℕ) (p : Prepared) : Type 0 where
   pub refusal : refusalBy (p .refusal .number) (p .refusal) ≡ loadRefusal ws asked (lentBy (arraysOf K E P) scratch)
   pub kept : (p .refusal .number ≡ 0 → ⊥) → arraysOf K′ E′ P′ ≡ arraysOf K E P
-  pub started : p .refusal .number ≡ 0 → Started ws K E P K′ E′ P′ (p .z) (p .fill)
-  pub there : p .refusal .number ≡ 0 → asked < p .z .proofs
-  pub enough : p .refusal .number ≡ 0 → 2 * (length K + p .z .proofs) ≤ scratch
+  pub started : p .refusal .number ≡ 0 → Started ws K E P K′ E′ P′ (p .fill)
+  pub there : p .refusal .number ≡ 0 → asked < sizesOf ws .proofs
+  pub enough : p .refusal .number ≡ 0 → 2 * (length K + sizesOf ws .proofs) ≤ scratch

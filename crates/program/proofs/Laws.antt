@@ -1,5 +1,5 @@
 -- Laws of look-ups: in pairs, in the cells of a table, and in the tables of an admitted job.
-use mathlib.Core.Path.{_≡_, refl, sym, ap, ap₂, _∙_}
+use mathlib.Core.Path.{_≡_, refl, sym, ap, _∙_}
 use mathlib.Core.Bool.{Bool, true, false, _&&_, _||_}
 use mathlib.Core.List.{List, [], _∷_, _++_, map}
 use mathlib.Core.Option.{Option, none, some}
@@ -7,12 +7,12 @@ use Prim.Native.Nat.{ℕ, zero, suc, _+_, _-_, _≤_, _<_}
 use native.Mathlib.Numerals.{add-one}
 use native.Mathlib.Omega.{arith}
 use lib.Dec.{eqb, leb, ltb, lit<}
-use lib.ListN.{length, getD, take, drop, length-take, length-drop, drop-of-length-le, List·getD-map}
-use lib.Seq.{drop-cons, take-suc, take-take}
+use lib.ListN.{length, getD, take, drop, length-take, drop-of-length-le, List·getD-map}
+use lib.Seq.{drop-cons, take-suc, take-all}
 use borrow.Author.Tests.{eq-eqb, ne-eqb, eqb-true, eqb-false}
-use Rattle.model.specs.Cell.{Cell, noCell, sameWords, cellsOf}
+use Rattle.model.specs.Cell.{Cell, noCell, sameWords}
 use Rattle.model.specs.Term.{Term, getTerm}
-use Rattle.model.specs.Layout.{Tables, part, tableList, cellCount, firstPrimitive, firstRow, firstNormaliser, firstRule}
+use Rattle.model.specs.Layout.{Tables, sizesOf, kindsOf, endsOf, poolOf, cellCount}
 use Rattle.model.specs.Program.{variable, Expr, node, nil, Fact, Action, Rule, Function, Row, Program}
 use Rattle.model.specs.Decode.{word, exprOf, readFact, readAction, readFunction, readPrimitive, readRow, readNormaliser, ruleActions, readRule, readBindings, readProgram}
 use Rattle.model.specs.Check.{Outcome, ok}
@@ -30,11 +30,10 @@ use Rattle.decode.specs.declared.Function.{Function as FunctionView}
 use Rattle.decode.specs.declared.Row.{Row as RowView}
 use Rattle.decode.specs.declared.Term.{Term as TermView}
 use Rattle.decode.specs.declared.Merge.{Merge}
-use Rattle.load.specs.Held.{sizesIn, tablesFor, cellHeld, countsOf, firstFound}
-use Rattle.load.specs.declared.sizes.Sizes.{Sizes}
+use Rattle.load.specs.Held.{firstFound}
 use Rattle.cell_tests.proofs.Laws.{pair-at, pairs-end}
-use Rattle.load.proofs.TableLaws.{part-at, table-length, held-cell}
-use Rattle.program.specs.Ready.{Ready, firstNamed, ruleAt}
+use Rattle.load.proofs.TableLaws.{table-length}
+use Rattle.program.specs.Ready.{Ready, cellsFor, tablesFor, tableFor, countFor, firstNamed, ruleAt}
 
 -- one pair after another
 module _ (ws : List ℕ) (k : ℕ) (p : 1 ≤ k) (x : ℕ) where
@@ -115,30 +114,6 @@ module _ {B : Type 0} {test : Cell → Bool} {value : Cell → Option B} {look :
   pub look-nothing : (t : List Cell) → firstFound 0 (map test t) ≡ Found.Nothing → look t ≡ none
   look-nothing t e = none-from t 0 e
 
--- part of the cells of three arrays
-pub part-long : (K E P : List ℕ) (n from count : ℕ) → from + count ≤ n → length (part (cellsOf K E P n) from count) ≡ count
-part-long K E P n from count h = simp (length-take, length-drop) (omega (arith, cells-length K E P n))
-
--- a cell of a table, read off the arrays from the number of the table's first cell on
-module _ (K E P : List ℕ) (z : Sizes) {first : ℕ} (from count i : ℕ) {us : List ℕ} (e : first ≡ from) (h : i < count) (w : us ≡ cellHeld K E P z (first + i) .words) where
-  there : cellHeld K E P z (first + i) ≡ getD (part (cellsOf K E P (cellCount (sizesIn z))) from count) i noCell
-  there = ap (λ (n : ℕ). cellHeld K E P z (n + i)) e ∙ sym (part-at (cellsOf K E P (cellCount (sizesIn z))) from count i h)
-
-  pub words-read : us ≡ getD (part (cellsOf K E P (cellCount (sizesIn z))) from count) i noCell .words
-  words-read = w ∙ ap (λ (x : Cell). x .words) there
-
-  pub cell-read : first + i < cellCount (sizesIn z) → cell (getD K (first + i) 0) us ≡ getD (part (cellsOf K E P (cellCount (sizesIn z))) from count) i noCell
-  cell-read l = held-cell K E P (cellCount (sizesIn z)) (first + i) us l w ∙ there
-
--- the place found in a table
-module _ (cs : List Cell) {first : ℕ} (from count : ℕ) where
-  pub named-in : (x : ℕ) {r : Found} → first ≡ from → r ≡ firstNamed (part cs first count) x → r ≡ firstNamed (part cs from count) x
-  named-in x e h = h ∙ ap (λ (n : ℕ). firstNamed (part cs n count) x) e
-
-  -- among the cells before one of the table
-  pub named-before : (i : ℕ) {x y : ℕ} {r : Found} → first ≡ from → i ≤ count → x ≡ y → r ≡ firstNamed (part cs first i) x → r ≡ firstNamed (take i (part cs from count)) y
-  named-before i {x} e l q h = h ∙ ap (λ (n : ℕ). firstNamed (part cs n i) x) e ∙ ap₂ firstNamed (sym (take-take i count (drop from cs) l)) q
-
 -- the tables of a program
 abbrev pub ruleFor : Tables → Cell → Rule
 ruleFor t = readRule (λ i. readFact (exprOf (t .expressions)) i (getD (t .facts) i noCell)) (λ i. readAction (exprOf (t .expressions)) (getD (t .actions) i noCell))
@@ -203,37 +178,45 @@ counted ns c e = (
 counted-least : (ns : List ℕ) (least : ℕ → ℕ) → ((k : ℕ) → k < length ns → least k ≤ getD ns k 0) → (c : Cell) → counts ns c ≡ true → least (c .kind) ≤ length (c .words)
 counted-least ns least h c e = let k = counted ns c e in omega (arith, h (c .kind) (k .0), k .1)
 
-pub table-long : (K E P : List ℕ) (z : Sizes) (k : ℕ) → k < 10 → length (getD (tableList (tablesFor K E P z)) k []) ≡ getD (countsOf (sizesIn z)) k 0
-table-long K E P z k h = table-length (sizesIn z) (cellsOf K E P (cellCount (sizesIn z))) (cells-length K E P (cellCount (sizesIn z))) k h
+-- a table, and its first cells
+module _ (J : List ℕ) (k : ℕ) (h : k < 10) where
+  pub table-long : length (tableFor J k) ≡ countFor J k
+  table-long = table-length (sizesOf J) (cellsFor J) (cells-length (kindsOf J) (endsOf J) (poolOf J) (cellCount (sizesOf J))) k h
 
-module _ {K E P : List ℕ} {z : Sizes} (R : Ready K E P z) where
-  pub fits : (k : ℕ) → k < 10 → (i : ℕ) → i < getD (countsOf (sizesIn z)) k 0 → getD (fitTests (tablesFor K E P z)) k passed i (getD (getD (tableList (tablesFor K E P z)) k []) i noCell) ≡ true
-  fits k h i l = R .admitted .fits k h i (rw (table-long K E P z k h) l)
+  pub front-long : (n : ℕ) → n ≤ countFor J k → length (take n (tableFor J k)) ≡ n
+  front-long n l = simp length-take (omega (arith, table-long))
 
-  module _ {first : ℕ} {us : List ℕ} (i : ℕ) (w : us ≡ cellHeld K E P z (first + i) .words) where
-    pub row-words : first ≡ firstRow (sizesIn z) → i < z .rows → 2 ≤ length us
-    row-words e h = rw (words-read K E P z (firstRow (sizesIn z)) (z .rows) i e h w) (go (getD (tablesFor K E P z .rows) i noCell) (fits 6 (lit< tt) i h))
+  pub front-whole : (x : ℕ) {n : ℕ} {r : Found} → n ≡ countFor J k → r ≡ firstNamed (take n (tableFor J k)) x → r ≡ firstNamed (tableFor J k) x
+  front-whole x {n} e q = q ∙ ap (λ (t : List Cell). firstNamed t x) (take-all n (tableFor J k) (omega (arith, table-long)))
+
+module _ {J : List ℕ} (R : Ready J) where
+  pub fits : (k : ℕ) → k < 10 → (i : ℕ) → i < countFor J k → getD (fitTests (tablesFor J)) k passed i (getD (tableFor J k) i noCell) ≡ true
+  fits k h i l = R .admitted .fits k h i (rw (table-long J k h) l)
+
+  module _ {us : List ℕ} (i : ℕ) where
+    pub row-words : us ≡ getD (tablesFor J .rows) i noCell .words → i < sizesOf J .rows → 2 ≤ length us
+    row-words w h = rw w (go (getD (tablesFor J .rows) i noCell) (fits 6 (lit< tt) i h))
       where
         go : (c : Cell) → rowFits c ≡ true → 2 ≤ length (c .words)
         go c q = le-of 2 (length (c .words)) (and-left _ (leb (length (c .words)) 18) (and-right (eqb (c .kind) 0) _ q))
 
-    pub rule-words : first ≡ firstRule (sizesIn z) → i < z .rules → 1 ≤ length us
-    rule-words e h = rw (words-read K E P z (firstRule (sizesIn z)) (z .rules) i e h w) (go (getD (tablesFor K E P z .rules) i noCell) (fits 8 (lit< tt) i h))
+    pub rule-words : us ≡ getD (tablesFor J .rules) i noCell .words → i < sizesOf J .rules → 1 ≤ length us
+    rule-words w h = rw w (go (getD (tablesFor J .rules) i noCell) (fits 8 (lit< tt) i h))
       where
         go : (c : Cell) → ruleFits c ≡ true → 1 ≤ length (c .words)
         go c q =
             let two = le-of 2 (length (c .words)) (and-right (eqb (c .kind) 0) _ (and-left _ (leb (word c 1) (length (drop 2 (c .words)))) (and-left _ (leb (word c 1) 16) (and-left _ (leb (length (ruleActions c)) 64) q)))) in
             omega arith
 
-    pub normaliser-words : first ≡ firstNormaliser (sizesIn z) → i < z .normalisers → 2 ≤ length us
-    normaliser-words e h = rw (words-read K E P z (firstNormaliser (sizesIn z)) (z .normalisers) i e h w) (counted-least (2 ∷ []) (λ k. 2) two (getD (tablesFor K E P z .normalisers) i noCell) (fits 7 (lit< tt) i h))
+    pub normaliser-words : us ≡ getD (tablesFor J .normalisers) i noCell .words → i < sizesOf J .normalisers → 2 ≤ length us
+    normaliser-words w h = rw w (counted-least (2 ∷ []) (λ k. 2) two (getD (tablesFor J .normalisers) i noCell) (fits 7 (lit< tt) i h))
       where
         two : (k : ℕ) → k < 1 → 2 ≤ getD (2 ∷ []) k 0
         two zero l = omega arith
         two (suc k) l = absurd (omega arith)
 
-    pub primitive-words : first ≡ firstPrimitive (sizesIn z) → i < z .primitives → 1 ≤ length us
-    primitive-words e h = rw (words-read K E P z (firstPrimitive (sizesIn z)) (z .primitives) i e h w) (counted-least (1 ∷ 1 ∷ 1 ∷ 1 ∷ []) (λ k. 1) one (getD (tablesFor K E P z .primitives) i noCell) (fits 5 (lit< tt) i h))
+    pub primitive-words : us ≡ getD (tablesFor J .primitives) i noCell .words → i < sizesOf J .primitives → 1 ≤ length us
+    primitive-words w h = rw w (counted-least (1 ∷ 1 ∷ 1 ∷ 1 ∷ []) (λ k. 1) one (getD (tablesFor J .primitives) i noCell) (fits 5 (lit< tt) i h))
       where
         one : (k : ℕ) → k < 4 → 1 ≤ getD (1 ∷ 1 ∷ 1 ∷ 1 ∷ []) k 0
         one zero l = omega arith
@@ -242,11 +225,11 @@ module _ {K E P : List ℕ} {z : Sizes} (R : Ready K E P z) where
         one (suc (suc (suc zero))) l = omega arith
         one (suc (suc (suc (suc k)))) l = absurd (omega arith)
 
-  pub function-counts : (i : ℕ) → i < z .functions → counts (1 ∷ 2 ∷ []) (getD (tablesFor K E P z .functions) i noCell) ≡ true
+  pub function-counts : (i : ℕ) → i < sizesOf J .functions → counts (1 ∷ 2 ∷ []) (getD (tablesFor J .functions) i noCell) ≡ true
   function-counts i h = fits 4 (lit< tt) i h
 
-  pub function-refers : (i : ℕ) → i < z .functions → below (z .expressions) (drop 1 (getD (tablesFor K E P z .functions) i noCell .words)) ≡ true
-  function-refers i h = R .admitted .refers 4 (lit< tt) i (rw (table-long K E P z 4 (lit< tt)) h)
+  pub function-refers : (i : ℕ) → i < sizesOf J .functions → below (sizesOf J .expressions) (drop 1 (getD (tablesFor J .functions) i noCell .words)) ≡ true
+  function-refers i h = R .admitted .refers 4 (lit< tt) i (rw (table-long J 4 (lit< tt)) h)
 
 pub function-words : {c d : Cell} → c ≡ d → counts (1 ∷ 2 ∷ []) d ≡ true → getD (1 ∷ []) (c .kind) 2 ≤ length (c .words)
 function-words {c} e h = counted-least (1 ∷ 2 ∷ []) (λ k. getD (1 ∷ []) k 2) most c (ap (counts (1 ∷ 2 ∷ [])) e ∙ h)

@@ -18,9 +18,8 @@ use Rattle.model.proofs.Tests.{or-cases, not-true, eq-of, lt-of, le-of, and-lef
 use Rattle.decode.specs.View.{cell, propositionOf, justificationOf, rulePremises, rulePairs, Justifies}
 use Rattle.decode.specs.declared.Proposition.{Proposition}
 use Rattle.decode.specs.declared.Justification.{Justification}
-use Rattle.load.specs.Held.{tablesFor}
-use Rattle.load.specs.declared.sizes.Sizes.{Sizes}
-use Rattle.program.specs.Ready.{Ready}
+use Rattle.model.specs.Layout.{sizesOf}
+use Rattle.program.specs.Ready.{Ready, tablesFor}
 use Rattle.program.specs.Read.{proofsFor, proofCell, premisesFor, pairsFor, ClaimAt, JustificationAt, PremisesAt, SubstitutionAt}
 use Rattle.program.proofs.Laws.{table-long, fits}
 use Rattle.program.proofs.Reading.{below-at, refers}
@@ -118,69 +117,69 @@ module _ (terms i : ℕ) (q : program.Proof) (e : proofRefers terms i q ≡ true
       (and-right (ltb (q .claim .lhs) terms && ltb (q .claim .rhs) terms && below i (references (q .justification))) _ e) (b .term) (Memᴰ·map (λ (c : Binding). c .term) m)
 
 -- the proofs of an admitted job, as they are read
-module _ {K E P : List ℕ} {z : Sizes} (R : Ready K E P z) (p : ℕ) (h : p < z .proofs) where
+module _ {J : List ℕ} (R : Ready J) (p : ℕ) (h : p < sizesOf J .proofs) where
   -- proof p, from its cell
-  pub proof-for : getD (proofsFor K E P z) p noProof ≡ readProof (proofCell K E P z p)
-  proof-for = read-at readProof (tablesFor K E P z .proofs) noProof p (rw (table-long K E P z 9 (lit< tt)) h)
+  pub proof-for : getD (proofsFor J) p noProof ≡ readProof (proofCell J p)
+  proof-for = read-at readProof (tablesFor J .proofs) noProof p (rw (table-long J 9 (lit< tt)) h)
 
-  proof-fits : proofFits (proofCell K E P z p) ≡ true
+  proof-fits : proofFits (proofCell J p) ≡ true
   proof-fits = fits R 9 (lit< tt) p h
 
-  proof-refers : proofRefers (z .terms) p (readProof (proofCell K E P z p)) ≡ true
+  proof-refers : proofRefers (sizesOf J .terms) p (readProof (proofCell J p)) ≡ true
   proof-refers = refers R 9 (lit< tt) p h
 
-  module _ {us : List ℕ} (q : us ≡ proofCell K E P z p .words) where
+  module _ {us : List ℕ} (q : us ≡ proofCell J p .words) where
     pub claim-words : 2 ≤ length us
-    claim-words = subst (λ (ws : List ℕ). 2 ≤ length ws) (sym q) (proof-long (proofCell K E P z p) proof-fits .0)
+    claim-words = subst (λ (ws : List ℕ). 2 ≤ length ws) (sym q) (proof-long (proofCell J p) proof-fits .0)
 
-    pub claim-read : {r : Proposition} → ((k : ℕ) → propositionOf r ≡ readProof (cell k us) .claim) → ClaimAt K E P z p r
+    pub claim-read : {r : Proposition} → ((k : ℕ) → propositionOf r ≡ readProof (cell k us) .claim) → ClaimAt J p r
     claim-read {r} v =
-        let s : propositionOf r ≡ readProof (proofCell K E P z p) .claim = v (proofCell K E P z p .kind) ∙ ap (λ (ws : List ℕ). readProof (cell (proofCell K E P z p .kind) ws) .claim) q in
+        let s : propositionOf r ≡ readProof (proofCell J p) .claim = v (proofCell J p .kind) ∙ ap (λ (ws : List ℕ). readProof (cell (proofCell J p .kind) ws) .claim) q in
         record {
           is = s ∙ ap (λ (x : program.Proof). x .claim) (sym proof-for);
-          lhs = subst (λ (x : program.Proposition). x .lhs < z .terms) (sym s) (lhs-within (z .terms) p (readProof (proofCell K E P z p)) proof-refers);
-          rhs = subst (λ (x : program.Proposition). x .rhs < z .terms) (sym s) (rhs-within (z .terms) p (readProof (proofCell K E P z p)) proof-refers);
+          lhs = subst (λ (x : program.Proposition). x .lhs < sizesOf J .terms) (sym s) (lhs-within (sizesOf J .terms) p (readProof (proofCell J p)) proof-refers);
+          rhs = subst (λ (x : program.Proposition). x .rhs < sizesOf J .terms) (sym s) (rhs-within (sizesOf J .terms) p (readProof (proofCell J p)) proof-refers);
         }
 
-  module _ {c : Cell} (q : c ≡ proofCell K E P z p) where
+  module _ {c : Cell} (q : c ≡ proofCell J p) where
     pub justification-words : getD (0 ∷ 4 ∷ 5 ∷ 4 ∷ 3 ∷ 5 ∷ 3 ∷ []) (c .kind) 0 ≤ length (c .words)
-    justification-words = subst (λ (x : Cell). getD leastWords (x .kind) 0 ≤ length (x .words)) (sym q) (proof-long (proofCell K E P z p) proof-fits .1)
+    justification-words = subst (λ (x : Cell). getD leastWords (x .kind) 0 ≤ length (x .words)) (sym q) (proof-long (proofCell J p) proof-fits .1)
 
-    pub justification-read : {r : Justification} → Justifies r c → JustificationAt K E P z p r
+    pub justification-read : {r : Justification} → Justifies r c → JustificationAt J p r
     justification-read {r} j =
-        let s : justificationOf r (premisesFor K E P z p) (pairsFor K E P z p) ≡ readJustification (proofCell K E P z p) = subst (λ (x : Cell). justificationOf r (rulePremises x) (rulePairs x) ≡ readJustification x) q (j .is) in
+        let s : justificationOf r (premisesFor J p) (pairsFor J p) ≡ readJustification (proofCell J p) = subst (λ (x : Cell). justificationOf r (rulePremises x) (rulePairs x) ≡ readJustification x) q (j .is) in
         record {
           is = s ∙ ap (λ (x : program.Proof). x .justification) (sym proof-for);
-          lower = below-of p (references (getD (proofsFor K E P z) p noProof .justification))
-              (ap (λ (x : program.Proof). below p (references (x .justification))) proof-for ∙ references-below (z .terms) p (readProof (proofCell K E P z p)) proof-refers);
-          isRule = λ t e. rule-kind (proofCell K E P z p) (ap (λ (x : Justification). justificationOf x (premisesFor K E P z p) (pairsFor K E P z p)) (sym e) ∙ s);
+          lower = below-of p (references (getD (proofsFor J) p noProof .justification))
+              (ap (λ (x : program.Proof). below p (references (x .justification))) proof-for ∙ references-below (sizesOf J .terms) p (readProof (proofCell J p)) proof-refers);
+          isRule = λ t e. rule-kind (proofCell J p) (ap (λ (x : Justification). justificationOf x (premisesFor J p) (pairsFor J p)) (sym e) ∙ s);
         }
 
   -- where it is by a rule
-  module _ (k : proofCell K E P z p .kind ≡ 1) where
-    by-rule : readJustification (proofCell K E P z p) ≡ program.rule (word (proofCell K E P z p) 2) (premisesFor K E P z p) (readBindings (pairsFor K E P z p))
-    by-rule = ap (λ (n : ℕ). readJustification (cell n (proofCell K E P z p .words))) k
+  module _ (k : proofCell J p .kind ≡ 1) where
+    by-rule : readJustification (proofCell J p) ≡ program.rule (word (proofCell J p) 2) (premisesFor J p) (readBindings (pairsFor J p))
+    by-rule = ap (λ (n : ℕ). readJustification (cell n (proofCell J p .words))) k
 
-    rule-proof : (4 + word (proofCell K E P z p) 3 ≤ length (proofCell K E P z p .words)) × (length (premisesFor K E P z p) ≤ 4096) × (length (pairsFor K E P z p) ≤ 64)
-    rule-proof = rule-proof-long (proofCell K E P z p) (rule-fits (proofCell K E P z p) k proof-fits)
+    rule-proof : (4 + word (proofCell J p) 3 ≤ length (proofCell J p .words)) × (length (premisesFor J p) ≤ 4096) × (length (pairsFor J p) ≤ 64)
+    rule-proof = rule-proof-long (proofCell J p) (rule-fits (proofCell J p) k proof-fits)
 
-    module _ {us : List ℕ} (q : us ≡ proofCell K E P z p .words) where
+    module _ {us : List ℕ} (q : us ≡ proofCell J p .words) where
       pub step-words : 4 + getD us 3 0 ≤ length us
       step-words = subst (λ (ws : List ℕ). 4 + getD ws 3 0 ≤ length ws) (sym q) (rule-proof .0)
 
-      pub premises-read : {xs : List ℕ} → xs ≡ rulePremises (cell 1 us) → PremisesAt K E P z p xs
+      pub premises-read : {xs : List ℕ} → xs ≡ rulePremises (cell 1 us) → PremisesAt J p xs
       premises-read {xs} r = let s = r ∙ ap (λ (ws : List ℕ). rulePremises (cell 1 ws)) q in
           record {
             is = s;
             few = subst (λ (ys : List ℕ). length ys ≤ 4096) (sym s) (rule-proof .1);
-            lower = below-at p xs (ap (below p) s ∙ ap (λ (j : program.Justification). below p (references j)) (sym by-rule) ∙ references-below (z .terms) p (readProof (proofCell K E P z p)) proof-refers);
+            lower = below-at p xs (ap (below p) s ∙ ap (λ (j : program.Justification). below p (references j)) (sym by-rule) ∙ references-below (sizesOf J .terms) p (readProof (proofCell J p)) proof-refers);
           }
 
-      pub substitution-read : {xs : List ℕ} → xs ≡ rulePairs (cell 1 us) → SubstitutionAt K E P z p xs
+      pub substitution-read : {xs : List ℕ} → xs ≡ rulePairs (cell 1 us) → SubstitutionAt J p xs
       substitution-read {xs} r = let s = r ∙ ap (λ (ws : List ℕ). rulePairs (cell 1 ws)) q in
           record {
             is = s;
             few = subst (λ (ys : List ℕ). length ys ≤ 64) (sym s) (rule-proof .2);
-            within = λ b m. substitution-within (z .terms) p (readProof (proofCell K E P z p)) proof-refers b
+            within = λ b m. substitution-within (sizesOf J .terms) p (readProof (proofCell J p)) proof-refers b
                 (subst (λ (j : program.Justification). List·Memᴰ b (substitution j)) (sym by-rule) (subst (λ (ws : List ℕ). List·Memᴰ b (readBindings ws)) s m));
           }

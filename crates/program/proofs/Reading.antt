@@ -8,7 +8,7 @@ use native.Mathlib.Nat.{not-suc-le-zero, le-of-suc-le-suc}
 use lib.Dec.{eqb, leb, ltb, lit<}
 use lib.ListN.{length, getD, drop, length-take, length-drop, List·getD-map}
 use Rattle.model.specs.Cell.{Cell, noCell}
-use Rattle.model.specs.Layout.{tableList}
+use Rattle.model.specs.Layout.{sizesOf}
 use Rattle.model.specs.Program as program
 use Rattle.model.specs.Program.{variable, Expr, node, nil, equal, bare, bind, union, run}
 use Rattle.model.specs.Decode.{word, exprOf, readHead, readArguments, readFact, readAction, ruleFacts, ruleActions, readRule, readProgram}
@@ -18,9 +18,7 @@ use Rattle.decode.specs.View.{cell, headOf, factOf, actionOf}
 use Rattle.decode.specs.declared.Head.{Head}
 use Rattle.decode.specs.declared.Fact.{Fact as FactView}
 use Rattle.decode.specs.declared.Action.{Action as ActionView}
-use Rattle.load.specs.Held.{sizesIn, tablesFor, countsOf}
-use Rattle.load.specs.declared.sizes.Sizes.{Sizes}
-use Rattle.program.specs.Ready.{Ready, ruleFor}
+use Rattle.program.specs.Ready.{Ready, tablesFor, tableFor, countFor, ruleFor}
 use Rattle.program.specs.Read.{factFor, actionFor, HeadAt, ArgumentsAt, FactAt, ActionAt, RuleFactsAt, RuleActionsAt}
 use Rattle.program.proofs.Laws.{table-long, fits}
 
@@ -155,16 +153,16 @@ rule-long c q =
     (omega (arith, length-drop 2 (c .words)), omega (arith, length-take (word c 1) (drop 2 (c .words))), most)
 
 -- the cells of an admitted job, as they are read
-module _ {K E P : List ℕ} {z : Sizes} (R : Ready K E P z) where
-  pub refers : (k : ℕ) → k < 10 → (i : ℕ) → i < getD (countsOf (sizesIn z)) k 0 → getD (referTests (sizesIn z)) k passed i (getD (getD (tableList (tablesFor K E P z)) k []) i noCell) ≡ true
-  refers k h i l = R .admitted .refers k h i (rw (table-long K E P z k h) l)
+module _ {J : List ℕ} (R : Ready J) where
+  pub refers : (k : ℕ) → k < 10 → (i : ℕ) → i < countFor J k → getD (referTests (sizesOf J)) k passed i (getD (tableFor J k) i noCell) ≡ true
+  refers k h i l = R .admitted .refers k h i (rw (table-long J k h) l)
 
-  module _ {c : Cell} (e : ℕ) (h : e < z .expressions) (q : c ≡ getD (tablesFor K E P z .expressions) e noCell) where
+  module _ {c : Cell} (e : ℕ) (h : e < sizesOf J .expressions) (q : c ≡ getD (tablesFor J .expressions) e noCell) where
     expr-fits : exprFits c ≡ true
     expr-fits = ap exprFits q ∙ fits R 1 (lit< tt) e h
 
-    expr-refers : exprRefers (z .primitives) e c ≡ true
-    expr-refers = ap (exprRefers (z .primitives) e) q ∙ refers 1 (lit< tt) e h
+    expr-refers : exprRefers (sizesOf J .primitives) e c ≡ true
+    expr-refers = ap (exprRefers (sizesOf J .primitives) e) q ∙ refers 1 (lit< tt) e h
 
     pub head-words : getD (3 ∷ []) (c .kind) 1 ≤ length (c .words)
     head-words = expr-long c expr-fits .0
@@ -176,87 +174,87 @@ module _ {K E P : List ℕ} {z : Sizes} (R : Ready K E P z) where
         go zero l = omega arith
         go (suc k) l = l
 
-    pub head-read : (r : Head) → headOf r ≡ readHead c → HeadAt K E P z e r
+    pub head-read : (r : Head) → headOf r ≡ readHead c → HeadAt J e r
     head-read r i = record {
       is = i ∙ ap readHead q;
-      primitive = λ p s. lt-of p (z .primitives) (ap (headRefers (z .primitives)) (ap headOf (sym s) ∙ i) ∙ and-left _ (below e (readArguments c)) expr-refers);
+      primitive = λ p s. lt-of p (sizesOf J .primitives) (ap (headRefers (sizesOf J .primitives)) (ap headOf (sym s) ∙ i) ∙ and-left _ (below e (readArguments c)) expr-refers);
     }
 
-    pub arguments-read : {xs : List ℕ} → xs ≡ readArguments c → ArgumentsAt K E P z e xs
+    pub arguments-read : {xs : List ℕ} → xs ≡ readArguments c → ArgumentsAt J e xs
     arguments-read {xs} i = record {
       is = i ∙ ap readArguments q;
       few = subst (λ (ys : List ℕ). length ys ≤ 16) (sym i) (expr-long c expr-fits .1);
-      lower = below-at e xs (ap (below e) i ∙ and-right (headRefers (z .primitives) (readHead c)) _ expr-refers);
+      lower = below-at e xs (ap (below e) i ∙ and-right (headRefers (sizesOf J .primitives) (readHead c)) _ expr-refers);
     }
 
-  module _ {c : Cell} (i : ℕ) (h : i < z .facts) (q : c ≡ getD (tablesFor K E P z .facts) i noCell) where
+  module _ {c : Cell} (i : ℕ) (h : i < sizesOf J .facts) (q : c ≡ getD (tablesFor J .facts) i noCell) where
     fact-counts : counts (2 ∷ 1 ∷ []) c ≡ true
     fact-counts = ap (counts (2 ∷ 1 ∷ [])) q ∙ fits R 2 (lit< tt) i h
 
-    fact-refers : below (z .expressions) (c .words) ≡ true
-    fact-refers = ap (λ (x : Cell). below (z .expressions) (x .words)) q ∙ refers 2 (lit< tt) i h
+    fact-refers : below (sizesOf J .expressions) (c .words) ≡ true
+    fact-refers = ap (λ (x : Cell). below (sizesOf J .expressions) (x .words)) q ∙ refers 2 (lit< tt) i h
 
     pub fact-words : getD (2 ∷ []) (c .kind) 1 ≤ length (c .words)
     fact-words = fact-long c fact-counts
 
-    pub fact-read : (f : FactView) → ((expr : ℕ → Expr) (i : ℕ) → factOf expr i f ≡ readFact expr i c) → FactAt K E P z i f
+    pub fact-read : (f : FactView) → ((expr : ℕ → Expr) (i : ℕ) → factOf expr i f ≡ readFact expr i c) → FactAt J i f
     fact-read f r = record {
-      is = r (exprOf (tablesFor K E P z .expressions)) i ∙ ap (readFact (exprOf (tablesFor K E P z .expressions)) i) q;
-      equal = equal-within (z .expressions) c f fact-counts fact-refers (r leaf 0);
-      bare = bare-within (z .expressions) c f fact-counts fact-refers (r leaf 0);
+      is = r (exprOf (tablesFor J .expressions)) i ∙ ap (readFact (exprOf (tablesFor J .expressions)) i) q;
+      equal = equal-within (sizesOf J .expressions) c f fact-counts fact-refers (r leaf 0);
+      bare = bare-within (sizesOf J .expressions) c f fact-counts fact-refers (r leaf 0);
     }
 
-  module _ {c : Cell} (i : ℕ) (h : i < z .actions) (q : c ≡ getD (tablesFor K E P z .actions) i noCell) where
+  module _ {c : Cell} (i : ℕ) (h : i < sizesOf J .actions) (q : c ≡ getD (tablesFor J .actions) i noCell) where
     action-counts : counts actionCounts c ≡ true
-    action-counts = and-left _ (setFits (tablesFor K E P z .expressions) c) (ap (actionFits (tablesFor K E P z .expressions)) q ∙ fits R 3 (lit< tt) i h)
+    action-counts = and-left _ (setFits (tablesFor J .expressions) c) (ap (actionFits (tablesFor J .expressions)) q ∙ fits R 3 (lit< tt) i h)
 
-    action-refers : actionRefers (z .expressions) c ≡ true
-    action-refers = ap (actionRefers (z .expressions)) q ∙ refers 3 (lit< tt) i h
+    action-refers : actionRefers (sizesOf J .expressions) c ≡ true
+    action-refers = ap (actionRefers (sizesOf J .expressions)) q ∙ refers 3 (lit< tt) i h
 
     pub action-words : getD (2 ∷ 2 ∷ 1 ∷ 1 ∷ []) (c .kind) 0 ≤ length (c .words)
     action-words = action-long c action-counts
 
-    pub action-read : (a : ActionView) → ((expr : ℕ → Expr) → actionOf expr a ≡ readAction expr c) → ActionAt K E P z i a
+    pub action-read : (a : ActionView) → ((expr : ℕ → Expr) → actionOf expr a ≡ readAction expr c) → ActionAt J i a
     action-read a r = record {
-      is = r (exprOf (tablesFor K E P z .expressions)) ∙ ap (readAction (exprOf (tablesFor K E P z .expressions))) q;
-      bind = bind-within (z .expressions) c a action-counts action-refers (r leaf);
-      union = union-within (z .expressions) c a action-counts action-refers (r leaf);
-      run = run-within (z .expressions) c a action-counts action-refers (r leaf);
+      is = r (exprOf (tablesFor J .expressions)) ∙ ap (readAction (exprOf (tablesFor J .expressions))) q;
+      bind = bind-within (sizesOf J .expressions) c a action-counts action-refers (r leaf);
+      union = union-within (sizesOf J .expressions) c a action-counts action-refers (r leaf);
+      run = run-within (sizesOf J .expressions) c a action-counts action-refers (r leaf);
     }
 
-  module _ {us : List ℕ} (i : ℕ) (h : i < z .rules) (q : us ≡ getD (tablesFor K E P z .rules) i noCell .words) where
-    rule-fits : (2 + word (getD (tablesFor K E P z .rules) i noCell) 1 ≤ length (getD (tablesFor K E P z .rules) i noCell .words))
-        × (length (ruleFacts (getD (tablesFor K E P z .rules) i noCell)) ≤ 16) × (length (ruleActions (getD (tablesFor K E P z .rules) i noCell)) ≤ 64)
-    rule-fits = rule-long (getD (tablesFor K E P z .rules) i noCell) (fits R 8 (lit< tt) i h)
+  module _ {us : List ℕ} (i : ℕ) (h : i < sizesOf J .rules) (q : us ≡ getD (tablesFor J .rules) i noCell .words) where
+    rule-fits : (2 + word (getD (tablesFor J .rules) i noCell) 1 ≤ length (getD (tablesFor J .rules) i noCell .words))
+        × (length (ruleFacts (getD (tablesFor J .rules) i noCell)) ≤ 16) × (length (ruleActions (getD (tablesFor J .rules) i noCell)) ≤ 64)
+    rule-fits = rule-long (getD (tablesFor J .rules) i noCell) (fits R 8 (lit< tt) i h)
 
-    rule-refers : (below (z .facts) (ruleFacts (getD (tablesFor K E P z .rules) i noCell)) && below (z .actions) (ruleActions (getD (tablesFor K E P z .rules) i noCell))) ≡ true
+    rule-refers : (below (sizesOf J .facts) (ruleFacts (getD (tablesFor J .rules) i noCell)) && below (sizesOf J .actions) (ruleActions (getD (tablesFor J .rules) i noCell))) ≡ true
     rule-refers = refers 8 (lit< tt) i h
 
     pub rule-operands : 2 + getD us 1 0 ≤ length us
     rule-operands = subst (λ (ws : List ℕ). 2 + getD ws 1 0 ≤ length ws) (sym q) (rule-fits .0)
 
-    pub rule-facts-read : {xs : List ℕ} → xs ≡ ruleFacts (cell 0 us) → RuleFactsAt K E P z i xs
+    pub rule-facts-read : {xs : List ℕ} → xs ≡ ruleFacts (cell 0 us) → RuleFactsAt J i xs
     rule-facts-read {xs} r = let s = r ∙ ap (λ (ws : List ℕ). ruleFacts (cell 0 ws)) q in
         record {
           is = s;
           few = subst (λ (ys : List ℕ). length ys ≤ 16) (sym s) (rule-fits .1);
-          within = below-at (z .facts) xs (ap (below (z .facts)) s ∙ and-left _ _ rule-refers);
+          within = below-at (sizesOf J .facts) xs (ap (below (sizesOf J .facts)) s ∙ and-left _ _ rule-refers);
         }
 
-    pub rule-actions-read : {xs : List ℕ} → xs ≡ ruleActions (cell 0 us) → RuleActionsAt K E P z i xs
+    pub rule-actions-read : {xs : List ℕ} → xs ≡ ruleActions (cell 0 us) → RuleActionsAt J i xs
     rule-actions-read {xs} r = let s = r ∙ ap (λ (ws : List ℕ). ruleActions (cell 0 ws)) q in
         record {
           is = s;
           few = subst (λ (ys : List ℕ). length ys ≤ 64) (sym s) (rule-fits .2);
-          within = below-at (z .actions) xs (ap (below (z .actions)) s ∙ and-right (below (z .facts) (ruleFacts (getD (tablesFor K E P z .rules) i noCell))) _ rule-refers);
+          within = below-at (sizesOf J .actions) xs (ap (below (sizesOf J .actions)) s ∙ and-right (below (sizesOf J .facts) (ruleFacts (getD (tablesFor J .rules) i noCell))) _ rule-refers);
         }
 
 -- rule r, from its cell
-pub rule-for : (K E P : List ℕ) (z : Sizes) (r : ℕ) → ruleFor K E P z r ≡ readRule (factFor K E P z) (actionFor K E P z) (getD (tablesFor K E P z .rules) r noCell)
+pub rule-for : (J : List ℕ) (r : ℕ) → ruleFor J r ≡ readRule (factFor J) (actionFor J) (getD (tablesFor J .rules) r noCell)
 unfolding readProgram
-rule-for K E P z r = List·getD-map (readRule (factFor K E P z) (actionFor K E P z)) (tablesFor K E P z .rules) r noCell
+rule-for J r = List·getD-map (readRule (factFor J) (actionFor J)) (tablesFor J .rules) r noCell
 
-pub rule-name-read : (K E P : List ℕ) (z : Sizes) (r : ℕ) {us : List ℕ} {x : ℕ} → us ≡ getD (tablesFor K E P z .rules) r noCell .words
-    → ((fact : ℕ → program.Fact) (action : ℕ → program.Action) → x ≡ readRule fact action (cell 0 us) .name) → x ≡ ruleFor K E P z r .name
-rule-name-read K E P z r q h =
-    h (factFor K E P z) (actionFor K E P z) ∙ ap (λ (ws : List ℕ). getD ws 0 0) q ∙ ap (λ (t : program.Rule). t .name) (sym (rule-for K E P z r))
+pub rule-name-read : (J : List ℕ) (r : ℕ) {us : List ℕ} {x : ℕ} → us ≡ getD (tablesFor J .rules) r noCell .words
+    → ((fact : ℕ → program.Fact) (action : ℕ → program.Action) → x ≡ readRule fact action (cell 0 us) .name) → x ≡ ruleFor J r .name
+rule-name-read J r q h =
+    h (factFor J) (actionFor J) ∙ ap (λ (ws : List ℕ). getD ws 0 0) q ∙ ap (λ (t : program.Rule). t .name) (sym (rule-for J r))

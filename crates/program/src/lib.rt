@@ -1,12 +1,22 @@
 // Look-ups in the tables of an admitted job's program, and the normal form of a container.
+pub mod job;
 pub mod read;
 
+use crate::job::FUNCTIONS;
+use crate::job::NORMALISERS;
+use crate::job::PRIMITIVES;
+use crate::job::ROWS;
+use crate::job::RULES;
+use crate::job::cell_words;
+use crate::job::first;
+use crate::job::kind_at;
+use crate::job::size;
+use crate::job::words_at;
 use cell_tests::words::at;
 use cells::Fill;
 use cells::Found;
 use cells::same_words;
 use cells::wide;
-use cells::words;
 use decode::Merge;
 use decode::Primitive;
 use decode::Term;
@@ -16,15 +26,13 @@ use decode::read_primitive;
 use decode::read_row;
 use decode::row_arguments;
 use decode::rule_name;
-use load::sizes::Sizes;
-use load::tables::fill;
 ghost use mathlib.Core.Path.{_≡_};
 ghost use mathlib.Core.List.{List, []};
 ghost use mathlib.Core.Option.{some};
-ghost use Prim.Native.Nat.{_+_, _≤_, _<_};
-ghost use Rattle.model.specs.Cell.{cellsOf};
+ghost use Prim.Native.Nat.{_≤_, _<_};
+ghost use lib.ListN.{take};
 ghost use Rattle.model.specs.Term as terms;
-ghost use Rattle.model.specs.Layout.{part, cellCount, firstFunction, firstPrimitive, firstRow, firstNormaliser, firstRule};
+ghost use Rattle.model.specs.Layout.{sizesOf};
 ghost use Rattle.model.specs.Decode.{exprOf, readBindings};
 ghost use Rattle.model.specs.Check.{ok};
 ghost use Rattle.model.specs.Evaluate.{lookup, primitiveAt, rowValue};
@@ -33,8 +41,7 @@ ghost use Rattle.model.specs.Normalize.{normaliserOf, normalizeApp, normalizeCo
 ghost use Rattle.model.specs.Walk.{duplicateRuleName};
 ghost use Rattle.decode.specs.View.{primitiveOf};
 ghost use Rattle.termdag.specs.Store.{termsIn, Stored};
-ghost use Rattle.load.specs.Held.{sizesIn, Limits, Held, tablesFor, cellHeld};
-ghost use Rattle.program.specs.Ready.{Ready, programFor, optionOf, FindsCell, FindsRule, Merges};
+ghost use Rattle.program.specs.Ready.{Held, Ready, tablesFor, tableFor, countFor, programFor, optionOf, FindsCell, FindsRule, Merges};
 
 // What a look-up gives.
 pub enum Looked {
@@ -57,72 +64,17 @@ pub fn lookup_pairs(ws: &[u32], name: u32) -> Looked
     Looked::None
 }
 
-// The number of the first function's cell.
-pub fn first_function(z: Sizes) -> usize
-    requires { ⌜ Limits z ⌝ }
-    ensures { λ r. ⌜ r ≡ firstFunction (sizesIn z) ⌝ }
+// Of the first `count` cells of a table, the place of the first of that name.
+fn first_named(job: &[u32], table: usize, count: usize, name: u32) -> Found
+    requires { ⌜ Held (now job) ⌝ }
+    requires { ⌜ table < 10 ⌝ }
+    requires { ⌜ count ≤ countFor (now job) table ⌝ }
+    ensures { λ r. ⌜ FindsCell (take count (tableFor (now (job .entry)) table)) count name r ⌝ }
 {
-    z.terms + z.expressions + z.facts + z.actions
-}
-
-// The number of the first primitive's cell.
-pub fn first_primitive(z: Sizes) -> usize
-    requires { ⌜ Limits z ⌝ }
-    ensures { λ r. ⌜ r ≡ firstPrimitive (sizesIn z) ⌝ }
-{
-    first_function(z) + z.functions
-}
-
-// The number of the first row's cell.
-pub fn first_row(z: Sizes) -> usize
-    requires { ⌜ Limits z ⌝ }
-    ensures { λ r. ⌜ r ≡ firstRow (sizesIn z) ⌝ }
-{
-    first_primitive(z) + z.primitives
-}
-
-// The number of the first normaliser's cell.
-pub fn first_normaliser(z: Sizes) -> usize
-    requires { ⌜ Limits z ⌝ }
-    ensures { λ r. ⌜ r ≡ firstNormaliser (sizesIn z) ⌝ }
-{
-    first_row(z) + z.rows
-}
-
-// The number of the first rule's cell.
-pub fn first_rule(z: Sizes) -> usize
-    requires { ⌜ Limits z ⌝ }
-    ensures { λ r. ⌜ r ≡ firstRule (sizesIn z) ⌝ }
-{
-    first_normaliser(z) + z.normalisers
-}
-
-// The words of cell i of the job.
-pub fn cell_words<'a>(kinds: &[u32], ends: &[u32], pool: &'a [u32], z: Sizes, i: usize) -> &'a [u32]
-    requires { ⌜ Held (now kinds) (now ends) (now pool) z ⌝ }
-    requires { ⌜ i < cellCount (sizesIn z) ⌝ }
-    ensures { λ r. ⌜ now r ≡ cellHeld (now (kinds .entry)) (now (ends .entry)) (now (pool .entry)) z i .words ⌝ }
-{
-    words(kinds, ends, pool, fill(z), i)
-}
-
-// Of `count` cells from `first` on, the place of the first of that name.
-fn first_named(
-    kinds: &[u32],
-    ends: &[u32],
-    pool: &[u32],
-    z: Sizes,
-    first: usize,
-    count: usize,
-    name: u32,
-) -> Found
-    requires { ⌜ Held (now kinds) (now ends) (now pool) z ⌝ }
-    requires { ⌜ first + count ≤ cellCount (sizesIn z) ⌝ }
-    ensures { λ r. ⌜ FindsCell (part (cellsOf (now (kinds .entry)) (now (ends .entry)) (now (pool .entry)) (cellCount (sizesIn z))) first count) count name r ⌝ }
-{
+    let start = first(job, table);
     let mut i = 0;
     while i < count {
-        if at(cell_words(kinds, ends, pool, z, first + i), 0) == name {
+        if at(cell_words(job, start + i), 0) == name {
             return Found::At(i);
         }
         i += 1;
@@ -131,32 +83,24 @@ fn first_named(
 }
 
 // The primitive of a number.
-pub fn primitive_at(kinds: &[u32], ends: &[u32], pool: &[u32], z: Sizes, p: usize) -> Primitive
-    requires { ⌜ Ready (now kinds) (now ends) (now pool) z ⌝ }
-    requires { ⌜ p < z .primitives ⌝ }
-    ensures { λ r. ⌜ primitiveOf r ≡ primitiveAt (programFor (now (kinds .entry)) (now (ends .entry)) (now (pool .entry)) z .primitives) p ⌝ }
+pub fn primitive_at(job: &[u32], p: usize) -> Primitive
+    requires { ⌜ Ready (now job) ⌝ }
+    requires { ⌜ p < sizesOf (now job) .primitives ⌝ }
+    ensures { λ r. ⌜ primitiveOf r ≡ primitiveAt (programFor (now (job .entry)) .primitives) p ⌝ }
 {
-    let i = first_primitive(z) + p;
-    read_primitive(kinds[i], cell_words(kinds, ends, pool, z, i))
+    read_primitive(kind_at(job, PRIMITIVES, p), words_at(job, PRIMITIVES, p))
 }
 
 // The result of the row of a primitive and its arguments.
-pub fn row_value(
-    kinds: &[u32],
-    ends: &[u32],
-    pool: &[u32],
-    z: Sizes,
-    p: u32,
-    args: &[u32],
-) -> Looked
-    requires { ⌜ Ready (now kinds) (now ends) (now pool) z ⌝ }
-    ensures { λ r. ⌜ optionOf r ≡ rowValue (programFor (now (kinds .entry)) (now (ends .entry)) (now (pool .entry)) z .rows) p (now (args .entry)) ⌝ }
+pub fn row_value(job: &[u32], p: u32, args: &[u32]) -> Looked
+    requires { ⌜ Ready (now job) ⌝ }
+    ensures { λ r. ⌜ optionOf r ≡ rowValue (programFor (now (job .entry)) .rows) p (now (args .entry)) ⌝ }
 {
-    let first = first_row(z);
-    let count = z.rows;
+    let count = size(job, ROWS);
+    let start = first(job, ROWS);
     let mut i = 0;
     while i < count {
-        let ws = cell_words(kinds, ends, pool, z, first + i);
+        let ws = cell_words(job, start + i);
         let row = read_row(ws);
         let same = same_words(row_arguments(ws), args);
         if (row.primitive == p) & same {
@@ -168,53 +112,52 @@ pub fn row_value(
 }
 
 // The primitive that normalises a head.
-pub fn normaliser_of(kinds: &[u32], ends: &[u32], pool: &[u32], z: Sizes, head: u32) -> Looked
-    requires { ⌜ Ready (now kinds) (now ends) (now pool) z ⌝ }
-    ensures { λ r. ⌜ optionOf r ≡ normaliserOf (programFor (now (kinds .entry)) (now (ends .entry)) (now (pool .entry)) z .normalisers) head ⌝ }
+pub fn normaliser_of(job: &[u32], head: u32) -> Looked
+    requires { ⌜ Ready (now job) ⌝ }
+    ensures { λ r. ⌜ optionOf r ≡ normaliserOf (programFor (now (job .entry)) .normalisers) head ⌝ }
 {
-    let first = first_normaliser(z);
-    let found = first_named(kinds, ends, pool, z, first, z.normalisers, head);
+    let count = size(job, NORMALISERS);
+    let found = first_named(job, NORMALISERS, count, head);
     let Found::At(i) = found else {
         return Looked::None;
     };
-    let n = read_normaliser(cell_words(kinds, ends, pool, z, first + i));
+    let n = read_normaliser(words_at(job, NORMALISERS, i));
     Looked::Some(n.primitive)
 }
 
 // The number of the first rule of a name.
-pub fn rule_of(kinds: &[u32], ends: &[u32], pool: &[u32], z: Sizes, name: u32) -> Found
-    requires { ⌜ Ready (now kinds) (now ends) (now pool) z ⌝ }
-    ensures { λ r. ⌜ FindsRule (programFor (now (kinds .entry)) (now (ends .entry)) (now (pool .entry)) z .rules) (z .rules) name r ⌝ }
+pub fn rule_of(job: &[u32], name: u32) -> Found
+    requires { ⌜ Ready (now job) ⌝ }
+    ensures { λ r. ⌜ FindsRule (programFor (now (job .entry)) .rules) (sizesOf (now (job .entry)) .rules) name r ⌝ }
 {
-    first_named(kinds, ends, pool, z, first_rule(z), z.rules, name)
+    let count = size(job, RULES);
+    first_named(job, RULES, count, name)
 }
 
 // The merge of the first function of a name.
-pub fn merge_of(kinds: &[u32], ends: &[u32], pool: &[u32], z: Sizes, function: u32) -> Merge
-    requires { ⌜ Ready (now kinds) (now ends) (now pool) z ⌝ }
-    ensures { λ r. ⌜ Merges (exprOf (tablesFor (now (kinds .entry)) (now (ends .entry)) (now (pool .entry)) z .expressions)) (z .expressions) r (mergeOf (programFor (now (kinds .entry)) (now (ends .entry)) (now (pool .entry)) z .functions) function) ⌝ }
+pub fn merge_of(job: &[u32], function: u32) -> Merge
+    requires { ⌜ Ready (now job) ⌝ }
+    ensures { λ r. ⌜ Merges (exprOf (tablesFor (now (job .entry)) .expressions)) (sizesOf (now (job .entry)) .expressions) r (mergeOf (programFor (now (job .entry)) .functions) function) ⌝ }
 {
-    let first = first_function(z);
-    let found = first_named(kinds, ends, pool, z, first, z.functions, function);
+    let count = size(job, FUNCTIONS);
+    let found = first_named(job, FUNCTIONS, count, function);
     let Found::At(i) = found else {
         return Merge::Nothing;
     };
-    let k = first + i;
-    let f = read_function(kinds[k], cell_words(kinds, ends, pool, z, k));
+    let f = read_function(kind_at(job, FUNCTIONS, i), words_at(job, FUNCTIONS, i));
     f.merge
 }
 
 // The first rule name that has been seen before.
-pub fn duplicate_rule_name(kinds: &[u32], ends: &[u32], pool: &[u32], z: Sizes) -> Looked
-    requires { ⌜ Ready (now kinds) (now ends) (now pool) z ⌝ }
-    ensures { λ r. ⌜ optionOf r ≡ duplicateRuleName [] (programFor (now (kinds .entry)) (now (ends .entry)) (now (pool .entry)) z .rules) ⌝ }
+pub fn duplicate_rule_name(job: &[u32]) -> Looked
+    requires { ⌜ Ready (now job) ⌝ }
+    ensures { λ r. ⌜ optionOf r ≡ duplicateRuleName [] (programFor (now (job .entry)) .rules) ⌝ }
 {
-    let first = first_rule(z);
-    let count = z.rules;
+    let count = size(job, RULES);
     let mut i = 0;
     while i < count {
-        let name = rule_name(cell_words(kinds, ends, pool, z, first + i));
-        let seen = first_named(kinds, ends, pool, z, first, i, name);
+        let name = rule_name(words_at(job, RULES, i));
+        let seen = first_named(job, RULES, i, name);
         if let Found::At(_) = seen {
             return Looked::Some(name);
         }
@@ -224,23 +167,15 @@ pub fn duplicate_rule_name(kinds: &[u32], ends: &[u32], pool: &[u32], z: Sizes) 
 }
 
 // The normal form of an application t; no normaliser, or no value, gives t itself.
-fn normalize_app(
-    kinds: &[u32],
-    ends: &[u32],
-    pool: &[u32],
-    z: Sizes,
-    t: u32,
-    head: u32,
-    args: &[u32],
-) -> u32
-    requires { ⌜ Ready (now kinds) (now ends) (now pool) z ⌝ }
-    ensures { λ r. ⌜ ((s : List terms.Term) → normalizeApp (programFor (now (kinds .entry)) (now (ends .entry)) (now (pool .entry)) z) t (some (record { head = head; args = now (args .entry) })) s ≡ ok r s) ⌝ }
+fn normalize_app(job: &[u32], t: u32, head: u32, args: &[u32]) -> u32
+    requires { ⌜ Ready (now job) ⌝ }
+    ensures { λ r. ⌜ ((s : List terms.Term) → normalizeApp (programFor (now (job .entry))) t (some (record { head = head; args = now (args .entry) })) s ≡ ok r s) ⌝ }
 {
-    let normaliser = normaliser_of(kinds, ends, pool, z, head);
+    let normaliser = normaliser_of(job, head);
     let Looked::Some(p) = normaliser else {
         return t;
     };
-    let value = row_value(kinds, ends, pool, z, p, args);
+    let value = row_value(job, p, args);
     let Looked::Some(r) = value else {
         return t;
     };
@@ -249,20 +184,17 @@ fn normalize_app(
 
 // A container's normal form, in the store of terms; what is no application stays as it is.
 pub fn normalize_container(
-    kinds: &[u32],
-    ends: &[u32],
-    pool: &[u32],
-    z: Sizes,
+    job: &[u32],
     skinds: &[u32],
     sends: &[u32],
     spool: &[u32],
     sfill: Fill,
     t: u32,
 ) -> u32
-    requires { ⌜ Ready (now kinds) (now ends) (now pool) z ⌝ }
+    requires { ⌜ Ready (now job) ⌝ }
     requires { ⌜ Stored (now skinds) (now sends) (now spool) sfill ⌝ }
     requires { ⌜ t < sfill .cells ⌝ }
-    ensures { λ r. ⌜ normalizeContainer (programFor (now (kinds .entry)) (now (ends .entry)) (now (pool .entry)) z) t (termsIn (now (skinds .entry)) (now (sends .entry)) (now (spool .entry)) sfill) ≡ ok r (termsIn (now (skinds .entry)) (now (sends .entry)) (now (spool .entry)) sfill) ⌝ }
+    ensures { λ r. ⌜ normalizeContainer (programFor (now (job .entry))) t (termsIn (now (skinds .entry)) (now (sends .entry)) (now (spool .entry)) sfill) ≡ ok r (termsIn (now (skinds .entry)) (now (sends .entry)) (now (spool .entry)) sfill) ⌝ }
 {
     let n = wide(t);
     let term = termdag::get(skinds, sends, spool, sfill, n);
@@ -270,6 +202,6 @@ pub fn normalize_container(
     match term {
         Term::Lit(_) => t,
         Term::Var(_) => t,
-        Term::App(head) => normalize_app(kinds, ends, pool, z, t, head, args),
+        Term::App(head) => normalize_app(job, t, head, args),
     }
 }

@@ -1,6 +1,11 @@
 // Typed reads of the cells of an admitted job's tables, by number within the table.
-use crate::cell_words;
-use crate::first_rule;
+use crate::job::ACTIONS;
+use crate::job::EXPRESSIONS;
+use crate::job::FACTS;
+use crate::job::PROOFS;
+use crate::job::RULES;
+use crate::job::kind_at;
+use crate::job::words_at;
 use decode::Action;
 use decode::Fact;
 use decode::Head;
@@ -17,176 +22,109 @@ use decode::rule_facts;
 use decode::rule_name;
 use decode::rule_pairs;
 use decode::rule_premises;
-use load::sizes::Sizes;
 ghost use mathlib.Core.Path.{_≡_};
-ghost use Prim.Native.Nat.{_+_, _<_};
-ghost use Rattle.model.specs.Layout.{firstFact, firstAction, firstProof};
-ghost use Rattle.load.specs.Held.{sizesIn, Limits};
+ghost use Prim.Native.Nat.{_<_};
+ghost use Rattle.model.specs.Layout.{sizesOf};
 ghost use Rattle.program.specs.Ready.{Ready, ruleFor};
 ghost use Rattle.program.specs.Read.{HeadAt, ArgumentsAt, FactAt, ActionAt, RuleFactsAt, RuleActionsAt, proofCell, ClaimAt, JustificationAt, PremisesAt, SubstitutionAt};
 
-// The number of the first fact's cell.
-pub fn first_fact(z: Sizes) -> usize
-    requires { ⌜ Limits z ⌝ }
-    ensures { λ r. ⌜ r ≡ firstFact (sizesIn z) ⌝ }
-{
-    z.terms + z.expressions
-}
-
-// The number of the first action's cell.
-pub fn first_action(z: Sizes) -> usize
-    requires { ⌜ Limits z ⌝ }
-    ensures { λ r. ⌜ r ≡ firstAction (sizesIn z) ⌝ }
-{
-    z.terms + z.expressions + z.facts
-}
-
 // The head of expression e.
-pub fn head_at(kinds: &[u32], ends: &[u32], pool: &[u32], z: Sizes, e: usize) -> Head
-    requires { ⌜ Ready (now kinds) (now ends) (now pool) z ⌝ }
-    requires { ⌜ e < z .expressions ⌝ }
-    ensures { λ r. ⌜ HeadAt (now (kinds .entry)) (now (ends .entry)) (now (pool .entry)) z e r ⌝ }
+pub fn head_at(job: &[u32], e: usize) -> Head
+    requires { ⌜ Ready (now job) ⌝ }
+    requires { ⌜ e < sizesOf (now job) .expressions ⌝ }
+    ensures { λ r. ⌜ HeadAt (now (job .entry)) e r ⌝ }
 {
-    let i = z.terms + e;
-    read_head(kinds[i], cell_words(kinds, ends, pool, z, i))
+    read_head(kind_at(job, EXPRESSIONS, e), words_at(job, EXPRESSIONS, e))
 }
 
 // The arguments of expression e.
-pub fn arguments_at<'a>(
-    kinds: &[u32],
-    ends: &[u32],
-    pool: &'a [u32],
-    z: Sizes,
-    e: usize,
-) -> &'a [u32]
-    requires { ⌜ Ready (now kinds) (now ends) (now pool) z ⌝ }
-    requires { ⌜ e < z .expressions ⌝ }
-    ensures { λ r. ⌜ ArgumentsAt (now (kinds .entry)) (now (ends .entry)) (now (pool .entry)) z e (now r) ⌝ }
+pub fn arguments_at<'a>(job: &'a [u32], e: usize) -> &'a [u32]
+    requires { ⌜ Ready (now job) ⌝ }
+    requires { ⌜ e < sizesOf (now job) .expressions ⌝ }
+    ensures { λ r. ⌜ ArgumentsAt (now (job .entry)) e (now r) ⌝ }
 {
-    let i = z.terms + e;
-    read_arguments(kinds[i], cell_words(kinds, ends, pool, z, i))
+    read_arguments(kind_at(job, EXPRESSIONS, e), words_at(job, EXPRESSIONS, e))
 }
 
 // Fact i.
-pub fn fact_at(kinds: &[u32], ends: &[u32], pool: &[u32], z: Sizes, i: usize) -> Fact
-    requires { ⌜ Ready (now kinds) (now ends) (now pool) z ⌝ }
-    requires { ⌜ i < z .facts ⌝ }
-    ensures { λ r. ⌜ FactAt (now (kinds .entry)) (now (ends .entry)) (now (pool .entry)) z i r ⌝ }
+pub fn fact_at(job: &[u32], i: usize) -> Fact
+    requires { ⌜ Ready (now job) ⌝ }
+    requires { ⌜ i < sizesOf (now job) .facts ⌝ }
+    ensures { λ r. ⌜ FactAt (now (job .entry)) i r ⌝ }
 {
-    let k = first_fact(z) + i;
-    read_fact(kinds[k], cell_words(kinds, ends, pool, z, k))
+    read_fact(kind_at(job, FACTS, i), words_at(job, FACTS, i))
 }
 
 // Action i.
-pub fn action_at(kinds: &[u32], ends: &[u32], pool: &[u32], z: Sizes, i: usize) -> Action
-    requires { ⌜ Ready (now kinds) (now ends) (now pool) z ⌝ }
-    requires { ⌜ i < z .actions ⌝ }
-    ensures { λ r. ⌜ ActionAt (now (kinds .entry)) (now (ends .entry)) (now (pool .entry)) z i r ⌝ }
+pub fn action_at(job: &[u32], i: usize) -> Action
+    requires { ⌜ Ready (now job) ⌝ }
+    requires { ⌜ i < sizesOf (now job) .actions ⌝ }
+    ensures { λ r. ⌜ ActionAt (now (job .entry)) i r ⌝ }
 {
-    let k = first_action(z) + i;
-    read_action(kinds[k], cell_words(kinds, ends, pool, z, k))
+    read_action(kind_at(job, ACTIONS, i), words_at(job, ACTIONS, i))
 }
 
 // The name of rule r.
-pub fn rule_name_at(kinds: &[u32], ends: &[u32], pool: &[u32], z: Sizes, r: usize) -> u32
-    requires { ⌜ Ready (now kinds) (now ends) (now pool) z ⌝ }
-    requires { ⌜ r < z .rules ⌝ }
-    ensures { λ x. ⌜ x ≡ ruleFor (now (kinds .entry)) (now (ends .entry)) (now (pool .entry)) z r .name ⌝ }
+pub fn rule_name_at(job: &[u32], r: usize) -> u32
+    requires { ⌜ Ready (now job) ⌝ }
+    requires { ⌜ r < sizesOf (now job) .rules ⌝ }
+    ensures { λ x. ⌜ x ≡ ruleFor (now (job .entry)) r .name ⌝ }
 {
-    rule_name(cell_words(kinds, ends, pool, z, first_rule(z) + r))
+    rule_name(words_at(job, RULES, r))
 }
 
 // The facts of rule r.
-pub fn rule_facts_at<'a>(
-    kinds: &[u32],
-    ends: &[u32],
-    pool: &'a [u32],
-    z: Sizes,
-    r: usize,
-) -> &'a [u32]
-    requires { ⌜ Ready (now kinds) (now ends) (now pool) z ⌝ }
-    requires { ⌜ r < z .rules ⌝ }
-    ensures { λ xs. ⌜ RuleFactsAt (now (kinds .entry)) (now (ends .entry)) (now (pool .entry)) z r (now xs) ⌝ }
+pub fn rule_facts_at<'a>(job: &'a [u32], r: usize) -> &'a [u32]
+    requires { ⌜ Ready (now job) ⌝ }
+    requires { ⌜ r < sizesOf (now job) .rules ⌝ }
+    ensures { λ xs. ⌜ RuleFactsAt (now (job .entry)) r (now xs) ⌝ }
 {
-    rule_facts(cell_words(kinds, ends, pool, z, first_rule(z) + r))
+    rule_facts(words_at(job, RULES, r))
 }
 
 // The actions of rule r.
-pub fn rule_actions_at<'a>(
-    kinds: &[u32],
-    ends: &[u32],
-    pool: &'a [u32],
-    z: Sizes,
-    r: usize,
-) -> &'a [u32]
-    requires { ⌜ Ready (now kinds) (now ends) (now pool) z ⌝ }
-    requires { ⌜ r < z .rules ⌝ }
-    ensures { λ xs. ⌜ RuleActionsAt (now (kinds .entry)) (now (ends .entry)) (now (pool .entry)) z r (now xs) ⌝ }
+pub fn rule_actions_at<'a>(job: &'a [u32], r: usize) -> &'a [u32]
+    requires { ⌜ Ready (now job) ⌝ }
+    requires { ⌜ r < sizesOf (now job) .rules ⌝ }
+    ensures { λ xs. ⌜ RuleActionsAt (now (job .entry)) r (now xs) ⌝ }
 {
-    rule_actions(cell_words(kinds, ends, pool, z, first_rule(z) + r))
-}
-
-// The number of the first proof's cell.
-pub fn first_proof(z: Sizes) -> usize
-    requires { ⌜ Limits z ⌝ }
-    ensures { λ r. ⌜ r ≡ firstProof (sizesIn z) ⌝ }
-{
-    first_rule(z) + z.rules
+    rule_actions(words_at(job, RULES, r))
 }
 
 // What proof p claims.
-pub fn claim_at(kinds: &[u32], ends: &[u32], pool: &[u32], z: Sizes, p: usize) -> Proposition
-    requires { ⌜ Ready (now kinds) (now ends) (now pool) z ⌝ }
-    requires { ⌜ p < z .proofs ⌝ }
-    ensures { λ r. ⌜ ClaimAt (now (kinds .entry)) (now (ends .entry)) (now (pool .entry)) z p r ⌝ }
+pub fn claim_at(job: &[u32], p: usize) -> Proposition
+    requires { ⌜ Ready (now job) ⌝ }
+    requires { ⌜ p < sizesOf (now job) .proofs ⌝ }
+    ensures { λ r. ⌜ ClaimAt (now (job .entry)) p r ⌝ }
 {
-    read_claim(cell_words(kinds, ends, pool, z, first_proof(z) + p))
+    read_claim(words_at(job, PROOFS, p))
 }
 
 // Why proof p holds.
-pub fn justification_at(
-    kinds: &[u32],
-    ends: &[u32],
-    pool: &[u32],
-    z: Sizes,
-    p: usize,
-) -> Justification
-    requires { ⌜ Ready (now kinds) (now ends) (now pool) z ⌝ }
-    requires { ⌜ p < z .proofs ⌝ }
-    ensures { λ r. ⌜ JustificationAt (now (kinds .entry)) (now (ends .entry)) (now (pool .entry)) z p r ⌝ }
+pub fn justification_at(job: &[u32], p: usize) -> Justification
+    requires { ⌜ Ready (now job) ⌝ }
+    requires { ⌜ p < sizesOf (now job) .proofs ⌝ }
+    ensures { λ r. ⌜ JustificationAt (now (job .entry)) p r ⌝ }
 {
-    let k = first_proof(z) + p;
-    read_justification(kinds[k], cell_words(kinds, ends, pool, z, k))
+    read_justification(kind_at(job, PROOFS, p), words_at(job, PROOFS, p))
 }
 
 // The premises of proof p, which is by a rule.
-pub fn premises_at<'a>(
-    kinds: &[u32],
-    ends: &[u32],
-    pool: &'a [u32],
-    z: Sizes,
-    p: usize,
-) -> &'a [u32]
-    requires { ⌜ Ready (now kinds) (now ends) (now pool) z ⌝ }
-    requires { ⌜ p < z .proofs ⌝ }
-    requires { ⌜ proofCell (now kinds) (now ends) (now pool) z p .kind ≡ 1 ⌝ }
-    ensures { λ r. ⌜ PremisesAt (now (kinds .entry)) (now (ends .entry)) (now (pool .entry)) z p (now r) ⌝ }
+pub fn premises_at<'a>(job: &'a [u32], p: usize) -> &'a [u32]
+    requires { ⌜ Ready (now job) ⌝ }
+    requires { ⌜ p < sizesOf (now job) .proofs ⌝ }
+    requires { ⌜ proofCell (now job) p .kind ≡ 1 ⌝ }
+    ensures { λ r. ⌜ PremisesAt (now (job .entry)) p (now r) ⌝ }
 {
-    rule_premises(cell_words(kinds, ends, pool, z, first_proof(z) + p))
+    rule_premises(words_at(job, PROOFS, p))
 }
 
 // The pairs of name and term of the substitution of proof p, which is by a rule.
-pub fn substitution_at<'a>(
-    kinds: &[u32],
-    ends: &[u32],
-    pool: &'a [u32],
-    z: Sizes,
-    p: usize,
-) -> &'a [u32]
-    requires { ⌜ Ready (now kinds) (now ends) (now pool) z ⌝ }
-    requires { ⌜ p < z .proofs ⌝ }
-    requires { ⌜ proofCell (now kinds) (now ends) (now pool) z p .kind ≡ 1 ⌝ }
-    ensures { λ r. ⌜ SubstitutionAt (now (kinds .entry)) (now (ends .entry)) (now (pool .entry)) z p (now r) ⌝ }
+pub fn substitution_at<'a>(job: &'a [u32], p: usize) -> &'a [u32]
+    requires { ⌜ Ready (now job) ⌝ }
+    requires { ⌜ p < sizesOf (now job) .proofs ⌝ }
+    requires { ⌜ proofCell (now job) p .kind ≡ 1 ⌝ }
+    ensures { λ r. ⌜ SubstitutionAt (now (job .entry)) p (now r) ⌝ }
 {
-    rule_pairs(cell_words(kinds, ends, pool, z, first_proof(z) + p))
+    rule_pairs(words_at(job, PROOFS, p))
 }

@@ -5,6 +5,7 @@ use mathlib.Core.List.{List, [], _∷_}
 use Prim.Native.Nat.{ℕ, _+_, _-_, _<_}
 use native.Mathlib.Omega.{arith}
 use lib.ListN.{length, getD, take, drop}
+use Rattle.model.specs.Layout.{sizesOf}
 use types.Run.{OneOf, miss}
 use denote.Enum.Declared.{tagOf}
 use Rattle.model.specs.Term.{Term, Extends}
@@ -26,7 +27,6 @@ use Rattle.outcome.specs.Does.{refusal, Does}
 use Rattle.outcome.specs.declared.Refusal.{Refusal}
 use Rattle.outcome.specs.declared.Checked.{Checked}
 use Rattle.outcome.proofs.Laws.{ok-of, does-here, grown-same}
-use Rattle.load.specs.declared.sizes.Sizes.{Sizes}
 use Rattle.program.specs.Ready.{programFor}
 use Rattle.program.specs.Read.{proofsFor, premisesFor, pairsFor, ClaimAt, JustificationAt}
 use Rattle.evaluate.specs.Evaluation.{Sane, Checks}
@@ -61,8 +61,8 @@ merge-as prog p q function {k = k} {e = e} {l = l} {f = f} {k₁ = k₁} {e₁ =
     subst (Checks k e l f k₁ e₁ l₁ f₁ r tt m) (ap₂ (λ (x y : program.Proposition). mergeStep (roomOf k l) prog p q function x y (termsIn k e l f)) g h) D
 
 -- what a merge may be handed
-pub merge-stands : {K E P : List ℕ} {z : Sizes} {k e l : List ℕ} {f : Fill} {memo W : List ℕ} → Prepared K E P z k e l f memo W
-    → Standing K E P z [] k e l f memo (take (length k + length k - length k) (drop (length k) W))
+pub merge-stands : {job : List ℕ} {k e l : List ℕ} {f : Fill} {memo W : List ℕ} → Prepared job k e l f memo W
+    → Standing job [] k e l f memo (take (length k + length k - length k) (drop (length k) W))
 merge-stands {k = k} {W = W} S = record {
   ready = S .ready;
   stored = S .stored;
@@ -73,13 +73,13 @@ merge-stands {k = k} {W = W} S = record {
 }
 
 -- the step of proof p
-module _ (K E P : List ℕ) (z : Sizes) (U k e l : List ℕ) (f : Fill) (memo W : List ℕ) (p : ℕ) (S : Prepared K E P z k e l f memo W) {n : ℕ} (np : n ≡ p) (q : Proposition) (j : Justification)
-    (C : ClaimAt K E P z n q) (J : JustificationAt K E P z n j) where
+module _ (job : List ℕ) (U k e l : List ℕ) (f : Fill) (memo W : List ℕ) (p : ℕ) (S : Prepared job k e l f memo W) {n : ℕ} (np : n ≡ p) (q : Proposition) (j : Justification)
+    (C : ClaimAt job n q) (J : JustificationAt job n j) where
   abbrev prog : Program
-  prog = programFor K E P z
+  prog = programFor job
 
   abbrev proofs : List program.Proof
-  proofs = proofsFor K E P z
+  proofs = proofsFor job
 
   abbrev s : List Term
   s = termsIn k e l f
@@ -87,20 +87,20 @@ module _ (K E P : List ℕ) (z : Sizes) (U k e l : List ℕ) (f : Fill) (memo W 
   abbrev whole : List program.Proposition → Outcome (Unit {0})
   whole ps = concludes (roomOf k l) prog proofs ps p (claimAt proofs p) (getD proofs p noProof .justification) s
 
-  pub claim-here : ClaimAt K E P z p q
-  claim-here = subst (λ (i : ℕ). ClaimAt K E P z i q) np C
+  pub claim-here : ClaimAt job p q
+  claim-here = subst (λ (i : ℕ). ClaimAt job i q) np C
 
-  pub justified-here : JustificationAt K E P z p j
-  justified-here = subst (λ (i : ℕ). JustificationAt K E P z i j) np J
+  pub justified-here : JustificationAt job p j
+  justified-here = subst (λ (i : ℕ). JustificationAt job i j) np J
 
-  is-whole : (ps : List program.Proposition) → concludes (roomOf k l) prog proofs ps p (propositionOf q) (justificationOf j (premisesFor K E P z p) (pairsFor K E P z p)) s ≡ whole ps
+  is-whole : (ps : List program.Proposition) → concludes (roomOf k l) prog proofs ps p (propositionOf q) (justificationOf j (premisesFor job p) (pairsFor job p)) s ≡ whole ps
   is-whole ps = ap₂ (λ (x : program.Proposition) (y : program.Justification). concludes (roomOf k l) prog proofs ps p x y s) (claim-here .is) (justified-here .is)
 
-  is-by : (ps : List program.Proposition) (g : Justification) → j ≡ g → concludes (roomOf k l) prog proofs ps p (propositionOf q) (justificationOf g (premisesFor K E P z p) (pairsFor K E P z p)) s ≡ whole ps
-  is-by ps g d = ap (λ (x : Justification). concludes (roomOf k l) prog proofs ps p (propositionOf q) (justificationOf x (premisesFor K E P z p) (pairsFor K E P z p)) s) (sym d) ∙ is-whole ps
+  is-by : (ps : List program.Proposition) (g : Justification) → j ≡ g → concludes (roomOf k l) prog proofs ps p (propositionOf q) (justificationOf g (premisesFor job p) (pairsFor job p)) s ≡ whole ps
+  is-by ps g d = ap (λ (x : Justification). concludes (roomOf k l) prog proofs ps p (propositionOf q) (justificationOf x (premisesFor job p) (pairsFor job p)) s) (sym d) ∙ is-whole ps
 
-  pub concludes-plain : {r : Refusal} → isPlain j ≡ true → PlainStep K E P z U (take (length k) W) s p (propositionOf q) j r
-      → Concludes K E P z U k e l f W p k e l (record { refusal = r; value = 0; fill = f }) memo W
+  pub concludes-plain : {r : Refusal} → isPlain j ≡ true → PlainStep job U (take (length k) W) s p (propositionOf q) j r
+      → Concludes job U k e l f W p k e l (record { refusal = r; value = 0; fill = f }) memo W
   concludes-plain h D = record {
     grown = grown-same (S .stored);
     does = λ ps g. does-here (S .stored) (D .outcome (roomOf k l) ps g h ∙ is-whole ps);
@@ -112,7 +112,7 @@ module _ (K E P : List ℕ) (z : Sizes) (U k e l : List ℕ) (f : Fill) (memo W 
 
   pub concludes-merge : {t : MergeStep} (c : Checked) {k₁ e₁ l₁ memo₁ W₁ : List ℕ} → j ≡ Justification.MergeFn t
       → Checks k e l f k₁ e₁ l₁ (c .fill) (c .refusal) tt memo₁ (mergeStep (roomOf k l) prog p (propositionOf q) (t .function) (claimAt proofs (t .«old_proof»)) (claimAt proofs (t .«new_proof»)) s)
-      → SecondPart (length k) W W₁ → Concludes K E P z U k e l f W p k₁ e₁ l₁ c memo₁ W₁
+      → SecondPart (length k) W W₁ → Concludes job U k e l f W p k₁ e₁ l₁ c memo₁ W₁
   unfolding concludes
   concludes-merge {t} c {k₁} {e₁} {l₁} {memo₁} {W₁} d M w =
       let kept : c .refusal .number ≡ 0 → (σ : List Binding) → Sane prog σ s → Extends s (termsIn k₁ e₁ l₁ (c .fill)) × Sane prog σ (termsIn k₁ e₁ l₁ (c .fill)) =
@@ -127,9 +127,9 @@ module _ (K E P : List ℕ) (z : Sizes) (U k e l : List ℕ) (f : Fill) (memo W 
         scratch = w;
       }
 
-  pub concludes-congr : {t : CongrStep} (c : Checked) {k₁ e₁ l₁ : List ℕ} → j ≡ Justification.Congr t → t .«child_proof» < z .proofs
+  pub concludes-congr : {t : CongrStep} (c : Checked) {k₁ e₁ l₁ : List ℕ} → j ≡ Justification.Congr t → t .«child_proof» < sizesOf job .proofs
       → Does k e l f k₁ e₁ l₁ (c .fill) (c .refusal) tt (congrStep (roomOf k l) p (propositionOf q) (claimAt proofs (t .proof)) (t .«child_index») (claimAt proofs (t .«child_proof»)) s)
-      → Concludes K E P z U k e l f W p k₁ e₁ l₁ c memo W
+      → Concludes job U k e l f W p k₁ e₁ l₁ c memo W
   unfolding concludes
   concludes-congr {t} c {k₁} {e₁} {l₁} d h M =
       let inside : claimAt proofs (t .«child_proof») .rhs < length s = let i = claim-inside (S .ready) (t .«child_proof») h in let m = first-long (S .ready) (S .terms) in omega arith in

@@ -8,6 +8,7 @@ use native.Mathlib.Omega.{arith}
 use lib.Dec.{leb, lit<}
 use lib.ListN.{length, getD, take, drop, length-drop, length-map}
 use borrow.Rule.Slice.PartMut.{putMid, mid-len, take-put, drop-put}
+use Rattle.model.specs.Layout.{sizesOf}
 use Rattle.model.specs.Cell.{Cell, noCell}
 use Rattle.model.specs.Term.{Term, readTerm}
 use Rattle.model.specs.Program as program
@@ -23,9 +24,7 @@ use Rattle.decode.specs.declared.Justification.{Justification}
 use Rattle.termdag.specs.Store.{termsIn}
 use Rattle.termdag.proofs.Laws.{get-read, terms-length}
 use Rattle.cells.specs.declared.Fill.{Fill}
-use Rattle.load.specs.Held.{tablesFor}
-use Rattle.load.specs.declared.sizes.Sizes.{Sizes}
-use Rattle.program.specs.Ready.{Ready}
+use Rattle.program.specs.Ready.{tablesFor, Ready}
 use Rattle.program.specs.Read.{proofsFor, proofCell, premisesFor, pairsFor, ClaimAt, JustificationAt}
 use Rattle.program.proofs.Laws.{table-long, fits}
 use Rattle.program.proofs.Proving.{claim-read}
@@ -43,41 +42,41 @@ cell-few c e = go (c .kind) (c .words) e
     go (suc (suc zero)) ws q = let b = le-of (length ws) 17 (and-right (leb 1 (length ws)) _ q) in omega (arith, length-drop 1 ws)
     go (suc (suc (suc k))) ws q = never q
 
-module _ {K E P : List ℕ} {z : Sizes} (R : Ready K E P z) where
-  terms-long : length (tablesFor K E P z .terms) ≡ z .terms
-  terms-long = table-long K E P z 0 (lit< tt)
+module _ {Ws : List ℕ} (R : Ready Ws) where
+  terms-long : length (tablesFor Ws .terms) ≡ sizesOf Ws .terms
+  terms-long = table-long Ws 0 (lit< tt)
 
-  pub first-long : {s : List Term} → TermsFirst K E P z s → z .terms ≤ length s
-  first-long F = let l = extends-length (F .extends) in let m = length-map (tablesFor K E P z .terms) readTerm in let n = terms-long in omega arith
+  pub first-long : {s : List Term} → TermsFirst Ws s → sizesOf Ws .terms ≤ length s
+  first-long F = let l = extends-length (F .extends) in let m = length-map (tablesFor Ws .terms) readTerm in let n = terms-long in omega arith
 
-  pub first-cells : (k e p : List ℕ) (f : Fill) → TermsFirst K E P z (termsIn k e p f) → z .terms ≤ f .cells
+  pub first-cells : (k e p : List ℕ) (f : Fill) → TermsFirst Ws (termsIn k e p f) → sizesOf Ws .terms ≤ f .cells
   first-cells k e p f F = let l = first-long F in let m = terms-length k e p f in omega arith
 
-  pub term-small : {s : List Term} {t : ℕ} → TermsFirst K E P z s → t < z .terms → Small s t
+  pub term-small : {s : List Term} {t : ℕ} → TermsFirst Ws s → t < sizesOf Ws .terms → Small s t
   term-small {s} {t} F h =
       let n = terms-long in
-      let m = length-map (tablesFor K E P z .terms) readTerm in
+      let m = length-map (tablesFor Ws .terms) readTerm in
       record {
         inside = let l = first-long F in omega arith;
         few = subst (λ (o : Option Term). length (children o) ≤ 16)
-            (sym (get-extends (map readTerm (tablesFor K E P z .terms)) s (F .extends) t (omega arith) ∙ get-read (tablesFor K E P z .terms) t (omega arith)))
-            (cell-few (getD (tablesFor K E P z .terms) t noCell) (fits R 0 (lit< tt) t h));
+            (sym (get-extends (map readTerm (tablesFor Ws .terms)) s (F .extends) t (omega arith) ∙ get-read (tablesFor Ws .terms) t (omega arith)))
+            (cell-few (getD (tablesFor Ws .terms) t noCell) (fits R 0 (lit< tt) t h));
       }
 
   -- what proof x claims
-  pub claim-inside : (x : ℕ) → x < z .proofs → claimAt (proofsFor K E P z) x .rhs < z .terms
+  pub claim-inside : (x : ℕ) → x < sizesOf Ws .proofs → claimAt (proofsFor Ws) x .rhs < sizesOf Ws .terms
   claim-inside x h =
-      let c : ClaimAt K E P z x (record { lhs = getD (proofCell K E P z x .words) 0 0; rhs = getD (proofCell K E P z x .words) 1 0 }) = claim-read R x h refl (λ k. refl) in
-      subst (λ (q : program.Proposition). q .rhs < z .terms) (c .is) (c .rhs)
+      let c : ClaimAt Ws x (record { lhs = getD (proofCell Ws x .words) 0 0; rhs = getD (proofCell Ws x .words) 1 0 }) = claim-read R x h refl (λ k. refl) in
+      subst (λ (q : program.Proposition). q .rhs < sizesOf Ws .terms) (c .is) (c .rhs)
 
-pub claim-of : {K E P : List ℕ} {z : Sizes} {n x : ℕ} {a : Proposition} → ClaimAt K E P z n a → n ≡ x → propositionOf a ≡ claimAt (proofsFor K E P z) x
-claim-of {K} {E} {P} {z} C e = C .is ∙ ap (claimAt (proofsFor K E P z)) e
+pub claim-of : {Ws : List ℕ} {n x : ℕ} {a : Proposition} → ClaimAt Ws n a → n ≡ x → propositionOf a ≡ claimAt (proofsFor Ws) x
+claim-of {Ws} C e = C .is ∙ ap (claimAt (proofsFor Ws)) e
 
 -- a proof that proof p refers to
-pub reference-inside : {K E P : List ℕ} {z : Sizes} {p : ℕ} {j g : Justification} {x n : ℕ} → JustificationAt K E P z p j → p < z .proofs → j ≡ g
-    → List·Memᴰ x (references (justificationOf g (premisesFor K E P z p) (pairsFor K E P z p))) → n ≡ x → n < z .proofs
-reference-inside {K} {E} {P} {z} {p} {j} {g} {x} J h e m q =
-    let l = J .lower x (subst (λ (y : program.Justification). List·Memᴰ x (references y)) (ap (λ (y : Justification). justificationOf y (premisesFor K E P z p) (pairsFor K E P z p)) (sym e) ∙ J .is) m) in
+pub reference-inside : {Ws : List ℕ} {p : ℕ} {j g : Justification} {x n : ℕ} → JustificationAt Ws p j → p < sizesOf Ws .proofs → j ≡ g
+    → List·Memᴰ x (references (justificationOf g (premisesFor Ws p) (pairsFor Ws p))) → n ≡ x → n < sizesOf Ws .proofs
+reference-inside {Ws} {p} {j} {g} {x} J h e m q =
+    let l = J .lower x (subst (λ (y : program.Justification). List·Memᴰ x (references y)) (ap (λ (y : Justification). justificationOf y (premisesFor Ws p) (pairsFor Ws p)) (sym e) ∙ J .is) m) in
     omega arith
 
 -- the second part of the scratch

@@ -16,7 +16,6 @@ use Rattle.decode.specs.declared.Justification.{Justification}
 use Rattle.decode.proofs.Justification.{the-type}
 use Rattle.outcome.specs.Does.{refusal, outcomeOf}
 use Rattle.outcome.specs.declared.Refusal.{Refusal}
-use Rattle.load.specs.declared.sizes.Sizes.{Sizes}
 use Rattle.program.specs.Ready.{programFor}
 use Rattle.program.specs.Read.{proofsFor, premisesFor, pairsFor}
 use Rattle.context.specs.Contexts.{GlobalPairs}
@@ -24,38 +23,38 @@ use Rattle.steps.specs.Concluding.{transStep, symStep, fiatStep, normali
 use Rattle.steps.specs.Step.{isPlain, PlainStep}
 
 -- steps that add no term
-module _ (K E P : List ℕ) (z : Sizes) (U m : List ℕ) (s : List Term) (p : ℕ) (q : program.Proposition) (j : Justification) (r : Refusal) where
+module _ (J : List ℕ) (U m : List ℕ) (s : List Term) (p : ℕ) (q : program.Proposition) (j : Justification) (r : Refusal) where
   abbrev prog : Program
-  prog = programFor K E P z
+  prog = programFor J
 
   abbrev proofs : List program.Proof
-  proofs = proofsFor K E P z
+  proofs = proofsFor J
 
   abbrev just : Justification → program.Justification
-  just g = justificationOf g (premisesFor K E P z p) (pairsFor K E P z p)
+  just g = justificationOf g (premisesFor J p) (pairsFor J p)
 
-  by : (g : Justification) → j ≡ g → ((room : Room) (ps : List program.Proposition) → GlobalPairs ps U m → outcomeOf r tt s ≡ concludes room prog proofs ps p q (just g) s) → PlainStep K E P z U m s p q j r
+  by : (g : Justification) → j ≡ g → ((room : Room) (ps : List program.Proposition) → GlobalPairs ps U m → outcomeOf r tt s ≡ concludes room prog proofs ps p q (just g) s) → PlainStep J U m s p q j r
   by g e h = record { outcome = λ room ps w _. h room ps w ∙ ap (λ (x : Justification). concludes room prog proofs ps p q (just x) s) (sym e) }
 
-  pub step-fiat : j ≡ Justification.Fiat → ((ps : List program.Proposition) → GlobalPairs ps U m → outcomeOf r tt s ≡ fiatStep ps p q s) → PlainStep K E P z U m s p q j r
+  pub step-fiat : j ≡ Justification.Fiat → ((ps : List program.Proposition) → GlobalPairs ps U m → outcomeOf r tt s ≡ fiatStep ps p q s) → PlainStep J U m s p q j r
   unfolding concludes
   step-fiat e h = by Justification.Fiat e (λ room ps w. h ps w)
 
   pub step-trans : {x y : ℕ} (a b : program.Proposition) → j ≡ Justification.Trans x y → a ≡ claimAt proofs x → b ≡ claimAt proofs y
-      → ((u : List Term) → outcomeOf r tt u ≡ transStep p q a b u) → PlainStep K E P z U m s p q j r
+      → ((u : List Term) → outcomeOf r tt u ≡ transStep p q a b u) → PlainStep J U m s p q j r
   unfolding concludes
   step-trans {x} {y} a b e g k h = by (Justification.Trans x y) e (λ room ps w. h s ∙ ap₂ (λ (c d : program.Proposition). transStep p q c d s) g k)
 
-  pub step-sym : {x : ℕ} (a : program.Proposition) → j ≡ Justification.Sym x → a ≡ claimAt proofs x → ((u : List Term) → outcomeOf r tt u ≡ symStep p q a u) → PlainStep K E P z U m s p q j r
+  pub step-sym : {x : ℕ} (a : program.Proposition) → j ≡ Justification.Sym x → a ≡ claimAt proofs x → ((u : List Term) → outcomeOf r tt u ≡ symStep p q a u) → PlainStep J U m s p q j r
   unfolding concludes
   step-sym {x} a e g h = by (Justification.Sym x) e (λ room ps w. h s ∙ ap (λ (c : program.Proposition). symStep p q c s) g)
 
-  pub step-normalize : {x : ℕ} (a : program.Proposition) → j ≡ Justification.ContainerNormalize x → a ≡ claimAt proofs x → outcomeOf r tt s ≡ normalizeStep prog p q a s → PlainStep K E P z U m s p q j r
+  pub step-normalize : {x : ℕ} (a : program.Proposition) → j ≡ Justification.ContainerNormalize x → a ≡ claimAt proofs x → outcomeOf r tt s ≡ normalizeStep prog p q a s → PlainStep J U m s p q j r
   unfolding concludes
   step-normalize {x} a e g h = by (Justification.ContainerNormalize x) e (λ room ps w. h ∙ ap (λ (c : program.Proposition). normalizeStep prog p q c s) g)
 
   -- the other arm: a rule's step or `Eval`, or a step that adds a term
-  pub step-none : OneOf (1 ∷ 2 ∷ 5 ∷ 7 ∷ []) (tagOf the-type j) → r ≡ refusal 41 1 (p ∷ 0 ∷ 0 ∷ 0 ∷ 0 ∷ 0 ∷ []) → PlainStep K E P z U m s p q j r
+  pub step-none : OneOf (1 ∷ 2 ∷ 5 ∷ 7 ∷ []) (tagOf the-type j) → r ≡ refusal 41 1 (p ∷ 0 ∷ 0 ∷ 0 ∷ 0 ∷ 0 ∷ []) → PlainStep J U m s p q j r
   unfolding concludes
   step-none h e = record { outcome = λ room ps w t. ap (λ (x : Refusal). outcomeOf x tt s) e ∙ go j h t room ps }
     where

@@ -5,7 +5,6 @@ use context::is_global_pair;
 use decode::Justification;
 use decode::Proposition;
 use decode::Term;
-use load::sizes::Sizes;
 use merges::app_head;
 use merges::check_that;
 use merges::merge_step;
@@ -23,6 +22,7 @@ ghost use mathlib.Core.List.{List};
 ghost use mathlib.Core.Bool.{cond};
 ghost use Prim.Native.Nat.{_≤_, _<_};
 ghost use lib.ListN.{length};
+ghost use Rattle.model.specs.Layout.{sizesOf};
 ghost use Rattle.model.specs.Term as terms;
 ghost use Rattle.model.specs.Program as program;
 ghost use Rattle.model.specs.Walk.{claimAt, isLiteral};
@@ -130,10 +130,7 @@ fn flag(test: bool) -> u32
 
 // `ContainerNormalize`: the right side of a has the normal form that is claimed.
 fn normalize_step(
-    kinds: &[u32],
-    ends: &[u32],
-    pool: &[u32],
-    z: Sizes,
+    job: &[u32],
     skinds: &[u32],
     sends: &[u32],
     spool: &[u32],
@@ -142,12 +139,12 @@ fn normalize_step(
     q: Proposition,
     a: Proposition,
 ) -> Refusal
-    requires { ⌜ Ready (now kinds) (now ends) (now pool) z ⌝ }
+    requires { ⌜ Ready (now job) ⌝ }
     requires { ⌜ Stored (now skinds) (now sends) (now spool) fill ⌝ }
     requires { ⌜ a .rhs < fill .cells ⌝ }
-    ensures { λ r. ⌜ outcomeOf r tt (termsIn (now (skinds .entry)) (now (sends .entry)) (now (spool .entry)) fill) ≡ normalizeStep (programFor (now (kinds .entry)) (now (ends .entry)) (now (pool .entry)) z) p (propositionOf q) (propositionOf a) (termsIn (now (skinds .entry)) (now (sends .entry)) (now (spool .entry)) fill) ⌝ }
+    ensures { λ r. ⌜ outcomeOf r tt (termsIn (now (skinds .entry)) (now (sends .entry)) (now (spool .entry)) fill) ≡ normalizeStep (programFor (now (job .entry))) p (propositionOf q) (propositionOf a) (termsIn (now (skinds .entry)) (now (sends .entry)) (now (spool .entry)) fill) ⌝ }
 {
-    let n = normalize_container(kinds, ends, pool, z, skinds, sends, spool, fill, a.rhs);
+    let n = normalize_container(job, skinds, sends, spool, fill, a.rhs);
     let same = q.lhs == a.lhs;
     check_that(
         same & (q.rhs == n),
@@ -255,10 +252,7 @@ fn congr_step(
 
 // What the step of proof p concludes that adds no term; one of another kind is refused.
 fn plain_step(
-    kinds: &[u32],
-    ends: &[u32],
-    pool: &[u32],
-    z: Sizes,
+    job: &[u32],
     unions: &[u32],
     gmarks: &[u32],
     skinds: &[u32],
@@ -269,28 +263,28 @@ fn plain_step(
     q: Proposition,
     j: Justification,
 ) -> Refusal
-    requires { ⌜ Ready (now kinds) (now ends) (now pool) z ⌝ }
+    requires { ⌜ Ready (now job) ⌝ }
     requires { ⌜ Stored (now skinds) (now sends) (now spool) fill ⌝ }
-    requires { ⌜ z .terms ≤ fill .cells ⌝ }
-    requires { ⌜ p < z .proofs ⌝ }
-    requires { ⌜ ClaimAt (now kinds) (now ends) (now pool) z p q ⌝ }
-    requires { ⌜ JustificationAt (now kinds) (now ends) (now pool) z p j ⌝ }
-    ensures { λ r. ⌜ PlainStep (now (kinds .entry)) (now (ends .entry)) (now (pool .entry)) z (now (unions .entry)) (now (gmarks .entry)) (termsIn (now (skinds .entry)) (now (sends .entry)) (now (spool .entry)) fill) p (propositionOf q) j r ⌝ }
+    requires { ⌜ sizesOf (now job) .terms ≤ fill .cells ⌝ }
+    requires { ⌜ p < sizesOf (now job) .proofs ⌝ }
+    requires { ⌜ ClaimAt (now job) p q ⌝ }
+    requires { ⌜ JustificationAt (now job) p j ⌝ }
+    ensures { λ r. ⌜ PlainStep (now (job .entry)) (now (unions .entry)) (now (gmarks .entry)) (termsIn (now (skinds .entry)) (now (sends .entry)) (now (spool .entry)) fill) p (propositionOf q) j r ⌝ }
 {
     match j {
         Justification::Fiat => fiat_step(skinds, sends, spool, fill, unions, gmarks, p, q),
         Justification::Trans(x, y) => {
-            let a = claim_at(kinds, ends, pool, z, wide(x));
-            let b = claim_at(kinds, ends, pool, z, wide(y));
+            let a = claim_at(job, wide(x));
+            let b = claim_at(job, wide(y));
             trans_step(p, q, a, b)
         }
         Justification::Sym(x) => {
-            let a = claim_at(kinds, ends, pool, z, wide(x));
+            let a = claim_at(job, wide(x));
             sym_step(p, q, a)
         }
         Justification::ContainerNormalize(x) => {
-            let a = claim_at(kinds, ends, pool, z, wide(x));
-            normalize_step(kinds, ends, pool, z, skinds, sends, spool, fill, p, q, a)
+            let a = claim_at(job, wide(x));
+            normalize_step(job, skinds, sends, spool, fill, p, q, a)
         }
         _ => Refusal {
             number: 41,
@@ -302,10 +296,7 @@ fn plain_step(
 
 // `Congr`, with the claims of proofs x and y.
 fn congr_at(
-    kinds: &[u32],
-    ends: &[u32],
-    pool: &[u32],
-    z: Sizes,
+    job: &[u32],
     skinds: &mut [u32],
     sends: &mut [u32],
     spool: &mut [u32],
@@ -316,24 +307,21 @@ fn congr_at(
     i: u32,
     y: u32,
 ) -> Checked
-    requires { ⌜ Ready (now kinds) (now ends) (now pool) z ⌝ }
+    requires { ⌜ Ready (now job) ⌝ }
     requires { ⌜ Stored (now skinds) (now sends) (now spool) fill ⌝ }
-    requires { ⌜ TermsFirst (now kinds) (now ends) (now pool) z (termsIn (now skinds) (now sends) (now spool) fill) ⌝ }
-    requires { ⌜ x < z .proofs ⌝ }
-    requires { ⌜ y < z .proofs ⌝ }
-    ensures { λ r. ⌜ Does (now (skinds .entry)) (now (sends .entry)) (now (spool .entry)) fill (now (skinds .exit)) (now (sends .exit)) (now (spool .exit)) (r .fill) (r .refusal) tt (congrStep (roomOf (now (skinds .entry)) (now (spool .entry))) p (propositionOf q) (claimAt (proofsFor (now (kinds .entry)) (now (ends .entry)) (now (pool .entry)) z) x) i (claimAt (proofsFor (now (kinds .entry)) (now (ends .entry)) (now (pool .entry)) z) y) (termsIn (now (skinds .entry)) (now (sends .entry)) (now (spool .entry)) fill)) ⌝ }
+    requires { ⌜ TermsFirst (now job) (termsIn (now skinds) (now sends) (now spool) fill) ⌝ }
+    requires { ⌜ x < sizesOf (now job) .proofs ⌝ }
+    requires { ⌜ y < sizesOf (now job) .proofs ⌝ }
+    ensures { λ r. ⌜ Does (now (skinds .entry)) (now (sends .entry)) (now (spool .entry)) fill (now (skinds .exit)) (now (sends .exit)) (now (spool .exit)) (r .fill) (r .refusal) tt (congrStep (roomOf (now (skinds .entry)) (now (spool .entry))) p (propositionOf q) (claimAt (proofsFor (now (job .entry))) x) i (claimAt (proofsFor (now (job .entry))) y) (termsIn (now (skinds .entry)) (now (sends .entry)) (now (spool .entry)) fill)) ⌝ }
 {
-    let a = claim_at(kinds, ends, pool, z, wide(x));
-    let b = claim_at(kinds, ends, pool, z, wide(y));
+    let a = claim_at(job, wide(x));
+    let b = claim_at(job, wide(y));
     congr_step(skinds, sends, spool, fill, p, q, a, i, b)
 }
 
 // `MergeFn`, with the claims of proofs x and y, and marks in the second part of the scratch.
 fn merge_at(
-    kinds: &[u32],
-    ends: &[u32],
-    pool: &[u32],
-    z: Sizes,
+    job: &[u32],
     skinds: &mut [u32],
     sends: &mut [u32],
     spool: &mut [u32],
@@ -346,21 +334,18 @@ fn merge_at(
     x: u32,
     y: u32,
 ) -> Checked
-    requires { ⌜ Prepared (now kinds) (now ends) (now pool) z (now skinds) (now sends) (now spool) fill (now memo) (now scratch) ⌝ }
-    requires { ⌜ x < z .proofs ⌝ }
-    requires { ⌜ y < z .proofs ⌝ }
-    ensures { λ r. ⌜ Checks (now (skinds .entry)) (now (sends .entry)) (now (spool .entry)) fill (now (skinds .exit)) (now (sends .exit)) (now (spool .exit)) (r .fill) (r .refusal) tt (now (memo .exit)) (mergeStep (roomOf (now (skinds .entry)) (now (spool .entry))) (programFor (now (kinds .entry)) (now (ends .entry)) (now (pool .entry)) z) p (propositionOf q) function (claimAt (proofsFor (now (kinds .entry)) (now (ends .entry)) (now (pool .entry)) z) x) (claimAt (proofsFor (now (kinds .entry)) (now (ends .entry)) (now (pool .entry)) z) y) (termsIn (now (skinds .entry)) (now (sends .entry)) (now (spool .entry)) fill)) ⌝ }
+    requires { ⌜ Prepared (now job) (now skinds) (now sends) (now spool) fill (now memo) (now scratch) ⌝ }
+    requires { ⌜ x < sizesOf (now job) .proofs ⌝ }
+    requires { ⌜ y < sizesOf (now job) .proofs ⌝ }
+    ensures { λ r. ⌜ Checks (now (skinds .entry)) (now (sends .entry)) (now (spool .entry)) fill (now (skinds .exit)) (now (sends .exit)) (now (spool .exit)) (r .fill) (r .refusal) tt (now (memo .exit)) (mergeStep (roomOf (now (skinds .entry)) (now (spool .entry))) (programFor (now (job .entry))) p (propositionOf q) function (claimAt (proofsFor (now (job .entry))) x) (claimAt (proofsFor (now (job .entry))) y) (termsIn (now (skinds .entry)) (now (sends .entry)) (now (spool .entry)) fill)) ⌝ }
     ensures { λ r. ⌜ SecondPart (length (now (skinds .entry))) (now (scratch .entry)) (now (scratch .exit)) ⌝ }
 {
-    let a = claim_at(kinds, ends, pool, z, wide(x));
-    let b = claim_at(kinds, ends, pool, z, wide(y));
+    let a = claim_at(job, wide(x));
+    let b = claim_at(job, wide(y));
     let c = skinds.len();
     let d = c + c;
     merge_step(
-        kinds,
-        ends,
-        pool,
-        z,
+        job,
         skinds,
         sends,
         spool,
@@ -377,10 +362,7 @@ fn merge_at(
 
 // What the step of proof p concludes, once the proofs that it refers to are checked. A rule's step is checked elsewhere; here it is refused.
 pub fn conclude(
-    kinds: &[u32],
-    ends: &[u32],
-    pool: &[u32],
-    z: Sizes,
+    job: &[u32],
     unions: &[u32],
     skinds: &mut [u32],
     sends: &mut [u32],
@@ -390,19 +372,16 @@ pub fn conclude(
     scratch: &mut [u32],
     p: u32,
 ) -> Checked
-    requires { ⌜ Prepared (now kinds) (now ends) (now pool) z (now skinds) (now sends) (now spool) fill (now memo) (now scratch) ⌝ }
-    requires { ⌜ p < z .proofs ⌝ }
-    ensures { λ r. ⌜ Concludes (now (kinds .entry)) (now (ends .entry)) (now (pool .entry)) z (now (unions .entry)) (now (skinds .entry)) (now (sends .entry)) (now (spool .entry)) fill (now (scratch .entry)) p (now (skinds .exit)) (now (sends .exit)) (now (spool .exit)) r (now (memo .exit)) (now (scratch .exit)) ⌝ }
+    requires { ⌜ Prepared (now job) (now skinds) (now sends) (now spool) fill (now memo) (now scratch) ⌝ }
+    requires { ⌜ p < sizesOf (now job) .proofs ⌝ }
+    ensures { λ r. ⌜ Concludes (now (job .entry)) (now (unions .entry)) (now (skinds .entry)) (now (sends .entry)) (now (spool .entry)) fill (now (scratch .entry)) p (now (skinds .exit)) (now (sends .exit)) (now (spool .exit)) r (now (memo .exit)) (now (scratch .exit)) ⌝ }
 {
     let n = wide(p);
-    let q = claim_at(kinds, ends, pool, z, n);
-    let j = justification_at(kinds, ends, pool, z, n);
+    let q = claim_at(job, n);
+    let j = justification_at(job, n);
     match j {
         Justification::MergeFn(s) => merge_at(
-            kinds,
-            ends,
-            pool,
-            z,
+            job,
             skinds,
             sends,
             spool,
@@ -416,10 +395,7 @@ pub fn conclude(
             s.new_proof,
         ),
         Justification::Congr(s) => congr_at(
-            kinds,
-            ends,
-            pool,
-            z,
+            job,
             skinds,
             sends,
             spool,
@@ -433,10 +409,7 @@ pub fn conclude(
         _ => {
             let c = skinds.len();
             let refusal = plain_step(
-                kinds,
-                ends,
-                pool,
-                z,
+                job,
                 unions,
                 &scratch[..c],
                 skinds,

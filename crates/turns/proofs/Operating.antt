@@ -13,22 +13,21 @@ use Rattle.model.specs.Walk.{noProof}
 use Rattle.decode.specs.View.{justificationOf}
 use Rattle.decode.specs.declared.Justification.{Justification}
 use Rattle.decode.specs.declared.RuleStep.{RuleStep}
-use Rattle.load.specs.declared.sizes.Sizes.{Sizes}
 use Rattle.program.specs.Read.{proofsFor, proofCell, premisesFor, pairsFor, JustificationAt}
 use Rattle.evaluate.proofs.Turns.{member-at}
 use Rattle.steps.specs.Concluding.{isRule}
 use Rattle.turns.specs.declared.Needs.{Needs}
 use Rattle.turns.specs.Walking.{Operates}
 
-module _ {K E P : List ℕ} {z : Sizes} {n p : ℕ} {j x : Justification} (J : JustificationAt K E P z n j) (np : n ≡ p) (jx : j ≡ x) where
+module _ {job : List ℕ} {n p : ℕ} {j x : Justification} (J : JustificationAt job n j) (np : n ≡ p) (jx : j ≡ x) where
   abbrev found : program.Justification
-  found = justificationOf x (premisesFor K E P z p) (pairsFor K E P z p)
+  found = justificationOf x (premisesFor job p) (pairsFor job p)
 
-  is-found : found ≡ getD (proofsFor K E P z) p noProof .justification
-  is-found = (λ i. justificationOf (sym jx i) (premisesFor K E P z (sym np i)) (pairsFor K E P z (sym np i))) ∙ J .is ∙ ap (λ (m : ℕ). getD (proofsFor K E P z) m noProof .justification) np
+  is-found : found ≡ getD (proofsFor job) p noProof .justification
+  is-found = (λ i. justificationOf (sym jx i) (premisesFor job (sym np i)) (pairsFor job (sym np i))) ∙ J .is ∙ ap (λ (m : ℕ). getD (proofsFor job) m noProof .justification) np
 
   -- a step that is no rule's
-  pub operates-other : (r : Needs) → r .rule ≡ false → isRule found ≡ false → take (r .count) (r .first ∷ r .second ∷ []) ≡ references found → r .count ≤ 2 → Operates K E P z p r
+  pub operates-other : (r : Needs) → r .rule ≡ false → isRule found ≡ false → take (r .count) (r .first ∷ r .second ∷ []) ≡ references found → r .count ≤ 2 → Operates job p r
   operates-other r e o t few = record {
     rule = λ u. absurd (true≢false (sym u ∙ e));
     other = λ _. (ap isRule (sym is-found) ∙ o, t ∙ ap references is-found);
@@ -37,17 +36,17 @@ module _ {K E P : List ℕ} {z : Sizes} {n p : ℕ} {j x : Justification} (J : J
         let two : List ℕ = r .first ∷ r .second ∷ [] in
         let l : length (take (r .count) two) ≡ r .count = simp length-take (omega arith) in
         let m : List·Memᴰ (getD (take (r .count) two) i 0) (take (r .count) two) = member-at (take (r .count) two) i (omega arith) in
-        let k = J .lower (getD (take (r .count) two) i 0) (subst (List·Memᴰ (getD (take (r .count) two) i 0)) (t ∙ ap references is-found ∙ ap (λ (q : ℕ). references (getD (proofsFor K E P z) q noProof .justification)) (sym np)) m) in
+        let k = J .lower (getD (take (r .count) two) i 0) (subst (List·Memᴰ (getD (take (r .count) two) i 0)) (t ∙ ap references is-found ∙ ap (λ (q : ℕ). references (getD (proofsFor job) q noProof .justification)) (sym np)) m) in
         let g : getD (take (r .count) two) i 0 ≡ getD two i 0 = getD-take (r .count) two i 0 h in
         omega arith;
   }
 
-pub operates-rule : {K E P : List ℕ} {z : Sizes} {n p : ℕ} {j : Justification} {s : RuleStep} → JustificationAt K E P z n j → n ≡ p → j ≡ Justification.Rule s
-    → (r : Needs) → r .rule ≡ true → r .name ≡ s .name → r .count ≡ 0 → Operates K E P z p r
-operates-rule {K} {E} {P} {z} {n} {p} {j} {s} J np js r e q o = record {
+pub operates-rule : {job : List ℕ} {n p : ℕ} {j : Justification} {s : RuleStep} → JustificationAt job n j → n ≡ p → j ≡ Justification.Rule s
+    → (r : Needs) → r .rule ≡ true → r .name ≡ s .name → r .count ≡ 0 → Operates job p r
+operates-rule {job} {n} {p} {j} {s} J np js r e q o = record {
   rule = λ _. (
-    ap (λ (m : ℕ). proofCell K E P z m .kind) (sym np) ∙ J .isRule s js,
-    sym (is-found J np js) ∙ ap (λ (m : ℕ). rule m (premisesFor K E P z p) (readBindings (pairsFor K E P z p))) (sym q),
+    ap (λ (m : ℕ). proofCell job m .kind) (sym np) ∙ J .isRule s js,
+    sym (is-found J np js) ∙ ap (λ (m : ℕ). rule m (premisesFor job p) (readBindings (pairsFor job p))) (sym q),
   );
   other = λ u. absurd (true≢false (sym e ∙ u));
   few = omega arith;

@@ -10,6 +10,7 @@ use lib.Dec.{eqb}
 use lib.Seq.{getD-take}
 use lib.ListN.{length, getD, take, length-map, length-take}
 use borrow.Author.Tests.{eq-eqb, ne-eqb}
+use Rattle.model.specs.Layout.{sizesOf}
 use Rattle.model.specs.Term.{Term}
 use Rattle.model.specs.Program.{Proposition, Binding, Program, Fact, Rule, Proof, rule}
 use Rattle.model.specs.Decode.{readBindings}
@@ -19,7 +20,6 @@ use Rattle.model.specs.Walk.{noProof, claimAt, ruleOf, checkRule, checkJustific
 use Rattle.outcome.specs.Does.{passed, refusal, outcomeOf}
 use Rattle.outcome.specs.declared.Refusal.{Refusal}
 use Rattle.outcome.proofs.Laws.{ok-of, refused-of}
-use Rattle.load.specs.declared.sizes.Sizes.{Sizes}
 use Rattle.cells.specs.declared.Found.{Found}
 use Rattle.program.specs.Ready.{programFor, ruleFor, ruleAt, FindsRule}
 use Rattle.program.specs.Read.{proofsFor, premisesFor, pairsFor}
@@ -77,22 +77,22 @@ module _ (room : Room) (prog : Program) (proofs : List Proof) (name : ℕ) (f : 
   before-condition r h n c = before-by (sym (h s) ∙ ok-of r tt s n) c
 
 -- a rule's step
-module _ {K E P : List ℕ} {z : Sizes} {p name : ℕ} (R : RuleStep K E P z p name) where
+module _ {J : List ℕ} {p name : ℕ} (R : RuleStep J p name) where
   abbrev prog : Program
-  prog = programFor K E P z
+  prog = programFor J
 
   abbrev proofs : List Proof
-  proofs = proofsFor K E P z
+  proofs = proofsFor J
 
   abbrev premises : List ℕ
-  premises = premisesFor K E P z p
+  premises = premisesFor J p
 
   module _ (room : Room) (G : List ℕ) (ps : List Proposition) (sub : ℕ → List ℕ → Check (List ℕ)) (done : List ℕ) (s : List Term) where
     abbrev found : Option Rule → Check (List ℕ)
     found o =
         orRefuse o 32 (name ∷ []) >>= λ r.
         checkThat (eqb (length (r .facts)) (length premises)) 27 (p ∷ name ∷ length (r .facts) ∷ length premises ∷ []) >>= λ _.
-        checkBody room prog proofs (contextOf G ps) sub name r premises (readBindings (pairsFor K E P z p) ++ readBindings G) (claimAt proofs p) done
+        checkBody room prog proofs (contextOf G ps) sub name r premises (readBindings (pairsFor J p) ++ readBindings G) (claimAt proofs p) done
 
     is-rule : found (ruleOf (prog .rules) name) s ≡ checkJustification room prog proofs (contextOf G ps) sub p (claimAt proofs p) (getD proofs p noProof .justification) done s
     unfolding checkRule checkBody
@@ -105,11 +105,11 @@ module _ {K E P : List ℕ} {z : Sizes} {p name : ℕ} (R : RuleStep K E P z p n
 
     module _ (r : Rule) (h : some r ≡ ruleOf (prog .rules) name) where
       by-count : (b : Bool) → eqb (length (r .facts)) (length premises) ≡ b
-          → andThen (checkThat b 27 (p ∷ name ∷ length (r .facts) ∷ length premises ∷ []) s) (λ _. checkBody room prog proofs (contextOf G ps) sub name r premises (readBindings (pairsFor K E P z p) ++ readBindings G) (claimAt proofs p) done)
+          → andThen (checkThat b 27 (p ∷ name ∷ length (r .facts) ∷ length premises ∷ []) s) (λ _. checkBody room prog proofs (contextOf G ps) sub name r premises (readBindings (pairsFor J p) ++ readBindings G) (claimAt proofs p) done)
           ≡ checkJustification room prog proofs (contextOf G ps) sub p (claimAt proofs p) (getD proofs p noProof .justification) done s
       unfolding orRefuse
       by-count b e =
-          ap (λ (x : Bool). andThen (checkThat x 27 (p ∷ name ∷ length (r .facts) ∷ length premises ∷ []) s) (λ _. checkBody room prog proofs (contextOf G ps) sub name r premises (readBindings (pairsFor K E P z p) ++ readBindings G) (claimAt proofs p) done)) (sym e)
+          ap (λ (x : Bool). andThen (checkThat x 27 (p ∷ name ∷ length (r .facts) ∷ length premises ∷ []) s) (λ _. checkBody room prog proofs (contextOf G ps) sub name r premises (readBindings (pairsFor J p) ++ readBindings G) (claimAt proofs p) done)) (sym e)
           ∙ ap (λ (o : Option Rule). found o s) h ∙ is-rule
 
       pub rule-uneven : {n m : ℕ} → n ≡ length (r .facts) → m ≡ length premises → (n ≡ m → ⊥) → refused (record { number = 27; fields = p ∷ name ∷ n ∷ m ∷ [] }) s
@@ -118,27 +118,27 @@ module _ {K E P : List ℕ} {z : Sizes} {p name : ℕ} (R : RuleStep K E P z p n
       rule-uneven a b ne = (λ i. refused (record { number = 27; fields = p ∷ name ∷ a i ∷ b i ∷ [] }) s) ∙ by-count false (ne-eqb _ _ (λ u. ne (a ∙ u ∙ sym b)))
 
       pub rule-even : length (r .facts) ≡ length premises
-          → (takeTurns room prog proofs name sub (factTurns (r .facts) premises) (readBindings (pairsFor K E P z p) ++ readBindings G, done)
+          → (takeTurns room prog proofs name sub (factTurns (r .facts) premises) (readBindings (pairsFor J p) ++ readBindings G, done)
           >>= finishStep room prog proofs ps p (claimAt proofs p) (getD proofs p noProof .justification) (some r)) s
           ≡ checkJustification room prog proofs (contextOf G ps) sub p (claimAt proofs p) (getD proofs p noProof .justification) done s
       unfolding checkThat
-      rule-even l = rule-by-turns room prog proofs (contextOf G ps) sub name r premises p (claimAt proofs p) (getD proofs p noProof .justification) l (readBindings (pairsFor K E P z p) ++ readBindings G) done s ∙ by-count true (eq-eqb _ _ l)
+      rule-even l = rule-by-turns room prog proofs (contextOf G ps) sub name r premises p (claimAt proofs p) (getD proofs p noProof .justification) l (readBindings (pairsFor J p) ++ readBindings G) done s ∙ by-count true (eq-eqb _ _ l)
 
-  pub plans-rule : {r : ℕ} → r < z .rules → some (ruleFor K E P z r) ≡ ruleOf (prog .rules) name → length (ruleFor K E P z r .facts) ≡ length premises
-      → {n : ℕ} → n ≡ length premises → n ≤ 16 → ((i : ℕ) → i < length premises → getD premises i 0 < p) → Planned K E P z p true r name 0 n
+  pub plans-rule : {r : ℕ} → r < sizesOf J .rules → some (ruleFor J r) ≡ ruleOf (prog .rules) name → length (ruleFor J r .facts) ≡ length premises
+      → {n : ℕ} → n ≡ length premises → n ≤ 16 → ((i : ℕ) → i < length premises → getD premises i 0 < p) → Planned J p true r name 0 n
   plans-rule {r} h f l {n} e few lower = record {
-    long = turns-long (ruleFor K E P z r .facts) premises l ∙ sym e;
+    long = turns-long (ruleFor J r .facts) premises l ∙ sym e;
     few = few;
-    lower = λ i k. let t = turns-long (ruleFor K E P z r .facts) premises l in let q = turn-proof (ruleFor K E P z r .facts) premises i (omega arith) in let y = lower i (omega arith) in omega arith;
+    lower = λ i k. let t = turns-long (ruleFor J r .facts) premises l in let q = turn-proof (ruleFor J r .facts) premises i (omega arith) in let y = lower i (omega arith) in omega arith;
     kind = λ _. R .kind;
     inside = λ _. h;
     plain = λ u. absurd (true≢false u);
-    step = λ room G ps sub done s. rule-even room G ps sub done s (ruleFor K E P z r) f l;
+    step = λ room G ps sub done s. rule-even room G ps sub done s (ruleFor J r) f l;
   }
 
 -- another step
-pub plans-plain : {K E P : List ℕ} {z : Sizes} {p : ℕ} (o : Needs) → Operates K E P z p o → o .rule ≡ false → Planned K E P z p false 0 (o .first) (o .second) (o .count)
-plans-plain {K} {E} {P} {z} {p} o O e =
+pub plans-plain : {J : List ℕ} {p : ℕ} (o : Needs) → Operates J p o → o .rule ≡ false → Planned J p false 0 (o .first) (o .second) (o .count)
+plans-plain {J} {p} o O e =
     let two : List ℕ = o .first ∷ o .second ∷ [] in
     let c = O .few in
     let l : length (take (o .count) two) ≡ o .count = simp length-take (omega arith) in record {
@@ -149,61 +149,61 @@ plans-plain {K} {E} {P} {z} {p} o O e =
       inside = λ u. absurd (true≢false (sym u));
       plain = λ _. c;
       step = λ room G ps sub done s.
-          ap (λ (xs : List ℕ). (takeTurns room (programFor K E P z) (proofsFor K E P z) (o .first) sub (map ofProof xs) (readBindings G, done)
-          >>= finishStep room (programFor K E P z) (proofsFor K E P z) ps p (claimAt (proofsFor K E P z) p) (getD (proofsFor K E P z) p noProof .justification) none) s) (O .other e .1)
-          ∙ step-by-turns room (programFor K E P z) (proofsFor K E P z) (contextOf G ps) sub (o .first) p (claimAt (proofsFor K E P z) p) (getD (proofsFor K E P z) p noProof .justification) (O .other e .0) (readBindings G) done s;
+          ap (λ (xs : List ℕ). (takeTurns room (programFor J) (proofsFor J) (o .first) sub (map ofProof xs) (readBindings G, done)
+          >>= finishStep room (programFor J) (proofsFor J) ps p (claimAt (proofsFor J) p) (getD (proofsFor J) p noProof .justification) none) s) (O .other e .1)
+          ∙ step-by-turns room (programFor J) (proofsFor J) (contextOf G ps) sub (o .first) p (claimAt (proofsFor J) p) (getD (proofsFor J) p noProof .justification) (O .other e .0) (readBindings G) done s;
     }
   where
     taken : (i : ℕ) → i < o .count → getD (take (o .count) (o .first ∷ o .second ∷ [])) i 0 ≡ getD (o .first ∷ o .second ∷ []) i 0
     taken i h = getD-take (o .count) (o .first ∷ o .second ∷ []) i 0 h
 
 -- the proof of a turn, as it is read
-module _ {K E P : List ℕ} {z : Sizes} {p : ℕ} {rule : Bool} {r first second count : ℕ} where
-  pub reference-inside : rule ≡ true → Planned K E P z p rule r first second count → {xs : List ℕ} → xs ≡ premisesFor K E P z p → count ≤ length xs
+module _ {J : List ℕ} {p : ℕ} {rule : Bool} {r first second count : ℕ} where
+  pub reference-inside : rule ≡ true → Planned J p rule r first second count → {xs : List ℕ} → xs ≡ premisesFor J p → count ≤ length xs
   reference-inside e S {xs} q =
-      let l = subst (λ (b : Bool). length (turnsBy K E P z p b r first second count) ≡ count) e (S .long) in
-      let m = turns-most (ruleFor K E P z r .facts) (premisesFor K E P z p) in
+      let l = subst (λ (b : Bool). length (turnsBy J p b r first second count) ≡ count) e (S .long) in
+      let m = turns-most (ruleFor J r .facts) (premisesFor J p) in
       let n = ap length q in omega arith
 
-  pub rule-reference : rule ≡ true → Planned K E P z p rule r first second count → {i : ℕ} → i < count → {xs : List ℕ} → xs ≡ premisesFor K E P z p
-      → getD xs i 0 ≡ proofOf (getD (turnsBy K E P z p rule r first second count) i noTurn)
+  pub rule-reference : rule ≡ true → Planned J p rule r first second count → {i : ℕ} → i < count → {xs : List ℕ} → xs ≡ premisesFor J p
+      → getD xs i 0 ≡ proofOf (getD (turnsBy J p rule r first second count) i noTurn)
   rule-reference e S {i} h q =
-      let l = subst (λ (b : Bool). length (turnsBy K E P z p b r first second count) ≡ count) e (S .long) in
-      ap (λ (l : List ℕ). getD l i 0) q ∙ sym (turn-proof (ruleFor K E P z r .facts) (premisesFor K E P z p) i (omega arith))
-      ∙ ap (λ (b : Bool). proofOf (getD (turnsBy K E P z p b r first second count) i noTurn)) (sym e)
+      let l = subst (λ (b : Bool). length (turnsBy J p b r first second count) ≡ count) e (S .long) in
+      ap (λ (l : List ℕ). getD l i 0) q ∙ sym (turn-proof (ruleFor J r .facts) (premisesFor J p) i (omega arith))
+      ∙ ap (λ (b : Bool). proofOf (getD (turnsBy J p b r first second count) i noTurn)) (sym e)
 
-  pub plain-reference : rule ≡ false → Planned K E P z p rule r first second count → {i : ℕ} → i < count
-      → getD (first ∷ second ∷ []) i 0 ≡ proofOf (getD (turnsBy K E P z p rule r first second count) i noTurn)
+  pub plain-reference : rule ≡ false → Planned J p rule r first second count → {i : ℕ} → i < count
+      → getD (first ∷ second ∷ []) i 0 ≡ proofOf (getD (turnsBy J p rule r first second count) i noTurn)
   plain-reference e S {i} h =
       let two : List ℕ = first ∷ second ∷ [] in
       let c = S .plain e in
       let l : length (take count two) ≡ count = simp length-take (omega arith) in
       sym (getD-take count two i 0 h) ∙ sym (proof-at (take count two) i (omega arith))
-      ∙ ap (λ (b : Bool). proofOf (getD (turnsBy K E P z p b r first second count) i noTurn)) (sym e)
+      ∙ ap (λ (b : Bool). proofOf (getD (turnsBy J p b r first second count) i noTurn)) (sym e)
 
 -- the plans of the code
 pub rule-none : {rs : List Rule} {n x : ℕ} {r : Found} → FindsRule rs n x r → r ≡ Found.Nothing → none ≡ ruleOf rs x
 rule-none {rs} F e = ap (ruleAt rs) (sym e) ∙ F .is
 
-pub rule-some : (K E P : List ℕ) (z : Sizes) {x i : ℕ} {r : Found} → FindsRule (programFor K E P z .rules) (z .rules) x r → r ≡ Found.At i → some (ruleFor K E P z i) ≡ ruleOf (programFor K E P z .rules) x
-rule-some K E P z F e = ap (ruleAt (programFor K E P z .rules)) (sym e) ∙ F .is
+pub rule-some : (J : List ℕ) {x i : ℕ} {r : Found} → FindsRule (programFor J .rules) (sizesOf J .rules) x r → r ≡ Found.At i → some (ruleFor J i) ≡ ruleOf (programFor J .rules) x
+rule-some J F e = ap (ruleAt (programFor J .rules)) (sym e) ∙ F .is
 
-module _ {K E P : List ℕ} {z : Sizes} {p name : ℕ} (R : RuleStep K E P z p name) where
-  pub unknown-plan : none ≡ ruleOf (programFor K E P z .rules) name
-      → Plans K E P z p (record { refusal = refusal 32 1 (name ∷ 0 ∷ 0 ∷ 0 ∷ 0 ∷ 0 ∷ []); rule = true; r = 0; count = 0; first = 0; second = 0 })
+module _ {J : List ℕ} {p name : ℕ} (R : RuleStep J p name) where
+  pub unknown-plan : none ≡ ruleOf (programFor J .rules) name
+      → Plans J p (record { refusal = refusal 32 1 (name ∷ 0 ∷ 0 ∷ 0 ∷ 0 ∷ 0 ∷ []); rule = true; r = 0; count = 0; first = 0; second = 0 })
   unknown-plan h = record { stops = λ _ room G ps sub done u. rule-unknown R room G ps sub done u h; goes = λ e. absurd (omega arith) }
 
-  module _ (i : ℕ) (h : some (ruleFor K E P z i) ≡ ruleOf (programFor K E P z .rules) name) {n m : ℕ} (a : n ≡ length (ruleFor K E P z i .facts)) (b : m ≡ length (premisesFor K E P z p)) where
-    pub uneven-plan : (n ≡ m → ⊥) → Plans K E P z p (record { refusal = refusal 27 4 (p ∷ name ∷ n ∷ m ∷ 0 ∷ 0 ∷ []); rule = true; r = 0; count = 0; first = 0; second = 0 })
-    uneven-plan ne = record { stops = λ _ room G ps sub done u. rule-uneven R room G ps sub done u (ruleFor K E P z i) h a b ne; goes = λ e. absurd (omega arith) }
+  module _ (i : ℕ) (h : some (ruleFor J i) ≡ ruleOf (programFor J .rules) name) {n m : ℕ} (a : n ≡ length (ruleFor J i .facts)) (b : m ≡ length (premisesFor J p)) where
+    pub uneven-plan : (n ≡ m → ⊥) → Plans J p (record { refusal = refusal 27 4 (p ∷ name ∷ n ∷ m ∷ 0 ∷ 0 ∷ []); rule = true; r = 0; count = 0; first = 0; second = 0 })
+    uneven-plan ne = record { stops = λ _ room G ps sub done u. rule-uneven R room G ps sub done u (ruleFor J i) h a b ne; goes = λ e. absurd (omega arith) }
 
-    pub even-plan : n ≡ m → i < z .rules → n ≤ 16 → ((j : ℕ) → j < length (premisesFor K E P z p) → getD (premisesFor K E P z p) j 0 < p)
-        → Plans K E P z p (record { refusal = passed; rule = true; r = i; count = n; first = name; second = 0 })
+    pub even-plan : n ≡ m → i < sizesOf J .rules → n ≤ 16 → ((j : ℕ) → j < length (premisesFor J p) → getD (premisesFor J p) j 0 < p)
+        → Plans J p (record { refusal = passed; rule = true; r = i; count = n; first = name; second = 0 })
     even-plan e l few lower = record { stops = λ u. absurd (u refl); goes = λ _. plans-rule R l h (sym a ∙ e ∙ b) (e ∙ b) few lower }
 
-pub plain-plans : {K E P : List ℕ} {z : Sizes} {p : ℕ} {o : Needs} {s : Plan} → Operates K E P z p o → o .rule ≡ false
-    → s ≡ record { refusal = passed; rule = false; r = 0; count = o .count; first = o .first; second = o .second } → Plans K E P z p s
-plain-plans {K} {E} {P} {z} {p} {o} O e q = subst (Plans K E P z p) (sym q) (record { stops = λ u. absurd (u refl); goes = λ _. plans-plain o O e })
+pub plain-plans : {J : List ℕ} {p : ℕ} {o : Needs} {s : Plan} → Operates J p o → o .rule ≡ false
+    → s ≡ record { refusal = passed; rule = false; r = 0; count = o .count; first = o .first; second = o .second } → Plans J p s
+plain-plans {J} {p} {o} O e q = subst (Plans J p) (sym q) (record { stops = λ u. absurd (u refl); goes = λ _. plans-plain o O e })
 
 pub premise-lower : {p : ℕ} {xs ys : List ℕ} → xs ≡ ys → ((i : ℕ) → i < length xs → getD xs i 0 < p) → (i : ℕ) → i < length ys → getD ys i 0 < p
 premise-lower {p} e h = subst (λ (l : List ℕ). (i : ℕ) → i < length l → getD l i 0 < p) e h

@@ -8,6 +8,7 @@ use lib.Dec.{lit<}
 use lib.ListN.{length, getD, take, length-map}
 use lib.Seq.{getD-drop}
 use borrow.Rule.Slice.PartMut.{midOf, putMid, same-len-mid, take-put, drop-put, mid-len}
+use Rattle.model.specs.Layout.{sizesOf}
 use Rattle.model.specs.Cell.{noCell}
 use Rattle.model.specs.Term.{readTerm}
 use Rattle.model.specs.Program as program
@@ -21,9 +22,7 @@ use Rattle.decode.specs.declared.Proposition.{Proposition}
 use Rattle.termdag.specs.Store.{termsIn}
 use Rattle.outcome.specs.Does.{Grown}
 use Rattle.outcome.specs.declared.Checked.{Checked}
-use Rattle.load.specs.Held.{tablesFor}
-use Rattle.load.specs.declared.sizes.Sizes.{Sizes}
-use Rattle.program.specs.Ready.{programFor, ruleFor}
+use Rattle.program.specs.Ready.{tablesFor, programFor, ruleFor}
 use Rattle.program.specs.Read.{factFor}
 use Rattle.program.proofs.Laws.{table-long}
 use Rattle.program.proofs.Reading.{rule-for}
@@ -36,35 +35,35 @@ pub claim-by : (proofs : List Proof) {q : Proposition} {m p : ℕ} → propositi
 claim-by proofs e i = e ∙ ap (claimAt proofs) i
 
 -- how long a rule's facts are
-pub facts-long : (K E P : List ℕ) (z : Sizes) (r : ℕ) {xs : List ℕ} → xs ≡ ruleFacts (getD (tablesFor K E P z .rules) r noCell) → length xs ≡ length (ruleFor K E P z r .facts)
-facts-long K E P z r e = ap length e ∙ sym (length-map (ruleFacts (getD (tablesFor K E P z .rules) r noCell)) (factFor K E P z)) ∙ ap (λ (t : Rule). length (t .facts)) (sym (rule-for K E P z r))
+pub facts-long : (J : List ℕ) (r : ℕ) {xs : List ℕ} → xs ≡ ruleFacts (getD (tablesFor J .rules) r noCell) → length xs ≡ length (ruleFor J r .facts)
+facts-long J r e = ap length e ∙ sym (length-map (ruleFacts (getD (tablesFor J .rules) r noCell)) (factFor J)) ∙ ap (λ (t : Rule). length (t .facts)) (sym (rule-for J r))
 
 -- a step's growth
-pub conclude-grown : {K E P : List ℕ} {z : Sizes} {U k e p : List ℕ} {f : Fill} {W : List ℕ} {n : ℕ} {k₁ e₁ p₁ : List ℕ} {c : Checked} {memo₁ W₁ : List ℕ}
-    → Concludes K E P z U k e p f W n k₁ e₁ p₁ c memo₁ W₁ → Grown k e p f k₁ e₁ p₁ (c .fill)
+pub conclude-grown : {J : List ℕ} {U k e p : List ℕ} {f : Fill} {W : List ℕ} {n : ℕ} {k₁ e₁ p₁ : List ℕ} {c : Checked} {memo₁ W₁ : List ℕ}
+    → Concludes J U k e p f W n k₁ e₁ p₁ c memo₁ W₁ → Grown k e p f k₁ e₁ p₁ (c .fill)
 conclude-grown d = d .grown
 
 -- the substitution's terms are in the store
-pub sane-substitution : (S : List ℕ) {K E P : List ℕ} {z : Sizes} {F G k e q : List ℕ} {f : Fill} {memo W : List ℕ} → Ground K E P z F G k e q f memo W → ((b : Binding) → List·Memᴰ b (readBindings S) → b .term < z .terms)
-    → Sane (programFor K E P z) (readBindings S ++ readBindings G) (termsIn k e q f)
-sane-substitution S {K} {E} {P} {z} {G = G} {k = k} {e = e} {q = q} {f = f} g h = record {
+pub sane-substitution : (S : List ℕ) {J : List ℕ} {F G k e q : List ℕ} {f : Fill} {memo W : List ℕ} → Ground J F G k e q f memo W → ((b : Binding) → List·Memᴰ b (readBindings S) → b .term < sizesOf J .terms)
+    → Sane (programFor J) (readBindings S ++ readBindings G) (termsIn k e q f)
+sane-substitution S {J} {G = G} {k = k} {e = e} {q = q} {f = f} g h = record {
   ordered = g .sane .ordered;
   bound = λ b m. go b (List·Memᴰ·append-cases (readBindings S) m);
   rows = g .sane .rows;
 }
   where
-    all-in : z .terms ≤ length (termsIn k e q f)
+    all-in : sizesOf J .terms ≤ length (termsIn k e q f)
     all-in =
         let l = extends-length (g .terms) in
-        let n : length (map readTerm (tablesFor K E P z .terms)) ≡ z .terms = length-map (tablesFor K E P z .terms) readTerm ∙ table-long K E P z 0 (lit< tt) in omega arith
+        let n : length (map readTerm (tablesFor J .terms)) ≡ sizesOf J .terms = length-map (tablesFor J .terms) readTerm ∙ table-long J 0 (lit< tt) in omega arith
 
     go : (b : Binding) → List·Memᴰ b (readBindings S) ⊎ List·Memᴰ b (readBindings G) → b .term < length (termsIn k e q f)
     go b (inl m) = let x = h b m in let y = all-in in omega arith
     go b (inr m) = g .sane .bound b m
 
 -- a rule's facts, from their numbers
-pub numbers-of : (K E P : List ℕ) (z : Sizes) (r : ℕ) {xs : List ℕ} → xs ≡ ruleFacts (getD (tablesFor K E P z .rules) r noCell) → map (factFor K E P z) xs ≡ ruleFor K E P z r .facts
-numbers-of K E P z r e = ap (map (factFor K E P z)) e ∙ ap (λ (t : Rule). t .facts) (sym (rule-for K E P z r))
+pub numbers-of : (J : List ℕ) (r : ℕ) {xs : List ℕ} → xs ≡ ruleFacts (getD (tablesFor J .rules) r noCell) → map (factFor J) xs ≡ ruleFor J r .facts
+numbers-of J r e = ap (map (factFor J)) e ∙ ap (λ (t : Rule). t .facts) (sym (rule-for J r))
 
 -- scratch after its second part was lent
 module _ (W X : List ℕ) (c : ℕ) (l : length X ≡ length (midOf c (c + c - c) W)) (h : c + c ≤ length W) where
@@ -81,7 +80,7 @@ module _ (W X : List ℕ) (c : ℕ) (l : length X ≡ length (midOf c (c + c - c
       ∙ getD-drop (c + c) W i 0
 
 -- what a step is handed
-pub step-prepared : {K E P : List ℕ} {z : Sizes} {F G k e q : List ℕ} {f : Fill} {memo W : List ℕ} → Ground K E P z F G k e q f memo W → Prepared K E P z k e q f memo W
+pub step-prepared : {J : List ℕ} {F G k e q : List ℕ} {f : Fill} {memo W : List ℕ} → Ground J F G k e q f memo W → Prepared J k e q f memo W
 step-prepared g = record {
   ready = g .ready;
   stored = g .stored;

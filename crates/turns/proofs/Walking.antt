@@ -8,6 +8,7 @@ use lib.Dec.{eqb}
 use borrow.Author.Tests.{eqb-true, eqb-false}
 use lib.ListN.{length, getD, set, take}
 use lib.Seq.{getD-set-same, getD-set-other}
+use Rattle.model.specs.Layout.{sizesOf}
 use Rattle.model.specs.Program.{Proposition}
 use Rattle.model.specs.Decode.{readBindings}
 use Rattle.model.specs.Check.{Check, andThen, Room}
@@ -20,28 +21,27 @@ use Rattle.memo.specs.Memo.{Past}
 use Rattle.outcome.specs.Does.{passed, Grown, Does}
 use Rattle.outcome.specs.declared.Refusal.{Refusal}
 use Rattle.outcome.proofs.Laws.{ok-of, grown-same, grown-then, does-then, does-stop}
-use Rattle.load.specs.declared.sizes.Sizes.{Sizes}
 use Rattle.program.specs.Ready.{programFor}
 use Rattle.evaluate.specs.Evaluation.{Sane}
 use Rattle.context.specs.Contexts.{GlobalPairs}
 use Rattle.turns.specs.Walking.{Flags, Ground, After, Walks}
 
-after-same : {K E P : List ℕ} {z : Sizes} {F G k e p : List ℕ} {f : Fill} {memo W : List ℕ} → Ground K E P z F G k e p f memo W → After K E P z F G k e p f W k e p f memo W
+after-same : {J : List ℕ} {F G k e p : List ℕ} {f : Fill} {memo W : List ℕ} → Ground J F G k e p f memo W → After J F G k e p f W k e p f memo W
 after-same g = record { ground = g; grows = extends-same; globals = refl }
 
-after-then : {K E P : List ℕ} {z : Sizes} {F G k e p : List ℕ} {f : Fill} {W k₁ e₁ p₁ : List ℕ} {f₁ : Fill} {memo₁ W₁ k₂ e₂ p₂ : List ℕ} {f₂ : Fill} {memo₂ W₂ : List ℕ} → length k₁ ≡ length k
-    → After K E P z F G k e p f W k₁ e₁ p₁ f₁ memo₁ W₁ → After K E P z F G k₁ e₁ p₁ f₁ W₁ k₂ e₂ p₂ f₂ memo₂ W₂ → After K E P z F G k e p f W k₂ e₂ p₂ f₂ memo₂ W₂
+after-then : {J : List ℕ} {F G k e p : List ℕ} {f : Fill} {W k₁ e₁ p₁ : List ℕ} {f₁ : Fill} {memo₁ W₁ k₂ e₂ p₂ : List ℕ} {f₂ : Fill} {memo₂ W₂ : List ℕ} → length k₁ ≡ length k
+    → After J F G k e p f W k₁ e₁ p₁ f₁ memo₁ W₁ → After J F G k₁ e₁ p₁ f₁ W₁ k₂ e₂ p₂ f₂ memo₂ W₂ → After J F G k e p f W k₂ e₂ p₂ f₂ memo₂ W₂
 after-then {W₁ = W₁} {W₂ = W₂} l x y = record {
   ground = y .ground;
   grows = extends-then (x .grows) (y .grows);
   globals = ap (λ (n : ℕ). take n W₂) (sym l) ∙ y .globals ∙ ap (λ (n : ℕ). take n W₁) l ∙ x .globals;
 }
 
-module _ {K E P : List ℕ} {z : Sizes} {F G U k e p : List ℕ} {f : Fill} {W : List ℕ} where
+module _ {J : List ℕ} {F G U k e p : List ℕ} {f : Fill} {W : List ℕ} where
   -- a check that does not walk, and leaves everything as it is
-  pub walks-here : {memo : List ℕ} {A : Type 0} {r : Refusal} {a : List ℕ → A} {o : Room → List Proposition → List ℕ → Check A} → Ground K E P z F G k e p f memo W
-      → ((ps : List Proposition) (done : List ℕ) → Flags (length k) W (z .proofs) done → Does k e p f k e p f r (a done) (o (roomOf k p) ps done (termsIn k e p f)))
-      → Walks K E P z F G U k e p f W k e p f r memo W a o
+  pub walks-here : {memo : List ℕ} {A : Type 0} {r : Refusal} {a : List ℕ → A} {o : Room → List Proposition → List ℕ → Check A} → Ground J F G k e p f memo W
+      → ((ps : List Proposition) (done : List ℕ) → Flags (length k) W (sizesOf J .proofs) done → Does k e p f k e p f r (a done) (o (roomOf k p) ps done (termsIn k e p f)))
+      → Walks J F G U k e p f W k e p f r memo W a o
   walks-here g d = record {
     grown = grown-same (g .stored);
     after = λ _. after-same g;
@@ -50,9 +50,9 @@ module _ {K E P : List ℕ} {z : Sizes} {F G U k e p : List ℕ} {f : Fill} {W :
 
   module _ {k₁ e₁ p₁ : List ℕ} {f₁ : Fill} {memo₁ W₁ : List ℕ} where
     -- one after the other
-    module _ {A B : Type 0} {r : Refusal} {a : List ℕ → A} {o : Room → List Proposition → List ℕ → Check A} (w : Walks K E P z F G U k e p f W k₁ e₁ p₁ f₁ r memo₁ W₁ a o) where
+    module _ {A B : Type 0} {r : Refusal} {a : List ℕ → A} {o : Room → List Proposition → List ℕ → Check A} (w : Walks J F G U k e p f W k₁ e₁ p₁ f₁ r memo₁ W₁ a o) where
       pub walks-stop : (b : List ℕ → B) (c : Room → List Proposition → A → Check B) → (r .number ≡ 0 → ⊥)
-          → Walks K E P z F G U k e p f W k₁ e₁ p₁ f₁ r memo₁ W₁ b (λ room ps done s. andThen (o room ps done s) (c room ps))
+          → Walks J F G U k e p f W k₁ e₁ p₁ f₁ r memo₁ W₁ b (λ room ps done s. andThen (o room ps done s) (c room ps))
       walks-stop b c n = record {
         grown = w .grown;
         after = w .after;
@@ -60,26 +60,26 @@ module _ {K E P : List ℕ} {z : Sizes} {F G U k e p : List ℕ} {f : Fill} {W :
       }
 
       pub walks-then : {b : List ℕ → B} (c : Room → List Proposition → A → Check B) {k₂ e₂ p₂ : List ℕ} {f₂ : Fill} {r₂ : Refusal} {memo₂ W₂ : List ℕ} → r .number ≡ 0
-          → Walks K E P z F G U k₁ e₁ p₁ f₁ W₁ k₂ e₂ p₂ f₂ r₂ memo₂ W₂ b (λ room ps done. c room ps (a done))
-          → Walks K E P z F G U k e p f W k₂ e₂ p₂ f₂ r₂ memo₂ W₂ b (λ room ps done s. andThen (o room ps done s) (c room ps))
+          → Walks J F G U k₁ e₁ p₁ f₁ W₁ k₂ e₂ p₂ f₂ r₂ memo₂ W₂ b (λ room ps done. c room ps (a done))
+          → Walks J F G U k e p f W k₂ e₂ p₂ f₂ r₂ memo₂ W₂ b (λ room ps done s. andThen (o room ps done s) (c room ps))
       walks-then c {W₂ = W₂} n v = record {
         grown = grown-then (w .grown) (v .grown);
         after = λ u. after-then (w .grown .lenK) (w .after n) (v .after u);
         walked = λ ps done x y.
             let d = w .walked ps done x y in
             let x₁ : GlobalPairs ps U (take (length k₁) W₁) = subst⁻¹ (GlobalPairs ps U) (ap (λ (m : ℕ). take m W₁) (w .grown .lenK) ∙ w .after n .globals) x in
-            let y₁ : Flags (length k₁) W₁ (z .proofs) (d .done) = subst⁻¹ (λ (m : ℕ). Flags m W₁ (z .proofs) (d .done)) (w .grown .lenK) (d .flags n) in
+            let y₁ : Flags (length k₁) W₁ (sizesOf J .proofs) (d .done) = subst⁻¹ (λ (m : ℕ). Flags m W₁ (sizesOf J .proofs) (d .done)) (w .grown .lenK) (d .flags n) in
             let t = v .walked ps (d .done) x₁ y₁ in record {
               done = t .done;
               does = does-then (λ room. c room ps) (d .does) n (t .does);
-              flags = λ u. subst (λ (m : ℕ). Flags m W₂ (z .proofs) (t .done)) (w .grown .lenK) (t .flags u);
+              flags = λ u. subst (λ (m : ℕ). Flags m W₂ (sizesOf J .proofs) (t .done)) (w .grown .lenK) (t .flags u);
             };
       }
 
 -- a check that walks, by another name of its outcome
-pub walks-as : {K E P : List ℕ} {z : Sizes} {F G U k e p : List ℕ} {f : Fill} {W k₁ e₁ p₁ : List ℕ} {f₁ : Fill} {memo₁ W₁ : List ℕ} {A : Type 0} {r : Refusal} {a : List ℕ → A}
+pub walks-as : {J : List ℕ} {F G U k e p : List ℕ} {f : Fill} {W k₁ e₁ p₁ : List ℕ} {f₁ : Fill} {memo₁ W₁ : List ℕ} {A : Type 0} {r : Refusal} {a : List ℕ → A}
     {o o′ : Room → List Proposition → List ℕ → Check A} → ((ps : List Proposition) (done : List ℕ) → o (roomOf k p) ps done (termsIn k e p f) ≡ o′ (roomOf k p) ps done (termsIn k e p f))
-    → Walks K E P z F G U k e p f W k₁ e₁ p₁ f₁ r memo₁ W₁ a o → Walks K E P z F G U k e p f W k₁ e₁ p₁ f₁ r memo₁ W₁ a o′
+    → Walks J F G U k e p f W k₁ e₁ p₁ f₁ r memo₁ W₁ a o → Walks J F G U k e p f W k₁ e₁ p₁ f₁ r memo₁ W₁ a o′
 walks-as {k = k} {e = e} {p = p} {f = f} {k₁ = k₁} {e₁ = e₁} {p₁ = p₁} {f₁ = f₁} {r = r} {a = a} q w = record {
   grown = w .grown;
   after = w .after;
@@ -107,8 +107,8 @@ flags-set {c} {W} {n} {done} p h l w = record { is = λ i u. go i u (eqb i p) re
         ∙ ap (λ (b : Bool). b || member i done) (sym q)
 
 -- a check that passed
-pub walks-passed : {K E P : List ℕ} {z : Sizes} {F G U k e p : List ℕ} {f : Fill} {W k₁ e₁ p₁ : List ℕ} {f₁ : Fill} {memo₁ W₁ : List ℕ} {A : Type 0} {r : Refusal} {a : List ℕ → A} {o : Room → List Proposition → List ℕ → Check A}
-    → r .number ≡ 0 → Walks K E P z F G U k e p f W k₁ e₁ p₁ f₁ r memo₁ W₁ a o → Walks K E P z F G U k e p f W k₁ e₁ p₁ f₁ passed memo₁ W₁ a o
+pub walks-passed : {J : List ℕ} {F G U k e p : List ℕ} {f : Fill} {W k₁ e₁ p₁ : List ℕ} {f₁ : Fill} {memo₁ W₁ : List ℕ} {A : Type 0} {r : Refusal} {a : List ℕ → A} {o : Room → List Proposition → List ℕ → Check A}
+    → r .number ≡ 0 → Walks J F G U k e p f W k₁ e₁ p₁ f₁ r memo₁ W₁ a o → Walks J F G U k e p f W k₁ e₁ p₁ f₁ passed memo₁ W₁ a o
 walks-passed {k₁ = k₁} {e₁ = e₁} {p₁ = p₁} {f₁ = f₁} {r = r} {a = a} n w = record {
   grown = w .grown;
   after = λ _. w .after n;
@@ -120,9 +120,9 @@ walks-passed {k₁ = k₁} {e₁ = e₁} {p₁ = p₁} {f₁ = f₁} {r = r} {a 
 }
 
 -- what is handed on
-pub ground-after : {K E P : List ℕ} {z : Sizes} {F G k e p : List ℕ} {f : Fill} {memo W k₁ e₁ p₁ : List ℕ} {f₁ : Fill} {memo₁ W₁ : List ℕ} → Ground K E P z F G k e p f memo W
-    → Grown k e p f k₁ e₁ p₁ f₁ → Extends (termsIn k e p f) (termsIn k₁ e₁ p₁ f₁) → Sane (programFor K E P z) (readBindings G) (termsIn k₁ e₁ p₁ f₁) → Past memo₁ → length memo₁ ≡ length memo → length W₁ ≡ length W
-    → Ground K E P z F G k₁ e₁ p₁ f₁ memo₁ W₁
+pub ground-after : {J : List ℕ} {F G k e p : List ℕ} {f : Fill} {memo W k₁ e₁ p₁ : List ℕ} {f₁ : Fill} {memo₁ W₁ : List ℕ} → Ground J F G k e p f memo W
+    → Grown k e p f k₁ e₁ p₁ f₁ → Extends (termsIn k e p f) (termsIn k₁ e₁ p₁ f₁) → Sane (programFor J) (readBindings G) (termsIn k₁ e₁ p₁ f₁) → Past memo₁ → length memo₁ ≡ length memo → length W₁ ≡ length W
+    → Ground J F G k₁ e₁ p₁ f₁ memo₁ W₁
 ground-after g w x s q a b = record {
   ready = g .ready;
   searched = g .searched;

@@ -5,6 +5,7 @@ use mathlib.Core.Bool.{Bool, true, false}
 use mathlib.Core.List.{List, [], _∷_, map}
 use mathlib.Core.Option.{Option, none, some}
 use lib.ListN.{length, getD, take, drop}
+use Rattle.model.specs.Layout.{sizesOf}
 use Rattle.model.specs.Term.{Term}
 use Rattle.model.specs.Program.{Proposition, Binding, Program, Fact, Rule, Proof, Justification, rule}
 use Rattle.model.specs.Decode.{readBindings}
@@ -15,7 +16,6 @@ use Rattle.model.specs.Walk.{noProof, claimAt, checkJustification}
 use Rattle.cells.specs.declared.Fill.{Fill}
 use Rattle.termdag.specs.Store.{termsIn}
 use Rattle.outcome.specs.Does.{outcomeOf}
-use Rattle.load.specs.declared.sizes.Sizes.{Sizes}
 use Rattle.program.specs.Ready.{programFor, ruleFor}
 use Rattle.program.specs.Read.{proofsFor, proofCell, premisesFor, pairsFor}
 use Rattle.evaluate.specs.Value.{bindingsIn}
@@ -80,46 +80,46 @@ abbrev pub finishStep : Room → Program → List Proof → List Proposition →
 finishStep room prog proofs ps p q j h b = endStep room prog proofs ps p q j h (b .0) >>= λ _. pure (b .1)
 
 -- The turns that a plan stands for: those of the rule of number r, or the first so many of two proofs.
-abbrev pub turnsBy : List ℕ → List ℕ → List ℕ → Sizes → ℕ → Bool → ℕ → ℕ → ℕ → ℕ → List Turn
-turnsBy K E P z p true r first second count = factTurns (ruleFor K E P z r .facts) (premisesFor K E P z p)
-turnsBy K E P z p false r first second count = map ofProof (take count (first ∷ second ∷ []))
+abbrev pub turnsBy : List ℕ → ℕ → Bool → ℕ → ℕ → ℕ → ℕ → List Turn
+turnsBy J p true r first second count = factTurns (ruleFor J r .facts) (premisesFor J p)
+turnsBy J p false r first second count = map ofProof (take count (first ∷ second ∷ []))
 
-abbrev pub headBy : List ℕ → List ℕ → List ℕ → Sizes → Bool → ℕ → Option Rule
-headBy K E P z true r = some (ruleFor K E P z r)
-headBy K E P z false r = none
+abbrev pub headBy : List ℕ → Bool → ℕ → Option Rule
+headBy J true r = some (ruleFor J r)
+headBy J false r = none
 
 -- The bindings of a step, where X is what conditions bound and G the globals.
-abbrev pub bindingsBy : List ℕ → List ℕ → List ℕ → Sizes → ℕ → Bool → List ℕ → List ℕ → List Binding
-bindingsBy K E P z p true X G = bindingsIn X (pairsFor K E P z p) G
-bindingsBy K E P z p false X G = readBindings G
+abbrev pub bindingsBy : List ℕ → ℕ → Bool → List ℕ → List ℕ → List Binding
+bindingsBy J p true X G = bindingsIn X (pairsFor J p) G
+bindingsBy J p false X G = readBindings G
 
 abbrev pub noTurn : Turn
 noTurn = ofProof 0
 
 -- Proof p's step is taken by these turns.
-pub record Planned (K E P : List ℕ) (z : Sizes) (p : ℕ) (rule : Bool) (r first second count : ℕ) : Type 0 where
-  pub long : length (turnsBy K E P z p rule r first second count) ≡ count
+pub record Planned (J : List ℕ) (p : ℕ) (rule : Bool) (r first second count : ℕ) : Type 0 where
+  pub long : length (turnsBy J p rule r first second count) ≡ count
   pub few : count ≤ 16
-  pub lower : (i : ℕ) → i < count → proofOf (getD (turnsBy K E P z p rule r first second count) i noTurn) < p
-  pub kind : rule ≡ true → proofCell K E P z p .kind ≡ 1
-  pub inside : rule ≡ true → r < z .rules
+  pub lower : (i : ℕ) → i < count → proofOf (getD (turnsBy J p rule r first second count) i noTurn) < p
+  pub kind : rule ≡ true → proofCell J p .kind ≡ 1
+  pub inside : rule ≡ true → r < sizesOf J .rules
   pub plain : rule ≡ false → count ≤ 2
   pub step : (room : Room) (G : List ℕ) (ps : List Proposition) (sub : ℕ → List ℕ → Check (List ℕ)) (done : List ℕ) (s : List Term)
-      → (takeTurns room (programFor K E P z) (proofsFor K E P z) first sub (turnsBy K E P z p rule r first second count) (bindingsBy K E P z p rule [] G, done)
-      >>= finishStep room (programFor K E P z) (proofsFor K E P z) ps p (claimAt (proofsFor K E P z) p) (getD (proofsFor K E P z) p noProof .justification) (headBy K E P z rule r)) s
-      ≡ checkJustification room (programFor K E P z) (proofsFor K E P z) (contextOf G ps) sub p (claimAt (proofsFor K E P z) p) (getD (proofsFor K E P z) p noProof .justification) done s
+      → (takeTurns room (programFor J) (proofsFor J) first sub (turnsBy J p rule r first second count) (bindingsBy J p rule [] G, done)
+      >>= finishStep room (programFor J) (proofsFor J) ps p (claimAt (proofsFor J) p) (getD (proofsFor J) p noProof .justification) (headBy J rule r)) s
+      ≡ checkJustification room (programFor J) (proofsFor J) (contextOf G ps) sub p (claimAt (proofsFor J) p) (getD (proofsFor J) p noProof .justification) done s
 
 -- Proof p is a rule's step, by the rule of that name.
-pub record RuleStep (K E P : List ℕ) (z : Sizes) (p name : ℕ) : Type 0 where
-  pub kind : proofCell K E P z p .kind ≡ 1
-  pub is : getD (proofsFor K E P z) p noProof .justification ≡ rule name (premisesFor K E P z p) (readBindings (pairsFor K E P z p))
+pub record RuleStep (J : List ℕ) (p name : ℕ) : Type 0 where
+  pub kind : proofCell J p .kind ≡ 1
+  pub is : getD (proofsFor J) p noProof .justification ≡ rule name (premisesFor J p) (readBindings (pairsFor J p))
 
 -- A plan: the refusal of a rule's step whose rule or premises do not fit, or how the step is taken.
-pub record Plans (K E P : List ℕ) (z : Sizes) (p : ℕ) (s : Plan) : Type 0 where
+pub record Plans (J : List ℕ) (p : ℕ) (s : Plan) : Type 0 where
   pub stops : (s .refusal .number ≡ 0 → ⊥) → (room : Room) (G : List ℕ) (ps : List Proposition) (sub : ℕ → List ℕ → Check (List ℕ)) (done : List ℕ) (u : List Term)
       → outcomeOf (s .refusal) done u
-      ≡ checkJustification room (programFor K E P z) (proofsFor K E P z) (contextOf G ps) sub p (claimAt (proofsFor K E P z) p) (getD (proofsFor K E P z) p noProof .justification) done u
-  pub goes : s .refusal .number ≡ 0 → Planned K E P z p (s .rule) (s .r) (s .first) (s .second) (s .count)
+      ≡ checkJustification room (programFor J) (proofsFor J) (contextOf G ps) sub p (claimAt (proofsFor J) p) (getD (proofsFor J) p noProof .justification) done u
+  pub goes : s .refusal .number ≡ 0 → Planned J p (s .rule) (s .r) (s .first) (s .second) (s .count)
 
 -- What a stage does, with the turns that are left: before a proof, after it, or the end of the step; the bindings then.
 module _ (room : Room) (prog : Program) (proofs : List Proof) (name : ℕ) (ps : List Proposition) (p : ℕ) (q : Proposition) (j : Justification) (h : Option Rule) where
@@ -135,11 +135,11 @@ isOver prog (t ∷ ts) zero = isSettled prog t
 isOver prog (t ∷ ts) (suc w) = true
 
 -- The contract of a stage, under the bindings that conditions bound, X.
-pub record Advances (K E P : List ℕ) (z : Sizes) (F G U : List ℕ) (p : ℕ) (rule : Bool) (r first second count : ℕ) (X k e q : List ℕ) (f : Fill) (W : List ℕ) (i walked : ℕ) (k′ e′ q′ : List ℕ) (c : Stage) (memo′ W′ : List ℕ) : Type 0 where
-  pub walks : Walks {A = List Binding × List ℕ} K E P z F G U k e q f W k′ e′ q′ (c .fill) (c .refusal) memo′ W′ (λ d. (boundOver (c .binds) (bindingsBy K E P z p rule X G), d))
-      (λ room ps done. stageOf room (programFor K E P z) (proofsFor K E P z) first ps p (claimAt (proofsFor K E P z) p) (getD (proofsFor K E P z) p noProof .justification) (headBy K E P z rule r)
-      (drop i (turnsBy K E P z p rule r first second count)) walked (bindingsBy K E P z p rule X G) >>= λ τ. pure (τ, done))
-  pub over : c .refusal .number ≡ 0 → c .settled ≡ isOver (programFor K E P z) (drop i (turnsBy K E P z p rule r first second count)) walked
-  pub sane : rule ≡ true → c .refusal .number ≡ 0 → Sane (programFor K E P z) (boundOver (c .binds) (bindingsBy K E P z p rule X G)) (termsIn k′ e′ q′ (c .fill))
+pub record Advances (J : List ℕ) (F G U : List ℕ) (p : ℕ) (rule : Bool) (r first second count : ℕ) (X k e q : List ℕ) (f : Fill) (W : List ℕ) (i walked : ℕ) (k′ e′ q′ : List ℕ) (c : Stage) (memo′ W′ : List ℕ) : Type 0 where
+  pub walks : Walks {A = List Binding × List ℕ} J F G U k e q f W k′ e′ q′ (c .fill) (c .refusal) memo′ W′ (λ d. (boundOver (c .binds) (bindingsBy J p rule X G), d))
+      (λ room ps done. stageOf room (programFor J) (proofsFor J) first ps p (claimAt (proofsFor J) p) (getD (proofsFor J) p noProof .justification) (headBy J rule r)
+      (drop i (turnsBy J p rule r first second count)) walked (bindingsBy J p rule X G) >>= λ τ. pure (τ, done))
+  pub over : c .refusal .number ≡ 0 → c .settled ≡ isOver (programFor J) (drop i (turnsBy J p rule r first second count)) walked
+  pub sane : rule ≡ true → c .refusal .number ≡ 0 → Sane (programFor J) (boundOver (c .binds) (bindingsBy J p rule X G)) (termsIn k′ e′ q′ (c .fill))
   pub plain : rule ≡ false → c .binds ≡ Binds.Nothing
   pub waits : c .settled ≡ false → c .binds ≡ Binds.Nothing

@@ -6,6 +6,7 @@ use mathlib.Core.List.{List, [], _∷_, map}
 use mathlib.Core.Bool.{true, false}
 use lib.Dec.{eqb}
 use lib.ListN.{length, getD, take}
+use Rattle.model.specs.Layout.{sizesOf}
 use Rattle.model.specs.Term.{readTerm, Extends}
 use Rattle.model.specs.Program.{Proposition, Binding, Program, Rule, Proof, rule, references}
 use Rattle.model.specs.Decode.{readBindings}
@@ -17,9 +18,7 @@ use Rattle.termdag.specs.Store.{termsIn, Stored, roomOf}
 use Rattle.memo.specs.Memo.{Past}
 use Rattle.outcome.specs.Does.{Grown, Does}
 use Rattle.outcome.specs.declared.Refusal.{Refusal}
-use Rattle.load.specs.Held.{tablesFor}
-use Rattle.load.specs.declared.sizes.Sizes.{Sizes}
-use Rattle.program.specs.Ready.{Ready, programFor}
+use Rattle.program.specs.Ready.{tablesFor, Ready, programFor}
 use Rattle.normal_form.specs.Search.{Searched}
 use Rattle.evaluate.specs.Evaluation.{Sane}
 use Rattle.context.specs.Contexts.{GlobalPairs}
@@ -32,15 +31,15 @@ pub record Flags (c : ℕ) (W : List ℕ) (n : ℕ) (done : List ℕ) : Type 0 w
   pub is : (p : ℕ) → p < n → eqb (getD W (c + c + p) 0) 1 ≡ member p done
 
 -- What the walk is handed: an admitted job with its offences F and the global bindings G, a store that has the job's terms and is sane, a memo, and scratch.
-pub record Ground (K E P : List ℕ) (z : Sizes) (F G k e p : List ℕ) (f : Fill) (memo W : List ℕ) : Type 0 where
-  pub ready : Ready K E P z
-  pub searched : Searched K E P z F
+pub record Ground (J : List ℕ) (F G k e p : List ℕ) (f : Fill) (memo W : List ℕ) : Type 0 where
+  pub ready : Ready J
+  pub searched : Searched J F
   pub stored : Stored k e p f
-  pub sane : Sane (programFor K E P z) (readBindings G) (termsIn k e p f)
-  pub terms : Extends (map readTerm (tablesFor K E P z .terms)) (termsIn k e p f)
-  pub fits : z .expressions + z .expressions < length memo
+  pub sane : Sane (programFor J) (readBindings G) (termsIn k e p f)
+  pub terms : Extends (map readTerm (tablesFor J .terms)) (termsIn k e p f)
+  pub fits : sizesOf J .expressions + sizesOf J .expressions < length memo
   pub past : Past memo
-  pub long : length k + length k + z .proofs ≤ length W
+  pub long : length k + length k + sizesOf J .proofs ≤ length W
 
 -- The context of the global bindings and pairs.
 abbrev pub contextOf : List ℕ → List Proposition → ActionContext
@@ -53,24 +52,24 @@ pub record Walked {A : Type 0} (n : ℕ) (k e p : List ℕ) (f : Fill) (k′ e�
   pub flags : r .number ≡ 0 → Flags (length k) W′ n done
 
 -- What it hands on after a value.
-pub record After (K E P : List ℕ) (z : Sizes) (F G k e p : List ℕ) (f : Fill) (W k′ e′ p′ : List ℕ) (f′ : Fill) (memo′ W′ : List ℕ) : Type 0 where
-  pub ground : Ground K E P z F G k′ e′ p′ f′ memo′ W′
+pub record After (J : List ℕ) (F G k e p : List ℕ) (f : Fill) (W k′ e′ p′ : List ℕ) (f′ : Fill) (memo′ W′ : List ℕ) : Type 0 where
+  pub ground : Ground J F G k′ e′ p′ f′ memo′ W′
   pub grows : Extends (termsIn k e p f) (termsIn k′ e′ p′ f′)
   pub globals : take (length k) W′ ≡ take (length k) W
 
 -- The contract of a check that walks. U and the first marks stand for the global pairs, whatever these are; the check o of room, global pairs and proofs checked before is the definition's.
-pub record Walks {A : Type 0} (K E P : List ℕ) (z : Sizes) (F G U k e p : List ℕ) (f : Fill) (W k′ e′ p′ : List ℕ) (f′ : Fill) (r : Refusal) (memo′ W′ : List ℕ) (a : List ℕ → A)
+pub record Walks {A : Type 0} (J : List ℕ) (F G U k e p : List ℕ) (f : Fill) (W k′ e′ p′ : List ℕ) (f′ : Fill) (r : Refusal) (memo′ W′ : List ℕ) (a : List ℕ → A)
     (o : Room → List Proposition → List ℕ → Check A) : Type 0 where
   pub grown : Grown k e p f k′ e′ p′ f′
-  pub after : r .number ≡ 0 → After K E P z F G k e p f W k′ e′ p′ f′ memo′ W′
-  pub walked : (ps : List Proposition) (done : List ℕ) → GlobalPairs ps U (take (length k) W) → Flags (length k) W (z .proofs) done
-      → Walked (z .proofs) k e p f k′ e′ p′ f′ r W′ a (o (roomOf k p) ps done (termsIn k e p f))
+  pub after : r .number ≡ 0 → After J F G k e p f W k′ e′ p′ f′ memo′ W′
+  pub walked : (ps : List Proposition) (done : List ℕ) → GlobalPairs ps U (take (length k) W) → Flags (length k) W (sizesOf J .proofs) done
+      → Walked (sizesOf J .proofs) k e p f k′ e′ p′ f′ r W′ a (o (roomOf k p) ps done (termsIn k e p f))
 
 -- What a step of proof p refers to: a rule's has a name, premises and pairs; another has at most two references, each lower.
-pub record Operates (K E P : List ℕ) (z : Sizes) (p : ℕ) (r : Needs) : Type 0 where
-  pub rule : r .rule ≡ true → (proofCell K E P z p .kind ≡ 1) × (getD (proofsFor K E P z) p noProof .justification ≡ rule (r .name) (premisesFor K E P z p) (readBindings (pairsFor K E P z p)))
-  pub other : r .rule ≡ false → (isRule (getD (proofsFor K E P z) p noProof .justification) ≡ false)
-      × (take (r .count) (r .first ∷ r .second ∷ []) ≡ references (getD (proofsFor K E P z) p noProof .justification))
+pub record Operates (J : List ℕ) (p : ℕ) (r : Needs) : Type 0 where
+  pub rule : r .rule ≡ true → (proofCell J p .kind ≡ 1) × (getD (proofsFor J) p noProof .justification ≡ rule (r .name) (premisesFor J p) (readBindings (pairsFor J p)))
+  pub other : r .rule ≡ false → (isRule (getD (proofsFor J) p noProof .justification) ≡ false)
+      × (take (r .count) (r .first ∷ r .second ∷ []) ≡ references (getD (proofsFor J) p noProof .justification))
   pub few : r .count ≤ 2
   pub lower : (i : ℕ) → i < r .count → getD (r .first ∷ r .second ∷ []) i 0 < p
 

@@ -7,7 +7,6 @@ use conditions::check_side_condition;
 use decode::Justification;
 use facts::check_fact_matches_proposition;
 use heads::check_rule_produces_equality;
-use load::sizes::Sizes;
 use normal_form::assert_body_proof_normal_form;
 use normal_form::is_container_side_condition;
 use outcome::Checked;
@@ -24,6 +23,7 @@ ghost use Prim.Native.Nat.{_+_, _≤_, _<_};
 ghost use mathlib.Core.Bool.{true, false};
 ghost use Rattle.model.specs.Fact.{isContainerSideCondition};
 ghost use lib.ListN.{length, getD};
+ghost use Rattle.model.specs.Layout.{sizesOf};
 ghost use Rattle.termdag.specs.Store.{termsIn, Stored, roomOf};
 ghost use Rattle.model.specs.Term.{Extends};
 ghost use Rattle.memo.specs.Memo.{Past};
@@ -48,12 +48,12 @@ pub struct Needs {
 }
 
 // The proofs that proof p needs.
-fn operands(kinds: &[u32], ends: &[u32], pool: &[u32], z: Sizes, p: u32) -> Needs
-    requires { ⌜ Ready (now kinds) (now ends) (now pool) z ⌝ }
-    requires { ⌜ p < z .proofs ⌝ }
-    ensures { λ r. ⌜ Operates (now (kinds .entry)) (now (ends .entry)) (now (pool .entry)) z p r ⌝ }
+fn operands(job: &[u32], p: u32) -> Needs
+    requires { ⌜ Ready (now job) ⌝ }
+    requires { ⌜ p < sizesOf (now job) .proofs ⌝ }
+    ensures { λ r. ⌜ Operates (now (job .entry)) p r ⌝ }
 {
-    let justification = justification_at(kinds, ends, pool, z, wide(p));
+    let justification = justification_at(job, wide(p));
     match justification {
         Justification::Fiat => Needs {
             rule: false,
@@ -151,13 +151,13 @@ fn plain_plan(ops: Needs) -> Plan
 }
 
 // A rule's step.
-fn rule_plan(kinds: &[u32], ends: &[u32], pool: &[u32], z: Sizes, p: u32, name: u32) -> Plan
-    requires { ⌜ Ready (now kinds) (now ends) (now pool) z ⌝ }
-    requires { ⌜ p < z .proofs ⌝ }
-    requires { ⌜ RuleStep (now kinds) (now ends) (now pool) z p name ⌝ }
-    ensures { λ s. ⌜ Plans (now (kinds .entry)) (now (ends .entry)) (now (pool .entry)) z p s ⌝ }
+fn rule_plan(job: &[u32], p: u32, name: u32) -> Plan
+    requires { ⌜ Ready (now job) ⌝ }
+    requires { ⌜ p < sizesOf (now job) .proofs ⌝ }
+    requires { ⌜ RuleStep (now job) p name ⌝ }
+    ensures { λ s. ⌜ Plans (now (job .entry)) p s ⌝ }
 {
-    let rule = rule_of(kinds, ends, pool, z, name);
+    let rule = rule_of(job, name);
     let Found::At(r) = rule else {
         return Plan {
             refusal: Refusal {
@@ -172,8 +172,8 @@ fn rule_plan(kinds: &[u32], ends: &[u32], pool: &[u32], z: Sizes, p: u32, name: 
             second: 0,
         };
     };
-    let facts = rule_facts_at(kinds, ends, pool, z, r).len();
-    let premises = premises_at(kinds, ends, pool, z, wide(p)).len();
+    let facts = rule_facts_at(job, r).len();
+    let premises = premises_at(job, wide(p)).len();
     if facts != premises {
         return Plan {
             refusal: Refusal {
@@ -203,24 +203,21 @@ fn rule_plan(kinds: &[u32], ends: &[u32], pool: &[u32], z: Sizes, p: u32, name: 
 }
 
 // What the step of proof p takes.
-pub fn plan_step(kinds: &[u32], ends: &[u32], pool: &[u32], z: Sizes, p: u32) -> Plan
-    requires { ⌜ Ready (now kinds) (now ends) (now pool) z ⌝ }
-    requires { ⌜ p < z .proofs ⌝ }
-    ensures { λ s. ⌜ Plans (now (kinds .entry)) (now (ends .entry)) (now (pool .entry)) z p s ⌝ }
+pub fn plan_step(job: &[u32], p: u32) -> Plan
+    requires { ⌜ Ready (now job) ⌝ }
+    requires { ⌜ p < sizesOf (now job) .proofs ⌝ }
+    ensures { λ s. ⌜ Plans (now (job .entry)) p s ⌝ }
 {
-    let ops = operands(kinds, ends, pool, z, p);
+    let ops = operands(job, p);
     if ops.rule {
-        return rule_plan(kinds, ends, pool, z, p, ops.name);
+        return rule_plan(job, p, ops.name);
     }
     plain_plan(ops)
 }
 
 // The proof that the step's turn i walks.
 pub fn reference(
-    kinds: &[u32],
-    ends: &[u32],
-    pool: &[u32],
-    z: Sizes,
+    job: &[u32],
     p: u32,
     rule: bool,
     r: usize,
@@ -229,14 +226,14 @@ pub fn reference(
     count: usize,
     i: usize,
 ) -> u32
-    requires { ⌜ Ready (now kinds) (now ends) (now pool) z ⌝ }
-    requires { ⌜ p < z .proofs ⌝ }
-    requires { ⌜ Planned (now kinds) (now ends) (now pool) z p rule r first second count ⌝ }
+    requires { ⌜ Ready (now job) ⌝ }
+    requires { ⌜ p < sizesOf (now job) .proofs ⌝ }
+    requires { ⌜ Planned (now job) p rule r first second count ⌝ }
     requires { ⌜ i < count ⌝ }
-    ensures { λ x. ⌜ x ≡ proofOf (getD (turnsBy (now (kinds .entry)) (now (ends .entry)) (now (pool .entry)) z p rule r first second count) i noTurn) ⌝ }
+    ensures { λ x. ⌜ x ≡ proofOf (getD (turnsBy (now (job .entry)) p rule r first second count) i noTurn) ⌝ }
 {
     if rule {
-        let premises = premises_at(kinds, ends, pool, z, wide(p));
+        let premises = premises_at(job, wide(p));
         return premises[i];
     }
     let refs = [first, second];
@@ -245,10 +242,7 @@ pub fn reference(
 
 // Fact i of a rule before its premise: normal form, and a side condition.
 fn before_premise(
-    kinds: &[u32],
-    ends: &[u32],
-    pool: &[u32],
-    z: Sizes,
+    job: &[u32],
     found: &[u32],
     globals: &[u32],
     bound: &[u32],
@@ -261,19 +255,19 @@ fn before_premise(
     memo: &mut [u32],
     i: u32,
 ) -> Stage
-    requires { ⌜ Ready (now kinds) (now ends) (now pool) z ⌝ }
-    requires { ⌜ Searched (now kinds) (now ends) (now pool) z (now found) ⌝ }
+    requires { ⌜ Ready (now job) ⌝ }
+    requires { ⌜ Searched (now job) (now found) ⌝ }
     requires { ⌜ Stored (now skinds) (now sends) (now spool) fill ⌝ }
-    requires { ⌜ z .expressions + z .expressions < length (now memo) ⌝ }
+    requires { ⌜ sizesOf (now job) .expressions + sizesOf (now job) .expressions < length (now memo) ⌝ }
     requires { ⌜ Past (now memo) ⌝ }
-    requires { ⌜ i < z .facts ⌝ }
-    requires { ⌜ Sane (programFor (now kinds) (now ends) (now pool) z) (bindingsIn (now bound) (now pairs) (now globals)) (termsIn (now skinds) (now sends) (now spool) fill) ⌝ }
-    ensures does { λ c. ⌜ Checks (now (skinds .entry)) (now (sends .entry)) (now (spool .entry)) fill (now (skinds .exit)) (now (sends .exit)) (now (spool .exit)) (c .fill) (c .refusal) (boundOver (c .binds) (bindingsIn (now (bound .entry)) (now (pairs .entry)) (now (globals .entry)))) (now (memo .exit)) (beforeProof (roomOf (now (skinds .entry)) (now (spool .entry))) (programFor (now (kinds .entry)) (now (ends .entry)) (now (pool .entry)) z) (proofsFor (now (kinds .entry)) (now (ends .entry)) (now (pool .entry)) z) name (ofFact (factFor (now (kinds .entry)) (now (ends .entry)) (now (pool .entry)) z i) 0) (bindingsIn (now (bound .entry)) (now (pairs .entry)) (now (globals .entry))) (termsIn (now (skinds .entry)) (now (sends .entry)) (now (spool .entry)) fill)) ⌝ }
-    ensures over { λ c. ⌜ (c .refusal .number ≡ 0 → c .settled ≡ isContainerSideCondition (programFor (now (kinds .entry)) (now (ends .entry)) (now (pool .entry)) z) (factFor (now (kinds .entry)) (now (ends .entry)) (now (pool .entry)) z i)) ⌝ }
-    ensures kept { λ c. ⌜ (c .refusal .number ≡ 0 → Extends (termsIn (now (skinds .entry)) (now (sends .entry)) (now (spool .entry)) fill) (termsIn (now (skinds .exit)) (now (sends .exit)) (now (spool .exit)) (c .fill)) × Sane (programFor (now (kinds .entry)) (now (ends .entry)) (now (pool .entry)) z) (boundOver (c .binds) (bindingsIn (now (bound .entry)) (now (pairs .entry)) (now (globals .entry)))) (termsIn (now (skinds .exit)) (now (sends .exit)) (now (spool .exit)) (c .fill))) ⌝ }
+    requires { ⌜ i < sizesOf (now job) .facts ⌝ }
+    requires { ⌜ Sane (programFor (now job)) (bindingsIn (now bound) (now pairs) (now globals)) (termsIn (now skinds) (now sends) (now spool) fill) ⌝ }
+    ensures does { λ c. ⌜ Checks (now (skinds .entry)) (now (sends .entry)) (now (spool .entry)) fill (now (skinds .exit)) (now (sends .exit)) (now (spool .exit)) (c .fill) (c .refusal) (boundOver (c .binds) (bindingsIn (now (bound .entry)) (now (pairs .entry)) (now (globals .entry)))) (now (memo .exit)) (beforeProof (roomOf (now (skinds .entry)) (now (spool .entry))) (programFor (now (job .entry))) (proofsFor (now (job .entry))) name (ofFact (factFor (now (job .entry)) i) 0) (bindingsIn (now (bound .entry)) (now (pairs .entry)) (now (globals .entry))) (termsIn (now (skinds .entry)) (now (sends .entry)) (now (spool .entry)) fill)) ⌝ }
+    ensures over { λ c. ⌜ (c .refusal .number ≡ 0 → c .settled ≡ isContainerSideCondition (programFor (now (job .entry))) (factFor (now (job .entry)) i)) ⌝ }
+    ensures kept { λ c. ⌜ (c .refusal .number ≡ 0 → Extends (termsIn (now (skinds .entry)) (now (sends .entry)) (now (spool .entry)) fill) (termsIn (now (skinds .exit)) (now (sends .exit)) (now (spool .exit)) (c .fill)) × Sane (programFor (now (job .entry))) (boundOver (c .binds) (bindingsIn (now (bound .entry)) (now (pairs .entry)) (now (globals .entry)))) (termsIn (now (skinds .exit)) (now (sends .exit)) (now (spool .exit)) (c .fill))) ⌝ }
     ensures waits { λ c. ⌜ (c .settled ≡ false → c .binds ≡ binds.Binds.Nothing) ⌝ }
 {
-    let offence = assert_body_proof_normal_form(kinds, ends, pool, z, found, name, i);
+    let offence = assert_body_proof_normal_form(job, found, name, i);
     if offence.number != 0 {
         return Stage {
             refusal: offence,
@@ -282,7 +276,7 @@ fn before_premise(
             fill,
         };
     }
-    if !is_container_side_condition(kinds, ends, pool, z, wide(i)) {
+    if !is_container_side_condition(job, wide(i)) {
         return Stage {
             refusal: offence,
             settled: false,
@@ -291,10 +285,7 @@ fn before_premise(
         };
     }
     let c = check_side_condition(
-        kinds,
-        ends,
-        pool,
-        z,
+        job,
         bound,
         pairs,
         globals,
@@ -333,10 +324,7 @@ fn over(c: Checked) -> Stage
 
 // Turn i of a rule's step: a fact before its premise or after it, or the head.
 fn advance_rule(
-    kinds: &[u32],
-    ends: &[u32],
-    pool: &[u32],
-    z: Sizes,
+    job: &[u32],
     found: &[u32],
     globals: &[u32],
     bound: &[u32],
@@ -355,25 +343,22 @@ fn advance_rule(
     i: usize,
     walked: usize,
 ) -> Stage
-    requires { ⌜ Ground (now kinds) (now ends) (now pool) z (now found) (now globals) (now skinds) (now sends) (now spool) fill (now memo) (now scratch) ⌝ }
-    requires { ⌜ p < z .proofs ⌝ }
-    requires { ⌜ Planned (now kinds) (now ends) (now pool) z p true r name second count ⌝ }
-    requires { ⌜ (true ≡ true → Sane (programFor (now kinds) (now ends) (now pool) z) (bindingsBy (now kinds) (now ends) (now pool) z p true (now bound) (now globals)) (termsIn (now skinds) (now sends) (now spool) fill)) ⌝ }
+    requires { ⌜ Ground (now job) (now found) (now globals) (now skinds) (now sends) (now spool) fill (now memo) (now scratch) ⌝ }
+    requires { ⌜ p < sizesOf (now job) .proofs ⌝ }
+    requires { ⌜ Planned (now job) p true r name second count ⌝ }
+    requires { ⌜ (true ≡ true → Sane (programFor (now job)) (bindingsBy (now job) p true (now bound) (now globals)) (termsIn (now skinds) (now sends) (now spool) fill)) ⌝ }
     requires { ⌜ length (now bound) ≤ 32 ⌝ }
     requires { ⌜ i ≤ count ⌝ }
-    ensures { λ c. ⌜ Advances (now (kinds .entry)) (now (ends .entry)) (now (pool .entry)) z (now (found .entry)) (now (globals .entry)) (now (unions .entry)) p true r name second count (now (bound .entry)) (now (skinds .entry)) (now (sends .entry)) (now (spool .entry)) fill (now (scratch .entry)) i walked (now (skinds .exit)) (now (sends .exit)) (now (spool .exit)) c (now (memo .exit)) (now (scratch .exit)) ⌝ }
+    ensures { λ c. ⌜ Advances (now (job .entry)) (now (found .entry)) (now (globals .entry)) (now (unions .entry)) p true r name second count (now (bound .entry)) (now (skinds .entry)) (now (sends .entry)) (now (spool .entry)) fill (now (scratch .entry)) i walked (now (skinds .exit)) (now (sends .exit)) (now (spool .exit)) c (now (memo .exit)) (now (scratch .exit)) ⌝ }
 {
-    let facts = rule_facts_at(kinds, ends, pool, z, r);
-    let pairs = substitution_at(kinds, ends, pool, z, wide(p));
+    let facts = rule_facts_at(job, r);
+    let pairs = substitution_at(job, wide(p));
     if count <= i {
-        let q = claim_at(kinds, ends, pool, z, wide(p));
+        let q = claim_at(job, wide(p));
         let c = skinds.len();
         let d = c + c;
         return over(check_rule_produces_equality(
-            kinds,
-            ends,
-            pool,
-            z,
+            job,
             bound,
             pairs,
             globals,
@@ -389,10 +374,7 @@ fn advance_rule(
     }
     if walked == 0 {
         return before_premise(
-            kinds,
-            ends,
-            pool,
-            z,
+            job,
             found,
             globals,
             bound,
@@ -406,13 +388,10 @@ fn advance_rule(
             facts[i],
         );
     }
-    let premises = premises_at(kinds, ends, pool, z, wide(p));
-    let q = claim_at(kinds, ends, pool, z, wide(premises[i]));
+    let premises = premises_at(job, wide(p));
+    let q = claim_at(job, wide(premises[i]));
     over(check_fact_matches_proposition(
-        kinds,
-        ends,
-        pool,
-        z,
+        job,
         bound,
         pairs,
         globals,
@@ -429,10 +408,7 @@ fn advance_rule(
 
 // Turn i of a rule's step, or the end of another.
 pub fn advance(
-    kinds: &[u32],
-    ends: &[u32],
-    pool: &[u32],
-    z: Sizes,
+    job: &[u32],
     found: &[u32],
     globals: &[u32],
     unions: &[u32],
@@ -452,21 +428,18 @@ pub fn advance(
     i: usize,
     walked: usize,
 ) -> Stage
-    requires { ⌜ Ground (now kinds) (now ends) (now pool) z (now found) (now globals) (now skinds) (now sends) (now spool) fill (now memo) (now scratch) ⌝ }
-    requires { ⌜ p < z .proofs ⌝ }
-    requires { ⌜ Planned (now kinds) (now ends) (now pool) z p rule r first second count ⌝ }
-    requires { ⌜ (rule ≡ true → Sane (programFor (now kinds) (now ends) (now pool) z) (bindingsBy (now kinds) (now ends) (now pool) z p rule (now bound) (now globals)) (termsIn (now skinds) (now sends) (now spool) fill)) ⌝ }
+    requires { ⌜ Ground (now job) (now found) (now globals) (now skinds) (now sends) (now spool) fill (now memo) (now scratch) ⌝ }
+    requires { ⌜ p < sizesOf (now job) .proofs ⌝ }
+    requires { ⌜ Planned (now job) p rule r first second count ⌝ }
+    requires { ⌜ (rule ≡ true → Sane (programFor (now job)) (bindingsBy (now job) p rule (now bound) (now globals)) (termsIn (now skinds) (now sends) (now spool) fill)) ⌝ }
     requires { ⌜ length (now bound) ≤ 32 ⌝ }
     requires { ⌜ i ≤ count ⌝ }
     requires { ⌜ (rule ≡ false → count ≤ i) ⌝ }
-    ensures { λ c. ⌜ Advances (now (kinds .entry)) (now (ends .entry)) (now (pool .entry)) z (now (found .entry)) (now (globals .entry)) (now (unions .entry)) p rule r first second count (now (bound .entry)) (now (skinds .entry)) (now (sends .entry)) (now (spool .entry)) fill (now (scratch .entry)) i walked (now (skinds .exit)) (now (sends .exit)) (now (spool .exit)) c (now (memo .exit)) (now (scratch .exit)) ⌝ }
+    ensures { λ c. ⌜ Advances (now (job .entry)) (now (found .entry)) (now (globals .entry)) (now (unions .entry)) p rule r first second count (now (bound .entry)) (now (skinds .entry)) (now (sends .entry)) (now (spool .entry)) fill (now (scratch .entry)) i walked (now (skinds .exit)) (now (sends .exit)) (now (spool .exit)) c (now (memo .exit)) (now (scratch .exit)) ⌝ }
 {
     if rule {
         return advance_rule(
-            kinds,
-            ends,
-            pool,
-            z,
+            job,
             found,
             globals,
             bound,
@@ -486,18 +459,5 @@ pub fn advance(
             walked,
         );
     }
-    over(conclude(
-        kinds,
-        ends,
-        pool,
-        z,
-        unions,
-        skinds,
-        sends,
-        spool,
-        fill,
-        memo,
-        scratch,
-        p,
-    ))
+    over(conclude(job, unions, skinds, sends, spool, fill, memo, scratch, p))
 }

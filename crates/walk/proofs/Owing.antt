@@ -9,6 +9,7 @@ use native.Mathlib.Omega.{arith}
 use native.Mathlib.Decide.{decLt}
 use lib.ListN.{length, getD, take, drop, drop-of-length-le}
 use lib.Seq.{drop-cons}
+use Rattle.model.specs.Layout.{sizesOf}
 use Rattle.model.specs.Term.{Term}
 use Rattle.model.specs.Program.{Proposition, Binding, Program, Rule, Proof, Justification}
 use Rattle.model.specs.Check.{Outcome, ok, refused, Check, andThen, _>>=_, pure, choose, Room}
@@ -18,7 +19,6 @@ use Rattle.termdag.specs.Store.{termsIn, roomOf}
 use Rattle.outcome.specs.Does.{passed, Grown}
 use Rattle.outcome.specs.declared.Refusal.{Refusal}
 use Rattle.outcome.proofs.Laws.{does-here, grown-same}
-use Rattle.load.specs.declared.sizes.Sizes.{Sizes}
 use Rattle.program.specs.Ready.{programFor}
 use Rattle.program.specs.Read.{proofsFor, pairsFor}
 use Rattle.evaluate.specs.Evaluation.{Sane}
@@ -108,12 +108,12 @@ module _ (room : Room) (prog : Program) (proofs : List Proof) (name : ℕ) (sub 
       ∙ walked (sub (proofOf t) d s) t ts σ
 
 -- the step of proof p, of which a part is done
-module _ (K E P : List ℕ) (z : Sizes) (F G U : List ℕ) (p : ℕ) where
+module _ (J : List ℕ) (F G U : List ℕ) (p : ℕ) where
   abbrev prog : Program
-  prog = programFor K E P z
+  prog = programFor J
 
   abbrev proofs : List Proof
-  proofs = proofsFor K E P z
+  proofs = proofsFor J
 
   abbrev pub sub : Room → List Proposition → ℕ → List ℕ → Check (List ℕ)
   sub room ps = checkProofWithContext room prog proofs (contextOf G ps) p
@@ -124,7 +124,7 @@ module _ (K E P : List ℕ) (z : Sizes) (F G U : List ℕ) (p : ℕ) where
   -- from the store k₀ on the step came to the store k with the bindings σ, and the rest is owed
   pub record Owes (k₀ e₀ p₀ : List ℕ) (f₀ : Fill) (W₀ k e q : List ℕ) (f : Fill) (memo W : List ℕ) (σ : List Binding) (rest : Room → List Proposition → List Binding × List ℕ → Check (List ℕ)) : Type 0 where
     pub part : Room → List Proposition → List ℕ → Check (List Binding × List ℕ)
-    pub walks : Walks {A = List Binding × List ℕ} K E P z F G U k₀ e₀ p₀ f₀ W₀ k e q f passed memo W (λ d. (σ, d)) part
+    pub walks : Walks {A = List Binding × List ℕ} J F G U k₀ e₀ p₀ f₀ W₀ k e q f passed memo W (λ d. (σ, d)) part
     pub same : (ps : List Proposition) (done : List ℕ) → andThen (part (roomOf k₀ p₀) ps done (termsIn k₀ e₀ p₀ f₀)) (rest (roomOf k₀ p₀) ps) ≡ stepOf (roomOf k₀ p₀) ps done (termsIn k₀ e₀ p₀ f₀)
 
   module _ {k₀ e₀ p₀ : List ℕ} {f₀ : Fill} {W₀ k e q : List ℕ} {f : Fill} {memo W : List ℕ} {σ : List Binding} {rest : Room → List Proposition → List Binding × List ℕ → Check (List ℕ)}
@@ -136,7 +136,7 @@ module _ (K E P : List ℕ) (z : Sizes) (F G U : List ℕ) (p : ℕ) where
 
     module _ (c : Room → List Proposition → List Binding × List ℕ → Check (List Binding × List ℕ)) (next : Room → List Proposition → List Binding × List ℕ → Check (List ℕ))
         (eq : (room : Room) (ps : List Proposition) (b : List Binding × List ℕ) (s : List Term) → rest room ps b s ≡ andThen (c room ps b s) (next room ps))
-        {k₁ e₁ p₁ : List ℕ} {f₁ : Fill} {r : Refusal} {memo₁ W₁ : List ℕ} {τ : List Binding} (v : Walks {A = List Binding × List ℕ} K E P z F G U k e q f W k₁ e₁ p₁ f₁ r memo₁ W₁ (λ d. (τ, d)) (λ room ps done. c room ps (σ, done))) where
+        {k₁ e₁ p₁ : List ℕ} {f₁ : Fill} {r : Refusal} {memo₁ W₁ : List ℕ} {τ : List Binding} (v : Walks {A = List Binding × List ℕ} J F G U k e q f W k₁ e₁ p₁ f₁ r memo₁ W₁ (λ d. (τ, d)) (λ room ps done. c room ps (σ, done))) where
       abbrev longer : Room → List Proposition → List ℕ → Check (List Binding × List ℕ)
       longer room ps done s = andThen (O .part room ps done s) (c room ps)
 
@@ -148,45 +148,45 @@ module _ (K E P : List ℕ) (z : Sizes) (F G U : List ℕ) (p : ℕ) where
       pub owes-then : r .number ≡ 0 → Owes k₀ e₀ p₀ f₀ W₀ k₁ e₁ p₁ f₁ memo₁ W₁ τ next
       owes-then n = record { part = longer; walks = walks-passed n (walks-then (O .walks) c refl v); same = all-same }
 
-      pub owes-stop : (r .number ≡ 0 → ⊥) → Walks K E P z F G U k₀ e₀ p₀ f₀ W₀ k₁ e₁ p₁ f₁ r memo₁ W₁ (λ d. d) stepOf
+      pub owes-stop : (r .number ≡ 0 → ⊥) → Walks J F G U k₀ e₀ p₀ f₀ W₀ k₁ e₁ p₁ f₁ r memo₁ W₁ (λ d. d) stepOf
       owes-stop n = walks-as {o = λ room ps done s. andThen (longer room ps done s) (next room ps)} all-same (walks-stop (walks-then (O .walks) c refl v) (λ d. d) next n)
 
   -- nothing is owed
   pub owes-none : {k₀ e₀ p₀ : List ℕ} {f₀ : Fill} {W₀ k e q : List ℕ} {f : Fill} {memo W : List ℕ} {σ : List Binding} → Owes k₀ e₀ p₀ f₀ W₀ k e q f memo W σ (λ room ps b. pure (b .1))
-      → Walks K E P z F G U k₀ e₀ p₀ f₀ W₀ k e q f passed memo W (λ d. d) stepOf
+      → Walks J F G U k₀ e₀ p₀ f₀ W₀ k e q f passed memo W (λ d. d) stepOf
   owes-none O = walks-as {o = λ room ps done s. andThen (O .part room ps done s) (λ b. pure (b .1))} (O .same)
       (walks-then (O .walks) (λ room ps b. pure (b .1)) refl (walks-here (O .walks .after refl .ground) (λ ps done y. does-here (O .walks .after refl .ground .stored) refl)))
 
 -- a step, turn by turn
-module _ (K E P : List ℕ) (z : Sizes) (F G U : List ℕ) (p : ℕ) (rule : Bool) (r first second count : ℕ) where
+module _ (J : List ℕ) (F G U : List ℕ) (p : ℕ) (rule : Bool) (r first second count : ℕ) where
   abbrev turns : List Turn
-  turns = turnsBy K E P z p rule r first second count
+  turns = turnsBy J p rule r first second count
 
   abbrev bindings : List ℕ → List Binding
-  bindings X = bindingsBy K E P z p rule X G
+  bindings X = bindingsBy J p rule X G
 
   abbrev rest : List Turn → ℕ → Room → List Proposition → List Binding × List ℕ → Check (List ℕ)
-  rest ts v room ps = restOf room (prog K E P z F G U p) (proofs K E P z F G U p) first (sub K E P z F G U p room ps) ps p (claimAt (proofs K E P z F G U p) p) (getD (proofs K E P z F G U p) p noProof .justification) (headBy K E P z rule r) ts v
+  rest ts v room ps = restOf room (prog J F G U p) (proofs J F G U p) first (sub J F G U p room ps) ps p (claimAt (proofs J F G U p) p) (getD (proofs J F G U p) p noProof .justification) (headBy J rule r) ts v
 
   abbrev next : List Turn → ℕ → Room → List Proposition → List Binding × List ℕ → Check (List ℕ)
-  next ts v room ps = nextOf room (prog K E P z F G U p) (proofs K E P z F G U p) first (sub K E P z F G U p room ps) ps p (claimAt (proofs K E P z F G U p) p) (getD (proofs K E P z F G U p) p noProof .justification) (headBy K E P z rule r) ts v
+  next ts v room ps = nextOf room (prog J F G U p) (proofs J F G U p) first (sub J F G U p room ps) ps p (claimAt (proofs J F G U p) p) (getD (proofs J F G U p) p noProof .justification) (headBy J rule r) ts v
 
   abbrev stage : List Turn → ℕ → Room → List Proposition → List Binding × List ℕ → Check (List Binding × List ℕ)
-  stage ts v room ps = stagePart room (prog K E P z F G U p) (proofs K E P z F G U p) first (sub K E P z F G U p room ps) ps p (claimAt (proofs K E P z F G U p) p) (getD (proofs K E P z F G U p) p noProof .justification) (headBy K E P z rule r) ts v
+  stage ts v room ps = stagePart room (prog J F G U p) (proofs J F G U p) first (sub J F G U p room ps) ps p (claimAt (proofs J F G U p) p) (getD (proofs J F G U p) p noProof .justification) (headBy J rule r) ts v
 
   advance-is : (ts : List Turn) (v : ℕ) (room : Room) (ps : List Proposition) (b : List Binding × List ℕ) (s : List Term) → rest ts v room ps b s ≡ andThen (stage ts v room ps b s) (next ts v room ps)
-  advance-is ts v room ps b s = rest-next room (prog K E P z F G U p) (proofs K E P z F G U p) first (sub K E P z F G U p room ps) ps p (claimAt (proofs K E P z F G U p) p) (getD (proofs K E P z F G U p) p noProof .justification) (headBy K E P z rule r) ts v b s
+  advance-is ts v room ps b s = rest-next room (prog J F G U p) (proofs J F G U p) first (sub J F G U p room ps) ps p (claimAt (proofs J F G U p) p) (getD (proofs J F G U p) p noProof .justification) (headBy J rule r) ts v b s
 
-  settled-is : (t : Turn) (ts : List Turn) → isSettled (programFor K E P z) t ≡ true → (room : Room) (ps : List Proposition) (b : List Binding × List ℕ) (s : List Term) → next (t ∷ ts) 0 room ps b s ≡ rest ts 0 room ps b s
-  settled-is t ts e room ps b s = next-settled room (prog K E P z F G U p) (proofs K E P z F G U p) first (sub K E P z F G U p room ps) ps p (claimAt (proofs K E P z F G U p) p) (getD (proofs K E P z F G U p) p noProof .justification) (headBy K E P z rule r) t ts b s e
+  settled-is : (t : Turn) (ts : List Turn) → isSettled (programFor J) t ≡ true → (room : Room) (ps : List Proposition) (b : List Binding × List ℕ) (s : List Term) → next (t ∷ ts) 0 room ps b s ≡ rest ts 0 room ps b s
+  settled-is t ts e room ps b s = next-settled room (prog J F G U p) (proofs J F G U p) first (sub J F G U p room ps) ps p (claimAt (proofs J F G U p) p) (getD (proofs J F G U p) p noProof .justification) (headBy J rule r) t ts b s e
 
   abbrev walks : Turn → Room → List Proposition → List Binding × List ℕ → Check (List Binding × List ℕ)
-  walks t room ps = walkPart room (prog K E P z F G U p) (proofs K E P z F G U p) first (sub K E P z F G U p room ps) ps p (claimAt (proofs K E P z F G U p) p) (getD (proofs K E P z F G U p) p noProof .justification) (headBy K E P z rule r) t
+  walks t room ps = walkPart room (prog J F G U p) (proofs J F G U p) first (sub J F G U p room ps) ps p (claimAt (proofs J F G U p) p) (getD (proofs J F G U p) p noProof .justification) (headBy J rule r) t
 
-  walk-is : (t : Turn) (ts : List Turn) → isSettled (programFor K E P z) t ≡ false → (room : Room) (ps : List Proposition) (b : List Binding × List ℕ) (s : List Term) → next (t ∷ ts) 0 room ps b s ≡ andThen (walks t room ps b s) (rest (t ∷ ts) 2 room ps)
-  walk-is t ts e room ps b s = next-walk room (prog K E P z F G U p) (proofs K E P z F G U p) first (sub K E P z F G U p room ps) ps p (claimAt (proofs K E P z F G U p) p) (getD (proofs K E P z F G U p) p noProof .justification) (headBy K E P z rule r) t ts b s e
+  walk-is : (t : Turn) (ts : List Turn) → isSettled (programFor J) t ≡ false → (room : Room) (ps : List Proposition) (b : List Binding × List ℕ) (s : List Term) → next (t ∷ ts) 0 room ps b s ≡ andThen (walks t room ps b s) (rest (t ∷ ts) 2 room ps)
+  walk-is t ts e room ps b s = next-walk room (prog J F G U p) (proofs J F G U p) first (sub J F G U p room ps) ps p (claimAt (proofs J F G U p) p) (getD (proofs J F G U p) p noProof .justification) (headBy J rule r) t ts b s e
 
-  proof-turn : (m : Bool) → m ≡ false → (j : ℕ) → (x : ℕ) × (getD (turnsBy K E P z p m r first second count) j noTurn ≡ ofProof x)
+  proof-turn : (m : Bool) → m ≡ false → (j : ℕ) → (x : ℕ) × (getD (turnsBy J p m r first second count) j noTurn ≡ ofProof x)
   proof-turn true e j = absurd (true≢false e)
   proof-turn false e j = go (take count (first ∷ second ∷ [])) j
     where
@@ -205,38 +205,38 @@ module _ (K E P : List ℕ) (z : Sizes) (F G U : List ℕ) (p : ℕ) (rule : Boo
     pub lenMemo : length memo ≡ length memo₀
     pub lenW : length W ≡ length W₀
     pub grown : Grown k₀ e₀ p₀ f₀ k e q f
-    pub sane : rule ≡ true → i ≤ count → Sane (programFor K E P z) (bindings (drop at T)) (termsIn k e q f)
-    pub owes : i ≤ count → (s ≡ 1 → ⊥) → Owes K E P z F G U p k₀ e₀ p₀ f₀ W₀ k e q f memo W (bindings (drop at T)) (rest (drop i turns) s)
-    pub due : s ≡ 1 → (i < count) × (isSettled (programFor K E P z) (getD turns i noTurn) ≡ false) × Owes K E P z F G U p k₀ e₀ p₀ f₀ W₀ k e q f memo W (bindings (drop at T)) (next (getD turns i noTurn ∷ drop (suc i) turns) 0)
+    pub sane : rule ≡ true → i ≤ count → Sane (programFor J) (bindings (drop at T)) (termsIn k e q f)
+    pub owes : i ≤ count → (s ≡ 1 → ⊥) → Owes J F G U p k₀ e₀ p₀ f₀ W₀ k e q f memo W (bindings (drop at T)) (rest (drop i turns) s)
+    pub due : s ≡ 1 → (i < count) × (isSettled (programFor J) (getD turns i noTurn) ≡ false) × Owes J F G U p k₀ e₀ p₀ f₀ W₀ k e q f memo W (bindings (drop at T)) (next (getD turns i noTurn ∷ drop (suc i) turns) 0)
     pub ends : rule ≡ false → (s ≡ 1 → ⊥) → count ≤ i
-    pub ended : i ≡ suc count → Walks K E P z F G U k₀ e₀ p₀ f₀ W₀ k e q f passed memo W (λ d. d) (stepOf K E P z F G U p)
+    pub ended : i ≡ suc count → Walks J F G U k₀ e₀ p₀ f₀ W₀ k e q f passed memo W (λ d. d) (stepOf J F G U p)
 
-  module _ (S : Planned K E P z p rule r first second count) where
+  module _ (S : Planned J p rule r first second count) where
     left-at : {i : ℕ} → i < count → drop i turns ≡ getD turns i noTurn ∷ drop (suc i) turns
     left-at {i} l = drop-cons turns i noTurn (let m = S .long in omega arith)
 
     -- a turn that starts
-    module _ {k₀ e₀ p₀ : List ℕ} {f₀ : Fill} {W₀ k e q : List ℕ} {f : Fill} {memo W : List ℕ} {σ : List Binding} {i s : ℕ} (O : Owes K E P z F G U p k₀ e₀ p₀ f₀ W₀ k e q f memo W σ (rest (drop i turns) 0)) (x : Starts rule count i s) where
-      starts-owes : (s ≡ 1 → ⊥) → Owes K E P z F G U p k₀ e₀ p₀ f₀ W₀ k e q f memo W σ (rest (drop i turns) s)
+    module _ {k₀ e₀ p₀ : List ℕ} {f₀ : Fill} {W₀ k e q : List ℕ} {f : Fill} {memo W : List ℕ} {σ : List Binding} {i s : ℕ} (O : Owes J F G U p k₀ e₀ p₀ f₀ W₀ k e q f memo W σ (rest (drop i turns) 0)) (x : Starts rule count i s) where
+      starts-owes : (s ≡ 1 → ⊥) → Owes J F G U p k₀ e₀ p₀ f₀ W₀ k e q f memo W σ (rest (drop i turns) s)
       starts-owes n = go s (x .few) n
         where
-          go : (m : ℕ) → m ≤ 1 → (m ≡ 1 → ⊥) → Owes K E P z F G U p k₀ e₀ p₀ f₀ W₀ k e q f memo W σ (rest (drop i turns) m)
+          go : (m : ℕ) → m ≤ 1 → (m ≡ 1 → ⊥) → Owes J F G U p k₀ e₀ p₀ f₀ W₀ k e q f memo W σ (rest (drop i turns) m)
           go zero l n = O
           go (suc zero) l n = absurd (n refl)
           go (suc (suc m)) l n = absurd (omega arith)
 
-      starts-due : s ≡ 1 → (i < count) × (isSettled (programFor K E P z) (getD turns i noTurn) ≡ false) × Owes K E P z F G U p k₀ e₀ p₀ f₀ W₀ k e q f memo W σ (next (getD turns i noTurn ∷ drop (suc i) turns) 0)
+      starts-due : s ≡ 1 → (i < count) × (isSettled (programFor J) (getD turns i noTurn) ≡ false) × Owes J F G U p k₀ e₀ p₀ f₀ W₀ k e q f memo W σ (next (getD turns i noTurn ∷ drop (suc i) turns) 0)
       starts-due u =
           let l = x .walks u in
           let y = proof-turn rule (l .0) i in (
             l .1,
-            ap (isSettled (programFor K E P z)) (y .1),
-            subst⁻¹ (λ (t : Turn). Owes K E P z F G U p k₀ e₀ p₀ f₀ W₀ k e q f memo W σ (next (t ∷ drop (suc i) turns) 0)) (y .1)
-                (owes-as K E P z F G U p {rest = rest (ofProof (y .0) ∷ drop (suc i) turns) 0} (subst (λ (ts : List Turn). Owes K E P z F G U p k₀ e₀ p₀ f₀ W₀ k e q f memo W σ (rest ts 0)) (left-at (l .1) ∙ ap (λ (t : Turn). t ∷ drop (suc i) turns) (y .1)) O)
+            ap (isSettled (programFor J)) (y .1),
+            subst⁻¹ (λ (t : Turn). Owes J F G U p k₀ e₀ p₀ f₀ W₀ k e q f memo W σ (next (t ∷ drop (suc i) turns) 0)) (y .1)
+                (owes-as J F G U p {rest = rest (ofProof (y .0) ∷ drop (suc i) turns) 0} (subst (λ (ts : List Turn). Owes J F G U p k₀ e₀ p₀ f₀ W₀ k e q f memo W σ (rest ts 0)) (left-at (l .1) ∙ ap (λ (t : Turn). t ∷ drop (suc i) turns) (y .1)) O)
                 (advance-is (ofProof (y .0) ∷ drop (suc i) turns) 0)),
           )
 
-    pub task-start : {k e q : List ℕ} {f : Fill} {memo W T : List ℕ} {s : ℕ} → Ground K E P z F G k e q f memo W → (rule ≡ true → Sane (programFor K E P z) (bindings []) (termsIn k e q f)) → length T ≡ 34 → Starts rule count 0 s
+    pub task-start : {k e q : List ℕ} {f : Fill} {memo W T : List ℕ} {s : ℕ} → Ground J F G k e q f memo W → (rule ≡ true → Sane (programFor J) (bindings []) (termsIn k e q f)) → length T ≡ 34 → Starts rule count 0 s
         → Task k e q f memo W k e q f memo W T 34 0 s
     task-start {k} {e} {q} {f} {memo} {W} {T} {s} g w l x = record {
       few = let m = x .few in omega arith;
@@ -247,7 +247,7 @@ module _ (K E P : List ℕ) (z : Sizes) (F G U : List ℕ) (p : ℕ) (rule : Boo
       lenMemo = refl;
       lenW = refl;
       grown = grown-same (g .stored);
-      sane = λ u _. subst⁻¹ (λ (X : List ℕ). Sane (programFor K E P z) (bindings X) (termsIn k e q f)) nothing (w u);
+      sane = λ u _. subst⁻¹ (λ (X : List ℕ). Sane (programFor J) (bindings X) (termsIn k e q f)) nothing (w u);
       owes = λ _. starts-owes whole x;
       due = starts-due whole x;
       ends = x .ends;
@@ -257,46 +257,46 @@ module _ (K E P : List ℕ) (z : Sizes) (F G U : List ℕ) (p : ℕ) (rule : Boo
         nothing : drop 34 T ≡ []
         nothing = drop-of-length-le T {i = 34} (omega arith)
 
-        whole : Owes K E P z F G U p k e q f W k e q f memo W (bindings (drop 34 T)) (rest turns 0)
-        whole = subst⁻¹ (λ (X : List ℕ). Owes K E P z F G U p k e q f W k e q f memo W (bindings X) (rest turns 0)) nothing (record {
+        whole : Owes J F G U p k e q f W k e q f memo W (bindings (drop 34 T)) (rest turns 0)
+        whole = subst⁻¹ (λ (X : List ℕ). Owes J F G U p k e q f W k e q f memo W (bindings X) (rest turns 0)) nothing (record {
           part = λ room ps done. pure (bindings [], done);
           walks = walks-here g (λ ps done y. does-here (g .stored) refl);
-          same = λ ps done. S .step (roomOf k q) G ps (sub K E P z F G U p (roomOf k q) ps) done (termsIn k e q f);
+          same = λ ps done. S .step (roomOf k q) G ps (sub J F G U p (roomOf k q) ps) done (termsIn k e q f);
         })
 
     -- a stage
     module _ {k₀ e₀ p₀ : List ℕ} {f₀ : Fill} {memo₀ W₀ k e q : List ℕ} {f : Fill} {memo W T : List ℕ} {at i v : ℕ} (t : Task k₀ e₀ p₀ f₀ memo₀ W₀ k e q f memo W T at i v) (h : i ≤ count) (v≢1 : v ≡ 1 → ⊥) where
-      pub task-ground : Ground K E P z F G k e q f memo W
+      pub task-ground : Ground J F G k e q f memo W
       task-ground = t .owes h v≢1 .walks .after refl .ground
 
-      module _ {k₁ e₁ p₁ : List ℕ} (c : Stage) {memo₁ W₁ : List ℕ} {X : List ℕ} (x : X ≡ drop at T) (d : Advances K E P z F G U p rule r first second count X k e q f W i v k₁ e₁ p₁ c memo₁ W₁) where
+      module _ {k₁ e₁ p₁ : List ℕ} (c : Stage) {memo₁ W₁ : List ℕ} {X : List ℕ} (x : X ≡ drop at T) (d : Advances J F G U p rule r first second count X k e q f W i v k₁ e₁ p₁ c memo₁ W₁) where
         abbrev σ : List Binding
         σ = bindings (drop at T)
 
-        here : Advances K E P z F G U p rule r first second count (drop at T) k e q f W i v k₁ e₁ p₁ c memo₁ W₁
-        here = subst (λ (Y : List ℕ). Advances K E P z F G U p rule r first second count Y k e q f W i v k₁ e₁ p₁ c memo₁ W₁) x d
+        here : Advances J F G U p rule r first second count (drop at T) k e q f W i v k₁ e₁ p₁ c memo₁ W₁
+        here = subst (λ (Y : List ℕ). Advances J F G U p rule r first second count Y k e q f W i v k₁ e₁ p₁ c memo₁ W₁) x d
 
-        pub task-refused : (c .refusal .number ≡ 0 → ⊥) → Walks K E P z F G U k₀ e₀ p₀ f₀ W₀ k₁ e₁ p₁ (c .fill) (c .refusal) memo₁ W₁ (λ y. y) (stepOf K E P z F G U p)
-        task-refused n = owes-stop K E P z F G U p (t .owes h v≢1) (stage (drop i turns) v) (next (drop i turns) v)
+        pub task-refused : (c .refusal .number ≡ 0 → ⊥) → Walks J F G U k₀ e₀ p₀ f₀ W₀ k₁ e₁ p₁ (c .fill) (c .refusal) memo₁ W₁ (λ y. y) (stepOf J F G U p)
+        task-refused n = owes-stop J F G U p (t .owes h v≢1) (stage (drop i turns) v) (next (drop i turns) v)
             (advance-is (drop i turns) v) (here .walks) n
 
-        advanced : c .refusal .number ≡ 0 → Owes K E P z F G U p k₀ e₀ p₀ f₀ W₀ k₁ e₁ p₁ (c .fill) memo₁ W₁ (boundOver (c .binds) σ) (next (drop i turns) v)
-        advanced n = owes-then K E P z F G U p (t .owes h v≢1) (stage (drop i turns) v) (next (drop i turns) v)
+        advanced : c .refusal .number ≡ 0 → Owes J F G U p k₀ e₀ p₀ f₀ W₀ k₁ e₁ p₁ (c .fill) memo₁ W₁ (boundOver (c .binds) σ) (next (drop i turns) v)
+        advanced n = owes-then J F G U p (t .owes h v≢1) (stage (drop i turns) v) (next (drop i turns) v)
             (advance-is (drop i turns) v) (here .walks) n
 
         -- no proof is walked: the next turn, or the end
-        after-over : c .refusal .number ≡ 0 → c .settled ≡ true → i < count → Owes K E P z F G U p k₀ e₀ p₀ f₀ W₀ k₁ e₁ p₁ (c .fill) memo₁ W₁ (boundOver (c .binds) σ) (rest (drop (suc i) turns) 0)
+        after-over : c .refusal .number ≡ 0 → c .settled ≡ true → i < count → Owes J F G U p k₀ e₀ p₀ f₀ W₀ k₁ e₁ p₁ (c .fill) memo₁ W₁ (boundOver (c .binds) σ) (rest (drop (suc i) turns) 0)
         after-over n s l = go v (getD turns i noTurn) (left-at l) (sym (here .over n) ∙ s) (advanced n)
           where
-            go : (w : ℕ) (u : Turn) → drop i turns ≡ u ∷ drop (suc i) turns → isOver (programFor K E P z) (drop i turns) w ≡ true
-                → Owes K E P z F G U p k₀ e₀ p₀ f₀ W₀ k₁ e₁ p₁ (c .fill) memo₁ W₁ (boundOver (c .binds) σ) (next (drop i turns) w)
-                → Owes K E P z F G U p k₀ e₀ p₀ f₀ W₀ k₁ e₁ p₁ (c .fill) memo₁ W₁ (boundOver (c .binds) σ) (rest (drop (suc i) turns) 0)
-            go zero u y o O = owes-as K E P z F G U p (subst (λ (ts : List Turn). Owes K E P z F G U p k₀ e₀ p₀ f₀ W₀ k₁ e₁ p₁ (c .fill) memo₁ W₁ (boundOver (c .binds) σ) (next ts 0)) y O)
-                (settled-is u (drop (suc i) turns) (sym (ap (λ (ts : List Turn). isOver (programFor K E P z) ts 0) y) ∙ o))
-            go (suc w) u y o O = subst (λ (ts : List Turn). Owes K E P z F G U p k₀ e₀ p₀ f₀ W₀ k₁ e₁ p₁ (c .fill) memo₁ W₁ (boundOver (c .binds) σ) (next ts (suc w))) y O
+            go : (w : ℕ) (u : Turn) → drop i turns ≡ u ∷ drop (suc i) turns → isOver (programFor J) (drop i turns) w ≡ true
+                → Owes J F G U p k₀ e₀ p₀ f₀ W₀ k₁ e₁ p₁ (c .fill) memo₁ W₁ (boundOver (c .binds) σ) (next (drop i turns) w)
+                → Owes J F G U p k₀ e₀ p₀ f₀ W₀ k₁ e₁ p₁ (c .fill) memo₁ W₁ (boundOver (c .binds) σ) (rest (drop (suc i) turns) 0)
+            go zero u y o O = owes-as J F G U p (subst (λ (ts : List Turn). Owes J F G U p k₀ e₀ p₀ f₀ W₀ k₁ e₁ p₁ (c .fill) memo₁ W₁ (boundOver (c .binds) σ) (next ts 0)) y O)
+                (settled-is u (drop (suc i) turns) (sym (ap (λ (ts : List Turn). isOver (programFor J) ts 0) y) ∙ o))
+            go (suc w) u y o O = subst (λ (ts : List Turn). Owes J F G U p k₀ e₀ p₀ f₀ W₀ k₁ e₁ p₁ (c .fill) memo₁ W₁ (boundOver (c .binds) σ) (next ts (suc w))) y O
 
-        after-end : c .refusal .number ≡ 0 → i ≡ count → Walks K E P z F G U k₀ e₀ p₀ f₀ W₀ k₁ e₁ p₁ (c .fill) passed memo₁ W₁ (λ y. y) (stepOf K E P z F G U p)
-        after-end n l = owes-none K E P z F G U p (subst (λ (ts : List Turn). Owes K E P z F G U p k₀ e₀ p₀ f₀ W₀ k₁ e₁ p₁ (c .fill) memo₁ W₁ (boundOver (c .binds) σ) (next ts v)) none-left (advanced n))
+        after-end : c .refusal .number ≡ 0 → i ≡ count → Walks J F G U k₀ e₀ p₀ f₀ W₀ k₁ e₁ p₁ (c .fill) passed memo₁ W₁ (λ y. y) (stepOf J F G U p)
+        after-end n l = owes-none J F G U p (subst (λ (ts : List Turn). Owes J F G U p k₀ e₀ p₀ f₀ W₀ k₁ e₁ p₁ (c .fill) memo₁ W₁ (boundOver (c .binds) σ) (next ts v)) none-left (advanced n))
           where
             none-left : drop i turns ≡ []
             none-left = drop-of-length-le turns {i = i} (let m = S .long in omega arith)
@@ -305,9 +305,9 @@ module _ (K E P : List ℕ) (z : Sizes) (F G U : List ℕ) (p : ℕ) (rule : Boo
           bound : boundOver (c .binds) σ ≡ bindings (drop at₁ T₁)
           bound = go rule refl
             where
-              go : (m : Bool) → rule ≡ m → boundOver (c .binds) (bindingsBy K E P z p m (drop at T) G) ≡ bindingsBy K E P z p m (drop at₁ T₁) G
-              go true e = sym (b _) ∙ pushed-bindings (pairsFor K E P z p) G ps
-              go false e = ap (λ (w : Binds). boundOver w (bindingsBy K E P z p false (drop at T) G)) (here .plain e)
+              go : (m : Bool) → rule ≡ m → boundOver (c .binds) (bindingsBy J p m (drop at T) G) ≡ bindingsBy J p m (drop at₁ T₁) G
+              go true e = sym (b _) ∙ pushed-bindings (pairsFor J p) G ps
+              go false e = ap (λ (w : Binds). boundOver w (bindingsBy J p false (drop at T) G)) (here .plain e)
 
           pub task-settles : c .refusal .number ≡ 0 → c .settled ≡ true → length T₁ ≡ length T → length memo₁ ≡ length memo → length W₁ ≡ length W → Grown k₀ e₀ p₀ f₀ k₁ e₁ p₁ (c .fill)
               → Task k₀ e₀ p₀ f₀ memo₀ W₀ k₁ e₁ p₁ (c .fill) memo₁ W₁ T₁ at₁ (i + 1) 0
@@ -320,9 +320,9 @@ module _ (K E P : List ℕ) (z : Sizes) (F G U : List ℕ) (p : ℕ) (rule : Boo
             lenMemo = lMemo ∙ t .lenMemo;
             lenW = lW ∙ t .lenW;
             grown = gr;
-            sane = λ u l. subst (λ (ρ : List Binding). Sane (programFor K E P z) ρ (termsIn k₁ e₁ p₁ (c .fill))) bound (here .sane u n);
-            owes = λ l _. subst⁻¹ (λ (m : ℕ). Owes K E P z F G U p k₀ e₀ p₀ f₀ W₀ k₁ e₁ p₁ (c .fill) memo₁ W₁ (bindings (drop at₁ T₁)) (rest (drop m turns) 0)) (add-one i)
-                (subst (λ (ρ : List Binding). Owes K E P z F G U p k₀ e₀ p₀ f₀ W₀ k₁ e₁ p₁ (c .fill) memo₁ W₁ ρ (rest (drop (suc i) turns) 0)) bound (after-over n s (omega arith)));
+            sane = λ u l. subst (λ (ρ : List Binding). Sane (programFor J) ρ (termsIn k₁ e₁ p₁ (c .fill))) bound (here .sane u n);
+            owes = λ l _. subst⁻¹ (λ (m : ℕ). Owes J F G U p k₀ e₀ p₀ f₀ W₀ k₁ e₁ p₁ (c .fill) memo₁ W₁ (bindings (drop at₁ T₁)) (rest (drop m turns) 0)) (add-one i)
+                (subst (λ (ρ : List Binding). Owes J F G U p k₀ e₀ p₀ f₀ W₀ k₁ e₁ p₁ (c .fill) memo₁ W₁ ρ (rest (drop (suc i) turns) 0)) bound (after-over n s (omega arith)));
             due = λ u. absurd (omega arith);
             ends = λ u _. let l = t .ends u v≢1 in omega arith;
             ended = λ u. after-end n (omega arith);
@@ -330,16 +330,16 @@ module _ (K E P : List ℕ) (z : Sizes) (F G U : List ℕ) (p : ℕ) (rule : Boo
 
         -- its proof is to be walked
         module _ (n : c .refusal .number ≡ 0) (s : c .settled ≡ false) where
-          waits : (i < count) × (v ≡ 0) × (isSettled (programFor K E P z) (getD turns i noTurn) ≡ false)
+          waits : (i < count) × (v ≡ 0) × (isSettled (programFor J) (getD turns i noTurn) ≡ false)
           waits = go v (drop i turns) refl (sym (here .over n) ∙ s)
             where
-              go : (w : ℕ) (ts : List Turn) → drop i turns ≡ ts → isOver (programFor K E P z) ts w ≡ false → (i < count) × (w ≡ 0) × (isSettled (programFor K E P z) (getD turns i noTurn) ≡ false)
+              go : (w : ℕ) (ts : List Turn) → drop i turns ≡ ts → isOver (programFor J) ts w ≡ false → (i < count) × (w ≡ 0) × (isSettled (programFor J) (getD turns i noTurn) ≡ false)
               go w [] e o = absurd (true≢false o)
               go (suc w) (u ∷ ts) e o = absurd (true≢false o)
               go zero (u ∷ ts) e o =
                   let m = S .long in
                   let l : i < count = left i (decLt i count) e in
-                  (l, refl, ap (isSettled (programFor K E P z)) (head-eq-of-cons-eq (sym (left-at l) ∙ e)) ∙ o)
+                  (l, refl, ap (isSettled (programFor J)) (head-eq-of-cons-eq (sym (left-at l) ∙ e)) ∙ o)
                 where
                   left : (m : ℕ) → Dec (m < count) → drop m turns ≡ u ∷ ts → m < count
                   left m (yes l) q = l
@@ -351,9 +351,9 @@ module _ (K E P : List ℕ) (z : Sizes) (F G U : List ℕ) (p : ℕ) (rule : Boo
           pub task-fresh : v ≡ 0
           task-fresh = waits .1
 
-          owed : Owes K E P z F G U p k₀ e₀ p₀ f₀ W₀ k₁ e₁ p₁ (c .fill) memo₁ W₁ (boundOver (c .binds) σ) (next (getD turns i noTurn ∷ drop (suc i) turns) 0)
-          owed = subst (λ (m : ℕ). Owes K E P z F G U p k₀ e₀ p₀ f₀ W₀ k₁ e₁ p₁ (c .fill) memo₁ W₁ (boundOver (c .binds) σ) (next (getD turns i noTurn ∷ drop (suc i) turns) m)) (waits .1)
-              (subst (λ (ts : List Turn). Owes K E P z F G U p k₀ e₀ p₀ f₀ W₀ k₁ e₁ p₁ (c .fill) memo₁ W₁ (boundOver (c .binds) σ) (next ts v)) (left-at (waits .0)) (advanced n))
+          owed : Owes J F G U p k₀ e₀ p₀ f₀ W₀ k₁ e₁ p₁ (c .fill) memo₁ W₁ (boundOver (c .binds) σ) (next (getD turns i noTurn ∷ drop (suc i) turns) 0)
+          owed = subst (λ (m : ℕ). Owes J F G U p k₀ e₀ p₀ f₀ W₀ k₁ e₁ p₁ (c .fill) memo₁ W₁ (boundOver (c .binds) σ) (next (getD turns i noTurn ∷ drop (suc i) turns) m)) (waits .1)
+              (subst (λ (ts : List Turn). Owes J F G U p k₀ e₀ p₀ f₀ W₀ k₁ e₁ p₁ (c .fill) memo₁ W₁ (boundOver (c .binds) σ) (next ts v)) (left-at (waits .0)) (advanced n))
 
           pub task-waits : length memo₁ ≡ length memo → length W₁ ≡ length W → Grown k₀ e₀ p₀ f₀ k₁ e₁ p₁ (c .fill) → Task k₀ e₀ p₀ f₀ memo₀ W₀ k₁ e₁ p₁ (c .fill) memo₁ W₁ T at i 1
           task-waits lMemo lW gr = record {
@@ -365,9 +365,9 @@ module _ (K E P : List ℕ) (z : Sizes) (F G U : List ℕ) (p : ℕ) (rule : Boo
             lenMemo = lMemo ∙ t .lenMemo;
             lenW = lW ∙ t .lenW;
             grown = gr;
-            sane = λ u _. subst (λ (ρ : List Binding). Sane (programFor K E P z) ρ (termsIn k₁ e₁ p₁ (c .fill))) quiet (here .sane u n);
+            sane = λ u _. subst (λ (ρ : List Binding). Sane (programFor J) ρ (termsIn k₁ e₁ p₁ (c .fill))) quiet (here .sane u n);
             owes = λ _ u. absurd (u refl);
-            due = λ _. (waits .0, waits .2, subst (λ (ρ : List Binding). Owes K E P z F G U p k₀ e₀ p₀ f₀ W₀ k₁ e₁ p₁ (c .fill) memo₁ W₁ ρ (next (getD turns i noTurn ∷ drop (suc i) turns) 0)) quiet owed);
+            due = λ _. (waits .0, waits .2, subst (λ (ρ : List Binding). Owes J F G U p k₀ e₀ p₀ f₀ W₀ k₁ e₁ p₁ (c .fill) memo₁ W₁ ρ (next (getD turns i noTurn ∷ drop (suc i) turns) 0)) quiet owed);
             ends = λ _ u. absurd (u refl);
             ended = λ u. let l = waits .0 in absurd (omega arith);
           }
@@ -377,32 +377,32 @@ module _ (K E P : List ℕ) (z : Sizes) (F G U : List ℕ) (p : ℕ) (rule : Boo
       pub task-turn : i < count
       task-turn = t .due v≡1 .0
 
-      pub task-next : Ground K E P z F G k e q f memo W
+      pub task-next : Ground J F G k e q f memo W
       task-next = t .due v≡1 .2 .walks .after refl .ground
 
-      module _ (fuel : (room : Room) (ps : List Proposition) (x : ℕ) → x < p → (done : List ℕ) (u : List Term) → checkProofWithContext room (programFor K E P z) (proofsFor K E P z) (contextOf G ps) (suc x) x done u ≡ sub K E P z F G U p room ps x done u)
+      module _ (fuel : (room : Room) (ps : List Proposition) (x : ℕ) → x < p → (done : List ℕ) (u : List Term) → checkProofWithContext room (programFor J) (proofsFor J) (contextOf G ps) (suc x) x done u ≡ sub J F G U p room ps x done u)
           {a : ℕ} (y : a ≡ proofOf (getD turns i noTurn)) {k₂ e₂ p₂ : List ℕ} {f₂ : Fill} {r₂ : Refusal} {memo₂ W₂ : List ℕ}
-          (w : Walks K E P z F G U k e q f W k₂ e₂ p₂ f₂ r₂ memo₂ W₂ (λ d. d) (λ room ps done. checkProofWithContext room (programFor K E P z) (proofsFor K E P z) (contextOf G ps) (suc a) a done)) where
+          (w : Walks J F G U k e q f W k₂ e₂ p₂ f₂ r₂ memo₂ W₂ (λ d. d) (λ room ps done. checkProofWithContext room (programFor J) (proofsFor J) (contextOf G ps) (suc a) a done)) where
         abbrev turn : Turn
         turn = getD turns i noTurn
 
         abbrev τ : List Binding
         τ = bindings (drop at T)
 
-        walked-proof : Walks K E P z F G U k e q f W k₂ e₂ p₂ f₂ r₂ memo₂ W₂ (λ d. d) (λ room ps done. sub K E P z F G U p room ps (proofOf turn) done)
-        walked-proof = walks-as {o′ = λ room ps done. sub K E P z F G U p room ps (proofOf turn) done} (λ ps done.
-            fuel (roomOf k q) ps a (let l = S .lower i task-turn in omega arith) done (termsIn k e q f) ∙ ap (λ (m : ℕ). sub K E P z F G U p (roomOf k q) ps m done (termsIn k e q f)) y) w
+        walked-proof : Walks J F G U k e q f W k₂ e₂ p₂ f₂ r₂ memo₂ W₂ (λ d. d) (λ room ps done. sub J F G U p room ps (proofOf turn) done)
+        walked-proof = walks-as {o′ = λ room ps done. sub J F G U p room ps (proofOf turn) done} (λ ps done.
+            fuel (roomOf k q) ps a (let l = S .lower i task-turn in omega arith) done (termsIn k e q f) ∙ ap (λ (m : ℕ). sub J F G U p (roomOf k q) ps m done (termsIn k e q f)) y) w
 
-        pub task-walk-stops : (r₂ .number ≡ 0 → ⊥) → Walks K E P z F G U k₀ e₀ p₀ f₀ W₀ k₂ e₂ p₂ f₂ r₂ memo₂ W₂ (λ d. d) (stepOf K E P z F G U p)
-        task-walk-stops m = owes-stop K E P z F G U p (t .due v≡1 .2) (walks turn) (rest (turn ∷ drop (suc i) turns) 2) (walk-is turn (drop (suc i) turns) (t .due v≡1 .1))
+        pub task-walk-stops : (r₂ .number ≡ 0 → ⊥) → Walks J F G U k₀ e₀ p₀ f₀ W₀ k₂ e₂ p₂ f₂ r₂ memo₂ W₂ (λ d. d) (stepOf J F G U p)
+        task-walk-stops m = owes-stop J F G U p (t .due v≡1 .2) (walks turn) (rest (turn ∷ drop (suc i) turns) 2) (walk-is turn (drop (suc i) turns) (t .due v≡1 .1))
             (walks-stop walked-proof (λ d. (τ, d)) (λ room ps d. pure (τ, d)) m) m
 
         module _ (m : r₂ .number ≡ 0) (lMemo : length memo₂ ≡ length memo) (lW : length W₂ ≡ length W) (gr : Grown k₀ e₀ p₀ f₀ k₂ e₂ p₂ f₂) where
-          owed-after : Owes K E P z F G U p k₀ e₀ p₀ f₀ W₀ k₂ e₂ p₂ f₂ memo₂ W₂ τ (rest (turn ∷ drop (suc i) turns) 2)
-          owed-after = owes-then K E P z F G U p (t .due v≡1 .2) (walks turn) (rest (turn ∷ drop (suc i) turns) 2) (walk-is turn (drop (suc i) turns) (t .due v≡1 .1))
+          owed-after : Owes J F G U p k₀ e₀ p₀ f₀ W₀ k₂ e₂ p₂ f₂ memo₂ W₂ τ (rest (turn ∷ drop (suc i) turns) 2)
+          owed-after = owes-then J F G U p (t .due v≡1 .2) (walks turn) (rest (turn ∷ drop (suc i) turns) 2) (walk-is turn (drop (suc i) turns) (t .due v≡1 .1))
               (walks-then walked-proof (λ room ps d. pure (τ, d)) m (walks-here {r = passed} (w .after m .ground) (λ ps done u. does-here (w .after m .ground .stored) refl))) refl
 
-          sane-after : rule ≡ true → Sane (programFor K E P z) τ (termsIn k₂ e₂ p₂ f₂)
+          sane-after : rule ≡ true → Sane (programFor J) τ (termsIn k₂ e₂ p₂ f₂)
           sane-after u = sane-fewer (t .sane u (let l = task-turn in omega arith)) (w .after m .grows) (w .after m .ground .sane)
 
           pub task-walks : rule ≡ true → Task k₀ e₀ p₀ f₀ memo₀ W₀ k₂ e₂ p₂ f₂ memo₂ W₂ T at i 2
@@ -416,7 +416,7 @@ module _ (K E P : List ℕ) (z : Sizes) (F G U : List ℕ) (p : ℕ) (rule : Boo
             lenW = lW ∙ t .lenW;
             grown = gr;
             sane = λ u _. sane-after u;
-            owes = λ _ _. subst⁻¹ (λ (ts : List Turn). Owes K E P z F G U p k₀ e₀ p₀ f₀ W₀ k₂ e₂ p₂ f₂ memo₂ W₂ τ (rest ts 2)) (left-at task-turn) owed-after;
+            owes = λ _ _. subst⁻¹ (λ (ts : List Turn). Owes J F G U p k₀ e₀ p₀ f₀ W₀ k₂ e₂ p₂ f₂ memo₂ W₂ τ (rest ts 2)) (left-at task-turn) owed-after;
             due = λ u. absurd (omega arith);
             ends = λ u _. absurd (true≢false (sym is ∙ u));
             ended = λ u. let l = task-turn in absurd (omega arith);
@@ -439,28 +439,28 @@ module _ (K E P : List ℕ) (z : Sizes) (F G U : List ℕ) (p : ℕ) (rule : Boo
             ended = λ u. let l = task-turn in absurd (omega arith);
           }
             where
-              passed-on : Owes K E P z F G U p k₀ e₀ p₀ f₀ W₀ k₂ e₂ p₂ f₂ memo₂ W₂ τ (rest (drop (i + 1) turns) 0)
+              passed-on : Owes J F G U p k₀ e₀ p₀ f₀ W₀ k₂ e₂ p₂ f₂ memo₂ W₂ τ (rest (drop (i + 1) turns) 0)
               passed-on =
                   let c = proof-turn rule is i in
-                  subst⁻¹ (λ (n : ℕ). Owes K E P z F G U p k₀ e₀ p₀ f₀ W₀ k₂ e₂ p₂ f₂ memo₂ W₂ τ (rest (drop n turns) 0)) (add-one i)
-                  (owes-as K E P z F G U p {rest = rest (ofProof (c .0) ∷ drop (suc i) turns) 2}
-                  (subst (λ (u : Turn). Owes K E P z F G U p k₀ e₀ p₀ f₀ W₀ k₂ e₂ p₂ f₂ memo₂ W₂ τ (rest (u ∷ drop (suc i) turns) 2)) (c .1) owed-after) (λ room ps b u. refl))
+                  subst⁻¹ (λ (n : ℕ). Owes J F G U p k₀ e₀ p₀ f₀ W₀ k₂ e₂ p₂ f₂ memo₂ W₂ τ (rest (drop n turns) 0)) (add-one i)
+                  (owes-as J F G U p {rest = rest (ofProof (c .0) ∷ drop (suc i) turns) 2}
+                  (subst (λ (u : Turn). Owes J F G U p k₀ e₀ p₀ f₀ W₀ k₂ e₂ p₂ f₂ memo₂ W₂ τ (rest (u ∷ drop (suc i) turns) 2)) (c .1) owed-after) (λ room ps b u. refl))
 
 -- a plan that is refused
-pub plan-refused : (K E P : List ℕ) (z : Sizes) (F G U : List ℕ) (p : ℕ) {k e q : List ℕ} {f : Fill} {memo W : List ℕ} → Ground K E P z F G k e q f memo W → {s : Plan} → Plans K E P z p s → (s .refusal .number ≡ 0 → ⊥)
-    → Walks K E P z F G U k e q f W k e q f (s .refusal) memo W (λ d. d) (stepOf K E P z F G U p)
-plan-refused K E P z F G U p {k} {e} {q} {f} g S n = walks-here g (λ ps done y. does-here (g .stored) (S .stops n (roomOf k q) G ps (sub K E P z F G U p (roomOf k q) ps) done (termsIn k e q f)))
+pub plan-refused : (J : List ℕ) (F G U : List ℕ) (p : ℕ) {k e q : List ℕ} {f : Fill} {memo W : List ℕ} → Ground J F G k e q f memo W → {s : Plan} → Plans J p s → (s .refusal .number ≡ 0 → ⊥)
+    → Walks J F G U k e q f W k e q f (s .refusal) memo W (λ d. d) (stepOf J F G U p)
+plan-refused J F G U p {k} {e} {q} {f} g S n = walks-here g (λ ps done y. does-here (g .stored) (S .stops n (roomOf k q) G ps (sub J F G U p (roomOf k q) ps) done (termsIn k e q f)))
 
 -- what the step starts from
-pub start-sane : (K E P : List ℕ) (z : Sizes) (p : ℕ) {F G k e q : List ℕ} {f : Fill} {memo W : List ℕ} → Ground K E P z F G k e q f memo W → p < z .proofs → {rule : Bool} {r first second count : ℕ} → rule ≡ true → Planned K E P z p rule r first second count
-    → Sane (programFor K E P z) (bindingsBy K E P z p rule [] G) (termsIn k e q f)
-start-sane K E P z p {G = G} {k = k} {e = e} {q = q} {f = f} g h {rule} u S =
-    subst⁻¹ (λ (b : Bool). Sane (programFor K E P z) (bindingsBy K E P z p b [] G) (termsIn k e q f)) u
-    (sane-substitution (pairsFor K E P z p) g (substitution-read (g .ready) p h (S .kind u) refl refl .within))
+pub start-sane : (J : List ℕ) (p : ℕ) {F G k e q : List ℕ} {f : Fill} {memo W : List ℕ} → Ground J F G k e q f memo W → p < sizesOf J .proofs → {rule : Bool} {r first second count : ℕ} → rule ≡ true → Planned J p rule r first second count
+    → Sane (programFor J) (bindingsBy J p rule [] G) (termsIn k e q f)
+start-sane J p {G = G} {k = k} {e = e} {q = q} {f = f} g h {rule} u S =
+    subst⁻¹ (λ (b : Bool). Sane (programFor J) (bindingsBy J p b [] G) (termsIn k e q f)) u
+    (sane-substitution (pairsFor J p) g (substitution-read (g .ready) p h (S .kind u) refl refl .within))
 
-pub sane-part-by : (K E P : List ℕ) (z : Sizes) (p : ℕ) (G : List ℕ) (rule : Bool) {X Y : List ℕ} {s : List Term} → X ≡ Y → Sane (programFor K E P z) (bindingsBy K E P z p rule Y G) s → Sane (programFor K E P z) (bindingsBy K E P z p rule X G) s
-sane-part-by K E P z p G rule {s = s} x w = subst⁻¹ (λ (X : List ℕ). Sane (programFor K E P z) (bindingsBy K E P z p rule X G) s) x w
+pub sane-part-by : (J : List ℕ) (p : ℕ) (G : List ℕ) (rule : Bool) {X Y : List ℕ} {s : List Term} → X ≡ Y → Sane (programFor J) (bindingsBy J p rule Y G) s → Sane (programFor J) (bindingsBy J p rule X G) s
+sane-part-by J p G rule {s = s} x w = subst⁻¹ (λ (X : List ℕ). Sane (programFor J) (bindingsBy J p rule X G) s) x w
 
-pub passed-as : {K E P : List ℕ} {z : Sizes} {F G U k e q : List ℕ} {f : Fill} {W k₁ e₁ p₁ : List ℕ} {f₁ : Fill} {memo₁ W₁ : List ℕ} {o : Room → List Proposition → List ℕ → Check (List ℕ)} {c : Checked} → c ≡ record { refusal = passed; value = 0; fill = f₁ }
-    → Walks K E P z F G U k e q f W k₁ e₁ p₁ f₁ passed memo₁ W₁ (λ d. d) o → Walks K E P z F G U k e q f W k₁ e₁ p₁ (c .fill) (c .refusal) memo₁ W₁ (λ d. d) o
-passed-as {K} {E} {P} {z} {F} {G} {U} {k} {e} {q} {f} {W} {k₁} {e₁} {p₁} {memo₁ = memo₁} {W₁ = W₁} {o = o} h w = subst⁻¹ (λ (x : Checked). Walks K E P z F G U k e q f W k₁ e₁ p₁ (x .fill) (x .refusal) memo₁ W₁ (λ d. d) o) h w
+pub passed-as : {J : List ℕ} {F G U k e q : List ℕ} {f : Fill} {W k₁ e₁ p₁ : List ℕ} {f₁ : Fill} {memo₁ W₁ : List ℕ} {o : Room → List Proposition → List ℕ → Check (List ℕ)} {c : Checked} → c ≡ record { refusal = passed; value = 0; fill = f₁ }
+    → Walks J F G U k e q f W k₁ e₁ p₁ f₁ passed memo₁ W₁ (λ d. d) o → Walks J F G U k e q f W k₁ e₁ p₁ (c .fill) (c .refusal) memo₁ W₁ (λ d. d) o
+passed-as {J} {F} {G} {U} {k} {e} {q} {f} {W} {k₁} {e₁} {p₁} {memo₁ = memo₁} {W₁ = W₁} {o = o} h w = subst⁻¹ (λ (x : Checked). Walks J F G U k e q f W k₁ e₁ p₁ (x .fill) (x .refusal) memo₁ W₁ (λ d. d) o) h w

@@ -4,7 +4,6 @@ use actions::push_binding;
 use cells::Fill;
 use cells::wide;
 use conditions::Binds;
-use load::sizes::Sizes;
 use outcome::Checked;
 use outcome::pass;
 use turns::advance;
@@ -15,6 +14,7 @@ ghost use mathlib.Core.List.{List};
 ghost use Prim.Native.Nat.{suc, _+_, _<_};
 ghost use lib.Dec.{eqb};
 ghost use lib.ListN.{length, getD, set};
+ghost use Rattle.model.specs.Layout.{sizesOf};
 ghost use Rattle.model.specs.Program.{Binding};
 ghost use Rattle.model.specs.Walk.{noProof, claimAt, checkJustification, checkProofWithContext};
 ghost use Rattle.program.specs.Ready.{programFor};
@@ -66,10 +66,7 @@ fn state_at(rule: bool, count: usize, i: usize) -> usize
 // The step of proof p, a rule's too, turn by turn: each proof that it needs is walked, between what is done before it and after it. The walk and this check call each
 // other, with a falling proof number; all else is done in `advance`, outside of their frames.
 fn justify(
-    kinds: &[u32],
-    ends: &[u32],
-    pool: &[u32],
-    z: Sizes,
+    job: &[u32],
     found: &[u32],
     globals: &[u32],
     unions: &[u32],
@@ -81,11 +78,11 @@ fn justify(
     scratch: &mut [u32],
     p: u32,
 ) -> Checked
-    requires { ⌜ Ground (now kinds) (now ends) (now pool) z (now found) (now globals) (now skinds) (now sends) (now spool) fill (now memo) (now scratch) ⌝ }
-    requires { ⌜ p < z .proofs ⌝ }
-    ensures { λ r. ⌜ Walks (now (kinds .entry)) (now (ends .entry)) (now (pool .entry)) z (now (found .entry)) (now (globals .entry)) (now (unions .entry)) (now (skinds .entry)) (now (sends .entry)) (now (spool .entry)) fill (now (scratch .entry)) (now (skinds .exit)) (now (sends .exit)) (now (spool .exit)) (r .fill) (r .refusal) (now (memo .exit)) (now (scratch .exit)) (λ d. d) (λ room ps done. checkJustification room (programFor (now (kinds .entry)) (now (ends .entry)) (now (pool .entry)) z) (proofsFor (now (kinds .entry)) (now (ends .entry)) (now (pool .entry)) z) (contextOf (now (globals .entry)) ps) (checkProofWithContext room (programFor (now (kinds .entry)) (now (ends .entry)) (now (pool .entry)) z) (proofsFor (now (kinds .entry)) (now (ends .entry)) (now (pool .entry)) z) (contextOf (now (globals .entry)) ps) p) p (claimAt (proofsFor (now (kinds .entry)) (now (ends .entry)) (now (pool .entry)) z) p) (getD (proofsFor (now (kinds .entry)) (now (ends .entry)) (now (pool .entry)) z) p noProof .justification) done) ⌝ }
+    requires { ⌜ Ground (now job) (now found) (now globals) (now skinds) (now sends) (now spool) fill (now memo) (now scratch) ⌝ }
+    requires { ⌜ p < sizesOf (now job) .proofs ⌝ }
+    ensures { λ r. ⌜ Walks (now (job .entry)) (now (found .entry)) (now (globals .entry)) (now (unions .entry)) (now (skinds .entry)) (now (sends .entry)) (now (spool .entry)) fill (now (scratch .entry)) (now (skinds .exit)) (now (sends .exit)) (now (spool .exit)) (r .fill) (r .refusal) (now (memo .exit)) (now (scratch .exit)) (λ d. d) (λ room ps done. checkJustification room (programFor (now (job .entry))) (proofsFor (now (job .entry))) (contextOf (now (globals .entry)) ps) (checkProofWithContext room (programFor (now (job .entry))) (proofsFor (now (job .entry))) (contextOf (now (globals .entry)) ps) p) p (claimAt (proofsFor (now (job .entry))) p) (getD (proofsFor (now (job .entry))) p noProof .justification) done) ⌝ }
 {
-    let s = plan_step(kinds, ends, pool, z, p);
+    let s = plan_step(job, p);
     if s.refusal.number != 0 {
         let refusal = s.refusal;
         return Checked {
@@ -102,24 +99,9 @@ fn justify(
     let mut state = state_at(s.rule, count, i);
     while i <= count {
         if state == 1 {
-            let next = reference(
-                kinds,
-                ends,
-                pool,
-                z,
-                p,
-                s.rule,
-                s.r,
-                s.first,
-                s.second,
-                count,
-                i,
-            );
+            let next = reference(job, p, s.rule, s.r, s.first, s.second, count, i);
             let w = walk(
-                kinds,
-                ends,
-                pool,
-                z,
+                job,
                 found,
                 globals,
                 unions,
@@ -144,10 +126,7 @@ fn justify(
             continue;
         }
         let c = advance(
-            kinds,
-            ends,
-            pool,
-            z,
+            job,
             found,
             globals,
             unions,
@@ -190,10 +169,7 @@ fn justify(
 
 // `check_proof_with_context`: a proof that is checked already is not checked again.
 pub fn walk(
-    kinds: &[u32],
-    ends: &[u32],
-    pool: &[u32],
-    z: Sizes,
+    job: &[u32],
     found: &[u32],
     globals: &[u32],
     unions: &[u32],
@@ -205,9 +181,9 @@ pub fn walk(
     scratch: &mut [u32],
     p: u32,
 ) -> Checked
-    requires { ⌜ Ground (now kinds) (now ends) (now pool) z (now found) (now globals) (now skinds) (now sends) (now spool) fill (now memo) (now scratch) ⌝ }
-    requires { ⌜ p < z .proofs ⌝ }
-    ensures { λ r. ⌜ Walks (now (kinds .entry)) (now (ends .entry)) (now (pool .entry)) z (now (found .entry)) (now (globals .entry)) (now (unions .entry)) (now (skinds .entry)) (now (sends .entry)) (now (spool .entry)) fill (now (scratch .entry)) (now (skinds .exit)) (now (sends .exit)) (now (spool .exit)) (r .fill) (r .refusal) (now (memo .exit)) (now (scratch .exit)) (λ d. d) (λ room ps done. checkProofWithContext room (programFor (now (kinds .entry)) (now (ends .entry)) (now (pool .entry)) z) (proofsFor (now (kinds .entry)) (now (ends .entry)) (now (pool .entry)) z) (contextOf (now (globals .entry)) ps) (suc p) p done) ⌝ }
+    requires { ⌜ Ground (now job) (now found) (now globals) (now skinds) (now sends) (now spool) fill (now memo) (now scratch) ⌝ }
+    requires { ⌜ p < sizesOf (now job) .proofs ⌝ }
+    ensures { λ r. ⌜ Walks (now (job .entry)) (now (found .entry)) (now (globals .entry)) (now (unions .entry)) (now (skinds .entry)) (now (sends .entry)) (now (spool .entry)) fill (now (scratch .entry)) (now (skinds .exit)) (now (sends .exit)) (now (spool .exit)) (r .fill) (r .refusal) (now (memo .exit)) (now (scratch .exit)) (λ d. d) (λ room ps done. checkProofWithContext room (programFor (now (job .entry))) (proofsFor (now (job .entry))) (contextOf (now (globals .entry)) ps) (suc p) p done) ⌝ }
 {
     let cells = skinds.len();
     let at = cells + cells + wide(p);
@@ -215,10 +191,7 @@ pub fn walk(
         return pass(0, fill);
     }
     let r = justify(
-        kinds,
-        ends,
-        pool,
-        z,
+        job,
         found,
         globals,
         unions,

@@ -33,7 +33,7 @@ same-length-5 c = search needs
 
 -- src/lib.rt:120:1
 returns : tie.Need-returns
-returns c = let a = c .before .before .before .before .before .before .before .before .before .before .before .before .before .before .before .before .before .before .before .before .before .before .before .before .before .before .before .before .before .args in acts-run (a .rule) (exprFor (a .kinds .now) (a .ends .now) (a .pool .now) (a .z) (a .e)) (c .before .before .before .before .before .before .before .before .before .before .before .before .yield-value .ensures)
+returns c = let a = c .before .before .before .before .before .before .before .before .before .before .before .before .before .before .before .before .before .before .before .before .before .before .before .before .before .before .before .args in acts-run (a .rule) (exprFor (a .job .now) (a .e)) (c .before .before .before .before .before .before .before .before .before .before .before .before .yield-value .ensures)
 
 pub act-run-spec : {M : Type 1} → statement M
 act-run-spec =

@@ -10,7 +10,7 @@ use Rattle.actions.proofs.yield_value.Reads as yield-value-reads
 
 -- src/lib.rt:173:9
 yield-value-requires : tie.Need-yield-value-requires
-yield-value-requires c κs = (c .before .before .before .before .before .before .before .before .before .before .before .before .before .before .before .before .pre .0, c .before .before .before .before .before .before .before .before .before .before .before .before .before .before .before .before .pre .1 .0)
+yield-value-requires c κs = (c .before .before .before .before .before .before .before .before .before .before .before .before .before .before .pre .0, c .before .before .before .before .before .before .before .before .before .before .before .before .before .before .pre .1 .0)
 
 -- src/lib.rt:177:9
 same-length : tie.Need-same-length
@@ -34,11 +34,11 @@ same-length-5 c = search needs
 
 -- src/lib.rt:177:9
 returns : tie.Need-returns
-returns c = let a = c .before .before .before .before .before .before .before .before .before .before .before .before .before .before .before .before .before .before .before .before .before .before .before .before .before .before .before .before .before .before .before .args in union-stops (a .rule) (exprFor (a .kinds .now) (a .ends .now) (a .pool .now) (a .z) (a .left)) (exprFor (a .kinds .now) (a .ends .now) (a .pool .now) (a .z) (a .right)) (c .before .before .before .before .before .before .before .before .before .before .before .before .before .before .yield-value .ensures) (search needs)
+returns c = let a = c .before .before .before .before .before .before .before .before .before .before .before .before .before .before .before .before .before .before .before .before .before .before .before .before .before .before .before .before .before .args in union-stops (a .rule) (exprFor (a .job .now) (a .left)) (exprFor (a .job .now) (a .right)) (c .before .before .before .before .before .before .before .before .before .before .before .before .before .before .yield-value .ensures) (search needs)
 
 -- src/lib.rt:179:9
 yield-value-requires-2 : tie.Need-yield-value-requires-2
-yield-value-requires-2 c κs = let y = c .before .before .before .before .before .before .before .before .before .before .before .before .before .before .before .before .before .before .yield-value .ensures in let n : c .before .before .before .before .before .before .before .before .before .before .before .before .before .before .before .before .before .before .yield-value .result .refusal .number ≡ 0 = search needs in (standing-after (c .before .before .before .before .before .before .before .before .before .before .before .before .before .before .before .before .before .before .before .before .before .before .before .before .before .before .before .before .before .before .before .before .before .before .before .pre .0) (y .does .grown) (y .sane n) (y .past n) (search needs) (search needs), c .before .before .before .before .before .before .before .before .before .before .before .before .before .before .before .before .before .before .before .before .before .before .before .before .before .before .before .before .before .before .before .before .before .before .before .pre .1 .1)
+yield-value-requires-2 c κs = let y = c .before .before .before .before .before .before .before .before .before .before .before .before .before .before .before .before .before .before .yield-value .ensures in let n : c .before .before .before .before .before .before .before .before .before .before .before .before .before .before .before .before .before .before .yield-value .result .refusal .number ≡ 0 = search needs in (standing-after (c .before .before .before .before .before .before .before .before .before .before .before .before .before .before .before .before .before .before .before .before .before .before .before .before .before .before .before .before .before .before .before .before .before .pre .0) (y .does .grown) (y .sane n) (y .past n) (search needs) (search needs), c .before .before .before .before .before .before .before .before .before .before .before .before .before .before .before .before .before .before .before .before .before .before .before .before .before .before .before .before .before .before .before .before .before .pre .1 .1)
 
 -- src/lib.rt:149:1
 same-length-6 : tie.Need-same-length-6
@@ -54,7 +54,7 @@ same-length-8 c = c .before .before .before .before .before .before .before .bef
 
 -- src/lib.rt:149:1
 same-length-9 : tie.Need-same-length-9
-same-length-9 c = c .before .before .before .before .before .before .before .before .before .before .before .before .yield-value2 .kept .1 .1 .1 .1 .1 .1 .1 .1 .1 .1 .1 .1 .0 ∙ c .before .before .before .before .before .before .before .before .before .before .before .before .before .before .before .before .before .before .before .before .before .before .before .before .before .before .before .before .before .before .before .yield-value .kept .1 .1 .1 .1 .1 .1 .1 .1 .1 .1 .1 .1 .0
+same-length-9 c = c .before .before .before .before .before .before .before .before .before .before .before .before .yield-value2 .kept .1 .1 .1 .1 .1 .1 .1 .1 .1 .0 ∙ c .before .before .before .before .before .before .before .before .before .before .before .before .before .before .before .before .before .before .before .before .before .before .before .before .before .before .before .before .before .before .before .yield-value .kept .1 .1 .1 .1 .1 .1 .1 .1 .1 .0
 
 -- src/lib.rt:149:1
 same-length-10 : tie.Need-same-length-10
@@ -62,7 +62,7 @@ same-length-10 c = search needs
 
 -- src/lib.rt:149:1
 returns-2 : tie.Need-returns-2
-returns-2 c = let a = c .before .before .before .before .before .before .before .before .before .before .before .before .before .before .before .before .before .before .before .before .before .before .before .before .before .before .before .before .before .before .before .before .before .before .before .before .before .before .before .before .before .before .before .before .before .before .before .before .args in acts-union (a .rule) (exprFor (a .kinds .now) (a .ends .now) (a .pool .now) (a .z) (a .left)) (exprFor (a .kinds .now) (a .ends .now) (a .pool .now) (a .z) (a .right)) (c .before .before .before .before .before .before .before .before .before .before .before .before .before .before .before .before .before .before .before .before .before .before .before .before .before .before .before .before .before .before .before .yield-value .ensures) (search needs) (c .before .before .before .before .before .before .before .before .before .before .before .before .yield-value2 .ensures)
+returns-2 c = let a = c .before .before .before .before .before .before .before .before .before .before .before .before .before .before .before .before .before .before .before .before .before .before .before .before .before .before .before .before .before .before .before .before .before .before .before .before .before .before .before .before .before .before .before .before .before .before .args in acts-union (a .rule) (exprFor (a .job .now) (a .left)) (exprFor (a .job .now) (a .right)) (c .before .before .before .before .before .before .before .before .before .before .before .before .before .before .before .before .before .before .before .before .before .before .before .before .before .before .before .before .before .before .before .yield-value .ensures) (search needs) (c .before .before .before .before .before .before .before .before .before .before .before .before .yield-value2 .ensures)
 
 pub act-union-spec : {M : Type 1} → statement M
 act-union-spec =

@@ -19,7 +19,7 @@ wide-requires c κs = search needs
 
 -- src/lib.rt:208:9
 action-at-requires : tie.Need-action-at-requires
-action-at-requires c κs = (c .before .before .before .before .before .before .before .before .before .before .before .before .pre .0 .ready, (let h = c .before .before .before .before .before .before .before .before .before .before .before .before .pre .1 in let w = c .wide .ensures in omega arith))
+action-at-requires c κs = (c .before .before .before .before .before .before .before .before .before .before .pre .0 .ready, (let h = c .before .before .before .before .before .before .before .before .before .before .pre .1 in let w = c .wide .ensures in omega arith))
 
 -- src/lib.rt:210:21
 enum-known-action : tie.Need-enum-known-action
@@ -27,7 +27,7 @@ enum-known-action c = search needs
 
 -- src/lib.rt:210:30
 act-let-requires : tie.Need-act-let-requires
-act-let-requires c κs = (c .before .before .before .before .before .before .before .before .before .before .before .before .before .before .before .before .before .before .before .before .before .pre .0, c .before .before .before .before .before .before .before .before .action-at .ensures .bind _ _ (c .before .before .before .before .before .before .action .given .1))
+act-let-requires c κs = (c .before .before .before .before .before .before .before .before .before .before .before .before .before .before .before .before .before .before .before .pre .0, c .before .before .before .before .before .before .before .before .action-at .ensures .bind _ _ (c .before .before .before .before .before .before .action .given .1))
 
 -- src/lib.rt:211:23
 enum-known-action-2 : tie.Need-enum-known-action-2
@@ -35,7 +35,7 @@ enum-known-action-2 c = search needs
 
 -- src/lib.rt:211:32
 act-union-requires : tie.Need-act-union-requires
-act-union-requires c κs = let h = c .before .before .before .before .before .before .before .before .action-at .ensures .union _ _ (c .before .before .before .before .before .before .action2 .given .1) in (c .before .before .before .before .before .before .before .before .before .before .before .before .before .before .before .before .before .before .before .before .before .pre .0, (h .0, h .1))
+act-union-requires c κs = let h = c .before .before .before .before .before .before .before .before .action-at .ensures .union _ _ (c .before .before .before .before .before .before .action2 .given .1) in (c .before .before .before .before .before .before .before .before .before .before .before .before .before .before .before .before .before .before .before .pre .0, (h .0, h .1))
 
 -- src/lib.rt:212:21
 enum-known-action-3 : tie.Need-enum-known-action-3
@@ -43,7 +43,7 @@ enum-known-action-3 c = search needs
 
 -- src/lib.rt:212:27
 act-run-requires : tie.Need-act-run-requires
-act-run-requires c κs = (c .before .before .before .before .before .before .before .before .before .before .before .before .before .before .before .before .before .before .before .before .before .pre .0, c .before .before .before .before .before .before .before .before .action-at .ensures .run _ (c .before .before .before .before .before .before .action3 .given .1))
+act-run-requires c κs = (c .before .before .before .before .before .before .before .before .before .before .before .before .before .before .before .before .before .before .before .pre .0, c .before .before .before .before .before .before .before .before .action-at .ensures .run _ (c .before .before .before .before .before .before .action3 .given .1))
 
 -- src/lib.rt:214:61
 enum-told : tie.Need-enum-told
@@ -71,7 +71,7 @@ same-length-5 c = search needs
 
 -- src/lib.rt:186:1
 returns : tie.Need-returns
-returns c = let a = c .before .before .before .before .before .before .before .before .before .before .before .before .before .before .before .before .before .before .before .before .before .before .before .before .before .before .before .before .before .before .before .before .args in acts-as (acted-as (exprFor (a .kinds .now) (a .ends .now) (a .pool .now) (a .z)) (c .before .before .before .before .before .before .before .before .before .before .before .before .before .before .before .before .before .action .given .1) (c .before .before .before .before .before .before .before .before .before .before .before .before .before .before .before .before .before .before .before .action-at .ensures .is ∙ ap (actionFor (a .kinds .now) (a .ends .now) (a .pool .now) (a .z)) (c .before .before .before .before .before .before .before .before .before .before .before .before .before .before .before .before .before .before .before .before .wide .ensures))) (c .before .before .before .before .before .before .before .before .before .before .act-let .ensures)
+returns c = let a = c .before .before .before .before .before .before .before .before .before .before .before .before .before .before .before .before .before .before .before .before .before .before .before .before .before .before .before .before .before .before .args in acts-as (acted-as (exprFor (a .job .now)) (c .before .before .before .before .before .before .before .before .before .before .before .before .before .before .before .before .before .action .given .1) (c .before .before .before .before .before .before .before .before .before .before .before .before .before .before .before .before .before .before .before .action-at .ensures .is ∙ ap (actionFor (a .job .now)) (c .before .before .before .before .before .before .before .before .before .before .before .before .before .before .before .before .before .before .before .before .wide .ensures))) (c .before .before .before .before .before .before .before .before .before .before .act-let .ensures)
 
 -- src/lib.rt:186:1
 same-length-6 : tie.Need-same-length-6
@@ -95,7 +95,7 @@ same-length-10 c = search needs
 
 -- src/lib.rt:186:1
 returns-2 : tie.Need-returns-2
-returns-2 c = let a = c .before .before .before .before .before .before .before .before .before .before .before .before .before .before .before .before .before .before .before .before .before .before .before .before .before .before .before .before .before .before .before .before .args in acts-as (acted-as (exprFor (a .kinds .now) (a .ends .now) (a .pool .now) (a .z)) (c .before .before .before .before .before .before .before .before .before .before .before .before .before .before .before .before .before .action2 .given .1) (c .before .before .before .before .before .before .before .before .before .before .before .before .before .before .before .before .before .before .before .action-at .ensures .is ∙ ap (actionFor (a .kinds .now) (a .ends .now) (a .pool .now) (a .z)) (c .before .before .before .before .before .before .before .before .before .before .before .before .before .before .before .before .before .before .before .before .wide .ensures))) (c .before .before .before .before .before .before .before .before .before .before .act-union .ensures)
+returns-2 c = let a = c .before .before .before .before .before .before .before .before .before .before .before .before .before .before .before .before .before .before .before .before .before .before .before .before .before .before .before .before .before .before .args in acts-as (acted-as (exprFor (a .job .now)) (c .before .before .before .before .before .before .before .before .before .before .before .before .before .before .before .before .before .action2 .given .1) (c .before .before .before .before .before .before .before .before .before .before .before .before .before .before .before .before .before .before .before .action-at .ensures .is ∙ ap (actionFor (a .job .now)) (c .before .before .before .before .before .before .before .before .before .before .before .before .before .before .before .before .before .before .before .before .wide .ensures))) (c .before .before .before .before .before .before .before .before .before .before .act-union .ensures)
 
 -- src/lib.rt:186:1
 same-length-11 : tie.Need-same-length-11
@@ -119,11 +119,11 @@ same-length-15 c = search needs
 
 -- src/lib.rt:186:1
 returns-3 : tie.Need-returns-3
-returns-3 c = let a = c .before .before .before .before .before .before .before .before .before .before .before .before .before .before .before .before .before .before .before .before .before .before .before .before .before .before .before .before .before .before .before .before .args in acts-as (acted-as (exprFor (a .kinds .now) (a .ends .now) (a .pool .now) (a .z)) (c .before .before .before .before .before .before .before .before .before .before .before .before .before .before .before .before .before .action3 .given .1) (c .before .before .before .before .before .before .before .before .before .before .before .before .before .before .before .before .before .before .before .action-at .ensures .is ∙ ap (actionFor (a .kinds .now) (a .ends .now) (a .pool .now) (a .z)) (c .before .before .before .before .before .before .before .before .before .before .before .before .before .before .before .before .before .before .before .before .wide .ensures))) (c .before .before .before .before .before .before .before .before .before .before .act-run .ensures)
+returns-3 c = let a = c .before .before .before .before .before .before .before .before .before .before .before .before .before .before .before .before .before .before .before .before .before .before .before .before .before .before .before .before .before .before .args in acts-as (acted-as (exprFor (a .job .now)) (c .before .before .before .before .before .before .before .before .before .before .before .before .before .before .before .before .before .action3 .given .1) (c .before .before .before .before .before .before .before .before .before .before .before .before .before .before .before .before .before .before .before .action-at .ensures .is ∙ ap (actionFor (a .job .now)) (c .before .before .before .before .before .before .before .before .before .before .before .before .before .before .before .before .before .before .before .before .wide .ensures))) (c .before .before .before .before .before .before .before .before .before .before .act-run .ensures)
 
 -- src/lib.rt:186:1
 returns-4 : tie.Need-returns-4
-returns-4 c = let a = c .before .before .before .before .before .before .before .before .before .before .before .before .before .before .before .args in acts-as (acted-as (exprFor (a .kinds .now) (a .ends .now) (a .pool .now) (a .z)) (c .enum-told .given .1) (c .before .before .action-at .ensures .is ∙ ap (actionFor (a .kinds .now) (a .ends .now) (a .pool .now) (a .z)) (c .before .before .before .wide .ensures))) (acts-idle (c .before .before .before .before .before .before .before .before .before .before .before .before .before .before .before .pre .0))
+returns-4 c = let a = c .before .before .before .before .before .before .before .before .before .before .before .before .before .args in acts-as (acted-as (exprFor (a .job .now)) (c .enum-told .given .1) (c .before .before .action-at .ensures .is ∙ ap (actionFor (a .job .now)) (c .before .before .before .wide .ensures))) (acts-idle (c .before .before .before .before .before .before .before .before .before .before .before .before .before .pre .0))
 
 pub process-action-spec : {M : Type 1} → statement M
 process-action-spec =

@@ -8,8 +8,11 @@ use Rattle.actions.proofs.mark_if.Reads as mark-if-reads
 use Rattle.evaluate.proofs.evaluate.Reads as evaluate-reads
 
 -- src/lib.rt:81:9
+size-requires : tie.Need-size-requires
+size-requires c κs = search needs
+
 evaluate-requires : tie.Need-evaluate-requires
-evaluate-requires c κs = let S = c .before .before .before .before .before .before .before .before .before .before .before .before .before .before .before .pre .0 in (S .ready, (S .stored, (c .before .before .before .before .before .before .before .before .before .before .before .before .before .before .before .pre .1, (S .fits, S .past))))
+evaluate-requires c κs = let S = c .before .before .before .before .before .before .before .before .before .before .before .before .before .before .pre .0 in (S .ready, (S .stored, (c .before .before .before .before .before .before .before .before .before .before .before .before .before .before .pre .1, (S .fits, S .past))))
 
 -- src/lib.rt:83:9
 same-length : tie.Need-same-length
@@ -29,11 +32,11 @@ same-length-4 c = search needs
 
 -- src/lib.rt:83:9
 returns : tie.Need-returns
-returns c = yields-refused (c .before .before .before .before .before .before .before .before .before .before .before .before .before .before .before .before .before .before .before .before .before .before .before .before .before .before .args .rule) (c .before .before .before .before .before .before .before .before .before .before .before .before .before .before .before .before .before .before .before .before .before .before .before .before .before .before .pre .0) (c .before .before .before .before .before .before .before .before .before .before .before .before .before .before .before .before .before .before .before .before .before .before .before .before .before .before .pre .1) (c .before .before .before .before .before .before .before .before .before .before .evaluate .ensures) (search needs)
+returns c = yields-refused (c .before .before .before .before .before .before .before .before .before .before .before .before .before .before .before .before .before .before .before .before .before .before .before .before .before .args .rule) (c .before .before .before .before .before .before .before .before .before .before .before .before .before .before .before .before .before .before .before .before .before .before .before .before .before .pre .0) (c .before .before .before .before .before .before .before .before .before .before .before .before .before .before .before .before .before .before .before .before .before .before .before .before .before .pre .1) (c .before .before .before .before .before .before .before .before .before .before .evaluate .ensures) (search needs)
 
 -- src/lib.rt:85:5
 mark-if-requires : tie.Need-mark-if-requires
-mark-if-requires c κs = let S = c .before .before .before .before .before .before .before .before .before .before .before .before .before .before .before .before .before .before .before .before .before .before .before .before .before .before .before .before .pre .0 in let f = S .fits in search needs
+mark-if-requires c κs = let S = c .before .before .before .before .before .before .before .before .before .before .before .before .before .before .before .before .before .before .before .before .before .before .before .before .before .before .before .pre .0 in let f = S .fits in search needs
 
 -- src/lib.rt:59:1
 same-length-5 : tie.Need-same-length-5
@@ -57,12 +60,13 @@ same-length-9 c = search needs
 
 -- src/lib.rt:59:1
 returns-2 : tie.Need-returns-2
-returns-2 c = yields-value (c .before .before .before .before .before .before .before .before .before .before .before .before .before .before .before .before .before .before .before .before .before .before .before .before .before .before .before .before .before .before .before .args .rule) (c .before .before .before .before .before .before .before .before .before .before .before .before .before .before .before .before .before .before .before .before .before .before .before .before .before .before .before .before .before .before .before .pre .0) (c .before .before .before .before .before .before .before .before .before .before .before .before .before .before .before .before .before .before .before .before .before .before .before .before .before .before .before .before .before .before .before .pre .1) (c .before .before .before .before .before .before .before .before .before .before .before .before .before .before .before .evaluate .ensures) (search needs) (c .before .before .mark-if .ensures)
+returns-2 c = yields-value (c .before .before .before .before .before .before .before .before .before .before .before .before .before .before .before .before .before .before .before .before .before .before .before .before .before .before .before .before .before .before .args .rule) (c .before .before .before .before .before .before .before .before .before .before .before .before .before .before .before .before .before .before .before .before .before .before .before .before .before .before .before .before .before .before .pre .0) (c .before .before .before .before .before .before .before .before .before .before .before .before .before .before .before .before .before .before .before .before .before .before .before .before .before .before .before .before .before .before .pre .1) (c .before .before .before .before .before .before .before .before .before .before .before .before .before .before .before .evaluate .ensures) (search needs) (c .before .before .before .before .before .before .before .before .before .before .before .before .before .before .before .before .before .before .before .before .size .ensures) (c .before .before .mark-if .ensures)
 
 pub yield-value-spec : {M : Type 1} → statement M
 yield-value-spec =
     tie.close
     (tie.spec
+    size-requires
     evaluate-requires
     same-length
     same-length-2

@@ -1,15 +1,15 @@
-use mathlib.Core.Path.{refl, sym, subst, _∙_}
+use mathlib.Core.Path.{refl, _∙_}
+use native.Mathlib.Omega.{arith}
 use lib.ListN.{length}
 use Rattle.prepare.specs.Prepares.{arraysOf}
-use Prim.Native.Nat.{ℕ, _<_}
 use Rattle.entry.proofs.Ending.{entry-unwritten}
-use Rattle.entry.proofs.Laws.{refuses, whole, job-ready, job-given, terms-word, tells}
+use Rattle.entry.proofs.Laws.{refuses, job-given, job-asked, job-ready, terms-word, tells}
 use borrow.Author.Needs.{needs}
 use Rattle.entry.proofs.check.Statement.{statement}
 use Rattle.entry.proofs.check.Tie as tie
 
 returns : tie.Need-returns
-returns c = let a = c .before .before .before .before .before .before .before .args in entry-unwritten (a .words .now) (a .asked) (arraysOf (a .kinds .now) (a .ends .now) (a .pool .now)) (length (a .scratch .now)) (a .answer .now) (c .if1 .taken)
+returns c = let a = c .before .before .before .before .before .before .before .args in entry-unwritten (a .job .now) (a .asked) (arraysOf (a .kinds .now) (a .ends .now) (a .pool .now)) (length (a .scratch .now)) (a .answer .now) (c .if1 .taken)
 
 prepare-requires : tie.Need-prepare-requires
 prepare-requires c κs = search needs
@@ -32,32 +32,23 @@ same-length-4 c = search needs
 returns-2 : tie.Need-returns-2
 returns-2 c = refuses (c .before .before .before .before .before .before .before .before .before .before .before .before .before .prepare .ensures) (c .before .before .before .before .before .before .before .before .before .before .before .before .before .before .before .before .before .before .before .before .before .before .before .before .args .answer .now) (c .before .before .before .before .before .before .before .before .before .before .before .before .before .before .before .before .before .if1 .left) (c .before .before .before .before .before .if2 .taken) (c .before .before .write-refusal .ensures .0) (c .before .before .write-refusal .ensures .1)
 
-job-kinds-requires : tie.Need-job-kinds-requires
-job-kinds-requires c κs = whole (c .before .before .before .before .before .before .before .before .before .before .prepare .ensures) (c .before .before .if2 .left)
-
-job-ends-requires : tie.Need-job-ends-requires
-job-ends-requires c κs = whole (c .before .before .before .before .before .before .before .before .before .before .before .prepare .ensures) (c .before .before .before .if2 .left)
-
-job-pool-requires : tie.Need-job-pool-requires
-job-pool-requires c κs = whole (c .before .before .before .before .before .before .before .before .before .before .before .before .prepare .ensures) (c .before .before .before .before .if2 .left)
-
 check-proof-requires : tie.Need-check-proof-requires
-check-proof-requires c κs = (job-given (c .before .before .before .before .before .before .before .before .before .before .before .before .before .before .before .before .before .prepare .ensures) (c .before .before .before .before .before .before .before .before .before .if2 .left) (c .before .before .before .before .before .before .job-kinds .ensures) (c .before .before .before .before .before .job-ends .ensures) (c .before .before .before .before .job-pool .ensures) refl, c .before .before .before .before .before .before .before .before .before .before .before .before .before .before .before .before .before .prepare .ensures .there (c .before .before .before .before .before .before .before .before .before .if2 .left))
+check-proof-requires c κs = (job-given (c .before .before .before .before .before .before .before .before .before .before .before .before .before .prepare .ensures) (c .before .before .before .before .before .if2 .left) refl, job-asked (c .before .before .before .before .before .before .before .before .before .before .before .before .before .prepare .ensures) (c .before .before .before .before .before .if2 .left))
 
 wide-requires : tie.Need-wide-requires
 wide-requires c κs = search needs
 
 tell-requires : tie.Need-tell-requires
-tell-requires c κs = let S = c .before .before .before .before .before .before .before .before .before .before .before .before .before .before .before .before .before .before .before .before .before .before .before .before .before .before .before .before .prepare .ensures in let n = c .before .before .before .before .before .before .before .before .before .before .before .before .before .before .before .before .before .before .before .before .if2 .left in let k = c .before .before .before .before .before .before .before .before .before .before .before .before .before .before .before .before .before .job-kinds .ensures in let e = c .before .before .before .before .before .before .before .before .before .before .before .before .before .before .before .before .job-ends .ensures in let l = c .before .before .before .before .before .before .before .before .before .before .before .before .before .before .before .job-pool .ensures in (job-ready S n k e l, (subst (λ (x : ℕ). x < c .before .before .before .before .before .before .before .before .before .before .before .before .before .before .before .before .before .before .before .before .before .before .before .before .before .before .before .before .prepare .result .z .proofs) (sym (c .before .wide .ensures)) (S .there n), (c .before .before .before .before .before .before .before .before .before .before .before .before .before .before .before .before .before .before .before .before .before .before .before .before .before .before .before .before .before .before .before .before .if1 .left, terms-word S n k e l (c .before .before .before .before .before .before .before .before .before .before .check-proof .ensures))))
+tell-requires c κs = let S = c .before .before .before .before .before .before .before .before .before .before .before .before .before .before .before .before .before .before .before .before .before .before .before .before .prepare .ensures in let n = c .before .before .before .before .before .before .before .before .before .before .before .before .before .before .before .before .if2 .left in (job-ready S n, (omega (arith, c .before .wide .ensures, job-asked S n), (c .before .before .before .before .before .before .before .before .before .before .before .before .before .before .before .before .before .before .before .before .before .before .before .before .before .before .before .before .if1 .left, terms-word S n (c .before .before .before .before .before .before .before .before .before .before .check-proof .ensures))))
 
 same-length-5 : tie.Need-same-length-5
-same-length-5 c = c .before .before .before .before .before .before .before .before .before .before .before .before .before .check-proof .ensures .grown .lenK ∙ c .before .before .before .before .before .before .before .before .before .before .before .before .before .before .before .before .before .before .before .before .before .before .before .before .before .before .before .before .before .before .before .prepare .ensures .started (c .before .before .before .before .before .before .before .before .before .before .before .before .before .before .before .before .before .before .before .before .before .before .before .if2 .left) .lenK
+same-length-5 c = c .before .before .before .before .before .before .before .before .before .before .before .before .before .check-proof .ensures .grown .lenK ∙ c .before .before .before .before .before .before .before .before .before .before .before .before .before .before .before .before .before .before .before .before .before .before .before .before .before .before .before .prepare .ensures .started (c .before .before .before .before .before .before .before .before .before .before .before .before .before .before .before .before .before .before .before .if2 .left) .lenK
 
 same-length-6 : tie.Need-same-length-6
-same-length-6 c = c .before .before .before .before .before .before .before .before .before .before .before .before .before .check-proof .ensures .grown .lenE ∙ c .before .before .before .before .before .before .before .before .before .before .before .before .before .before .before .before .before .before .before .before .before .before .before .before .before .before .before .before .before .before .before .prepare .ensures .started (c .before .before .before .before .before .before .before .before .before .before .before .before .before .before .before .before .before .before .before .before .before .before .before .if2 .left) .lenE
+same-length-6 c = c .before .before .before .before .before .before .before .before .before .before .before .before .before .check-proof .ensures .grown .lenE ∙ c .before .before .before .before .before .before .before .before .before .before .before .before .before .before .before .before .before .before .before .before .before .before .before .before .before .before .before .prepare .ensures .started (c .before .before .before .before .before .before .before .before .before .before .before .before .before .before .before .before .before .before .before .if2 .left) .lenE
 
 same-length-7 : tie.Need-same-length-7
-same-length-7 c = c .before .before .before .before .before .before .before .before .before .before .before .before .before .check-proof .ensures .grown .lenP ∙ c .before .before .before .before .before .before .before .before .before .before .before .before .before .before .before .before .before .before .before .before .before .before .before .before .before .before .before .before .before .before .before .prepare .ensures .started (c .before .before .before .before .before .before .before .before .before .before .before .before .before .before .before .before .before .before .before .before .before .before .before .if2 .left) .lenP
+same-length-7 c = c .before .before .before .before .before .before .before .before .before .before .before .before .before .check-proof .ensures .grown .lenP ∙ c .before .before .before .before .before .before .before .before .before .before .before .before .before .before .before .before .before .before .before .before .before .before .before .before .before .before .before .prepare .ensures .started (c .before .before .before .before .before .before .before .before .before .before .before .before .before .before .before .before .before .before .before .if2 .left) .lenP
 
 same-length-8 : tie.Need-same-length-8
 same-length-8 c = search needs
@@ -66,7 +57,7 @@ same-length-9 : tie.Need-same-length-9
 same-length-9 c = search needs
 
 returns-3 : tie.Need-returns-3
-returns-3 c = tells (c .before .before .before .before .before .before .before .before .before .before .before .before .before .before .before .before .before .before .before .before .before .before .before .before .before .before .before .before .before .before .before .prepare .ensures) (c .before .before .before .before .before .before .before .before .before .before .before .before .before .before .before .before .before .before .before .before .before .before .before .if2 .left) (c .before .before .before .before .before .before .before .before .before .before .before .before .before .before .before .before .before .before .before .before .job-kinds .ensures) (c .before .before .before .before .before .before .before .before .before .before .before .before .before .before .before .before .before .before .before .job-ends .ensures) (c .before .before .before .before .before .before .before .before .before .before .before .before .before .before .before .before .before .before .job-pool .ensures) (c .before .before .before .before .before .before .before .before .before .before .before .before .before .check-proof .ensures) (c .before .before .before .before .before .before .before .before .before .before .before .before .before .before .before .before .before .before .before .before .before .before .before .before .before .before .before .before .before .before .before .before .before .before .before .before .before .before .before .before .before .before .args .answer .now) (c .before .before .before .before .before .before .before .before .before .before .before .before .before .before .before .before .before .before .before .before .before .before .before .before .before .before .before .before .before .before .before .before .before .before .before .if1 .left) (c .before .before .before .before .wide .ensures) (c .before .before .tell .ensures .0) (c .before .before .tell .ensures .1)
+returns-3 c = tells (c .before .before .before .before .before .before .before .before .before .before .before .before .before .before .before .before .before .before .before .before .before .before .before .before .before .before .before .prepare .ensures) (c .before .before .before .before .before .before .before .before .before .before .before .before .before .before .before .before .before .before .before .if2 .left) (c .before .before .before .before .before .before .before .before .before .before .before .before .before .check-proof .ensures) (c .before .before .before .before .before .before .before .before .before .before .before .before .before .before .before .before .before .before .before .before .before .before .before .before .before .before .before .before .before .before .before .before .before .before .before .before .before .before .args .answer .now) (c .before .before .before .before .before .before .before .before .before .before .before .before .before .before .before .before .before .before .before .before .before .before .before .before .before .before .before .before .before .before .before .if1 .left) (c .before .before .before .before .wide .ensures) (c .before .before .tell .ensures .0) (c .before .before .tell .ensures .1)
 
 pub check-spec : {M : Type 1} → statement M
 check-spec =
@@ -80,9 +71,6 @@ check-spec =
     same-length-3
     same-length-4
     returns-2
-    job-kinds-requires
-    job-ends-requires
-    job-pool-requires
     check-proof-requires
     wide-requires
     tell-requires

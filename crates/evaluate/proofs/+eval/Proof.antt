@@ -8,10 +8,10 @@ use Rattle.memo.specs.Memo.{valueAt, isNoted, noteAt}
 use native.Mathlib.Omega.{arith}
 use borrow.Author.Needs.{needs}
 use mathlib.Core.Path.{refl, sym, ap, _∙_}
-use Prim.Native.Nat.{_-_}
-use Prim.Native.Nat.{ℕ, _<_}
+use Prim.Native.Nat.{_-_, ℕ, _<_}
 use borrow.Fn.Kinds.{In}
 use borrow.Fn.PlainCycle.{Measures, is, falls, and}
+use Rattle.model.specs.Layout.{sizesOf}
 use Rattle.evaluate.proofs.eval.Reads as eval
 use Rattle.evaluate.proofs.eval.Kinds as eval-kinds
 use Rattle.evaluate.proofs.+eval.Lts-eval as eval-lts
@@ -26,21 +26,21 @@ use Rattle.program.proofs.read.head_at.Reads as head-at-reads
 use Rattle.evaluate.proofs.+eval.{statement}
 use Rattle.evaluate.proofs.+eval.Tie.{close}
 
-abbrev μ-eval : Measures 10 eval-kinds.ps ℕ
-μ-eval κs a = a .1 .1 .1 .1 .1 .1 .1 .1 .1 .1 .1 .1 .1 .1 .0
+abbrev μ-eval : Measures 8 eval-kinds.ps ℕ
+μ-eval κs a = a .1 .1 .1 .1 .1 .1 .1 .1 .1 .1 .1 .0
 
-abbrev eval-at : ℕ → In 10 eval-kinds.ps
-eval-at t = and 10 eval-kinds.ps (is 10 eval-kinds.ps μ-eval t) eval.Pre
+abbrev eval-at : ℕ → In 8 eval-kinds.ps
+eval-at t = and 8 eval-kinds.ps (is 8 eval-kinds.ps μ-eval t) eval.Pre
 
-abbrev eval-below : ℕ → In 10 eval-kinds.ps
-eval-below t = and 10 eval-kinds.ps (falls 10 eval-kinds.ps _<_ μ-eval t) eval.Pre
+abbrev eval-below : ℕ → In 8 eval-kinds.ps
+eval-below t = and 8 eval-kinds.ps (falls 8 eval-kinds.ps _<_ μ-eval t) eval.Pre
 
 abbrev eval-Inv-loop : eval-lts.InvT-loop
-eval-Inv-loop kinds ends pool z bound pairs globals rule fact skinds₀ sends₀ spool₀ memo₀ e at args count vals₀ have₀ i₀ skinds sends spool memo vals have i =
-    Turn fact (programFor kinds ends pool z) rule (bindingsIn bound pairs globals) (z .expressions) (argumentsFor kinds ends pool z) (headFor kinds ends pool z) (exprFor kinds ends pool z) e args skinds₀ sends₀ spool₀ have₀ memo₀ skinds sends spool have memo vals i
+eval-Inv-loop job bound pairs globals rule fact skinds₀ sends₀ spool₀ memo₀ e at args count vals₀ have₀ i₀ skinds sends spool memo vals have i =
+    Turn fact (programFor job) rule (bindingsIn bound pairs globals) (sizesOf job .expressions) (argumentsFor job) (headFor job) (exprFor job) e args skinds₀ sends₀ spool₀ have₀ memo₀ skinds sends spool have memo vals i
 
 abbrev eval-μ-loop : eval-lts.MeasureT-loop
-eval-μ-loop kinds ends pool z bound pairs globals rule fact skinds₀ sends₀ spool₀ memo₀ e at args count vals₀ have₀ i₀ skinds sends spool memo vals have i =
+eval-μ-loop job bound pairs globals rule fact skinds₀ sends₀ spool₀ memo₀ e at args count vals₀ have₀ i₀ skinds sends spool memo vals have i =
     length args - i
 
 abbrev R-eval : ℕ → eval-lts.Claims
@@ -50,10 +50,10 @@ eval-wide-requires : (t : ℕ) → eval-lts.Need-wide-requires (R-eval t) (eval-
 eval-wide-requires t c κs = search needs
 
 eval-is-noted-requires : (t : ℕ) → eval-lts.Need-is-noted-requires (R-eval t) (eval-at t) eval.Post eval-Inv-loop eval-μ-loop
-eval-is-noted-requires t c κs = let pre = c .before .before .before .before .before .before .before .before .before .before .before .before .pre .1 in let l = pre .1 .1 .1 .long in let h = pre .1 .1 .0 in let w = c .before .wide .ensures in omega arith
+eval-is-noted-requires t c κs = let pre = c .before .before .before .before .before .before .before .before .before .before .pre .1 in let l = pre .1 .1 .1 .long in let h = pre .1 .1 .0 in let w = c .before .wide .ensures in omega arith
 
 eval-value-of-requires : (t : ℕ) → eval-lts.Need-value-of-requires (R-eval t) (eval-at t) eval.Post eval-Inv-loop eval-μ-loop
-eval-value-of-requires t c κs = let pre = c .before .before .before .before .before .before .before .before .before .before .before .before .before .before .before .pre .1 in let l = pre .1 .1 .1 .long in let h = pre .1 .1 .0 in let w = c .before .before .before .before .wide .ensures in omega arith
+eval-value-of-requires t c κs = let pre = c .before .before .before .before .before .before .before .before .before .before .before .before .before .pre .1 in let l = pre .1 .1 .1 .long in let h = pre .1 .1 .0 in let w = c .before .before .before .before .wide .ensures in omega arith
 
 eval-pass-requires : (t : ℕ) → eval-lts.Need-pass-requires (R-eval t) (eval-at t) eval.Post eval-Inv-loop eval-μ-loop
 eval-pass-requires t c κs = search needs
@@ -62,13 +62,13 @@ eval-same-length : (t : ℕ) → eval-lts.Need-same-length (R-eval t) (eval-at t
 eval-same-length t c = search needs
 
 eval-returns : (t : ℕ) → eval-lts.Need-returns (R-eval t) (eval-at t) eval.Post eval-Inv-loop eval-μ-loop
-eval-returns t c = let a = c .before .before .before .before .before .before .before .before .before .before .before .before .before .before .before .before .before .args in let pre = c .before .before .before .before .before .before .before .before .before .before .before .before .before .before .before .before .before .pre .1 in let prog = programFor (a .kinds .now) (a .ends .now) (a .pool .now) (a .z) in let σ = bindingsIn (a .bound .now) (a .pairs .now) (a .globals .now) in let args = argumentsFor (a .kinds .now) (a .ends .now) (a .pool .now) (a .z) in let head = headFor (a .kinds .now) (a .ends .now) (a .pool .now) (a .z) in let expr = exprFor (a .kinds .now) (a .ends .now) (a .pool .now) (a .z) in known (a .fact) prog (a .rule) σ (a .z .expressions) args head expr (pre .1 .1 .0) (pre .1 .0) (pre .1 .1 .1) (ap (isNoted (a .memo .now)) (sym (c .before .before .before .before .before .before .wide .ensures)) ∙ sym (c .before .before .before .before .is-noted .ensures) ∙ c .before .before .before .if1 .taken) (c .pass .ensures ∙ ap (λ (v : ℕ). record { refusal = passed; value = v; fill = a .fill }) (c .before .value-of .ensures ∙ ap (valueAt (a .memo .now)) (c .before .before .before .before .before .before .wide .ensures)))
+eval-returns t c = let a = c .before .before .before .before .before .before .before .before .before .before .before .before .before .before .before .args in let pre = c .before .before .before .before .before .before .before .before .before .before .before .before .before .before .before .pre .1 in let prog = programFor (a .job .now) in let σ = bindingsIn (a .bound .now) (a .pairs .now) (a .globals .now) in let args = argumentsFor (a .job .now) in let head = headFor (a .job .now) in let expr = exprFor (a .job .now) in known (a .fact) prog (a .rule) σ (sizesOf (a .job .now) .expressions) args head expr (pre .1 .1 .0) (pre .1 .0) (pre .1 .1 .1) (ap (isNoted (a .memo .now)) (sym (c .before .before .before .before .before .before .wide .ensures)) ∙ sym (c .before .before .before .before .is-noted .ensures) ∙ c .before .before .before .if1 .taken) (c .pass .ensures ∙ ap (λ (v : ℕ). record { refusal = passed; value = v; fill = a .fill }) (c .before .value-of .ensures ∙ ap (valueAt (a .memo .now)) (c .before .before .before .before .before .before .wide .ensures)))
 
 eval-arguments-at-requires : (t : ℕ) → eval-lts.Need-arguments-at-requires (R-eval t) (eval-at t) eval.Post eval-Inv-loop eval-μ-loop
-eval-arguments-at-requires t c κs = let pre = c .before .before .before .before .before .before .before .before .before .before .before .before .before .before .pre .1 in let h = pre .1 .1 .0 in let w = c .before .before .before .wide .ensures in (pre .0, omega arith)
+eval-arguments-at-requires t c κs = let pre = c .before .before .before .before .before .before .before .before .before .before .before .before .pre .1 in let h = pre .1 .1 .0 in let w = c .before .before .before .wide .ensures in (pre .0, omega arith)
 
 eval-loop-holds : (t : ℕ) → eval-lts.Need-loop-holds (R-eval t) (eval-at t) eval.Post eval-Inv-loop eval-μ-loop
-eval-loop-holds t c = let a = c .before .before .before .before .before .before .before .before .before .before .before .before .before .before .before .args in let pre = c .before .before .before .before .before .before .before .before .before .before .before .before .before .before .before .pre .1 in let prog = programFor (a .kinds .now) (a .ends .now) (a .pool .now) (a .z) in let σ = bindingsIn (a .bound .now) (a .pairs .now) (a .globals .now) in let args = argumentsFor (a .kinds .now) (a .ends .now) (a .pool .now) (a .z) in let head = headFor (a .kinds .now) (a .ends .now) (a .pool .now) (a .z) in let expr = exprFor (a .kinds .now) (a .ends .now) (a .pool .now) (a .z) in start (a .fact) prog (a .rule) σ (a .z .expressions) args head expr (node-for (pre .0) (a .e)) (c .arguments-at .ensures .is ∙ ap args (c .before .before .before .before .wide .ensures)) (pre .1 .0) (pre .1 .1 .1) refl
+eval-loop-holds t c = let a = c .before .before .before .before .before .before .before .before .before .before .before .before .before .args in let pre = c .before .before .before .before .before .before .before .before .before .before .before .before .before .pre .1 in let prog = programFor (a .job .now) in let σ = bindingsIn (a .bound .now) (a .pairs .now) (a .globals .now) in let args = argumentsFor (a .job .now) in let head = headFor (a .job .now) in let expr = exprFor (a .job .now) in start (a .fact) prog (a .rule) σ (sizesOf (a .job .now) .expressions) args head expr (node-for (pre .0) (a .e)) (c .arguments-at .ensures .is ∙ ap args (c .before .before .before .before .wide .ensures)) (pre .1 .0) (pre .1 .1 .1) refl
 
 eval-mul-eval : (t : ℕ) → eval-lts.Need-mul-eval (R-eval t) (eval-at t) eval.Post eval-Inv-loop eval-μ-loop
 eval-mul-eval t c = search needs
@@ -77,7 +77,7 @@ eval-shared-slice-read-eval : (t : ℕ) → eval-lts.Need-shared-slice-read-eval
 eval-shared-slice-read-eval t c = search needs
 
 eval-eval-requires : (t : ℕ) → eval-lts.Need-eval-requires (R-eval t) (eval-at t) eval.Post eval-Inv-loop eval-μ-loop
-eval-eval-requires t c κs = let a = c .before .before .before .before .before .before .before .before .before .before .before .before .before .before .before .before .before .before .before .before .before .before .args in let pre = c .before .before .before .before .before .before .before .before .before .before .before .before .before .before .before .before .before .before .before .before .before .before .pre .1 in let prog = programFor (a .kinds .now) (a .ends .now) (a .pool .now) (a .z) in let σ = bindingsIn (a .bound .now) (a .pairs .now) (a .globals .now) in let args = argumentsFor (a .kinds .now) (a .ends .now) (a .pool .now) (a .z) in let head = headFor (a .kinds .now) (a .ends .now) (a .pool .now) (a .z) in let expr = exprFor (a .kinds .now) (a .ends .now) (a .pool .now) (a .z) in let l = c .before .before .before .before .before .before .before .arguments-at .ensures .lower (c .before .before .before .before .before .before .loop .i) (search needs) in let w = c .before .before .before .before .before .before .before .before .before .before .before .wide .ensures in let h = pre .1 .1 .0 in (let m = c .before .before .before .before .before .before .before .before .before .before .before .before .before .before .before .before .before .before .before .before .before .before .pre .0 in omega arith, (pre .0, (c .before .before .before .before .before .before .loop .inv .run .grown .stored, (omega arith, next-memo (a .fact) prog (a .rule) σ (a .z .expressions) args head expr (c .before .before .before .before .before .before .loop .inv)))))
+eval-eval-requires t c κs = let a = c .before .before .before .before .before .before .before .before .before .before .before .before .before .before .before .before .before .before .before .before .args in let pre = c .before .before .before .before .before .before .before .before .before .before .before .before .before .before .before .before .before .before .before .before .pre .1 in let prog = programFor (a .job .now) in let σ = bindingsIn (a .bound .now) (a .pairs .now) (a .globals .now) in let args = argumentsFor (a .job .now) in let head = headFor (a .job .now) in let expr = exprFor (a .job .now) in let l = c .before .before .before .before .before .before .before .arguments-at .ensures .lower (c .before .before .before .before .before .before .loop .i) (search needs) in let w = c .before .before .before .before .before .before .before .before .before .before .before .wide .ensures in let h = pre .1 .1 .0 in (let m = c .before .before .before .before .before .before .before .before .before .before .before .before .before .before .before .before .before .before .before .before .pre .0 in omega arith, (pre .0, (c .before .before .before .before .before .before .loop .inv .run .grown .stored, (omega arith, next-memo (a .fact) prog (a .rule) σ (sizesOf (a .job .now) .expressions) args head expr (c .before .before .before .before .before .before .loop .inv)))))
 
 eval-same-length-2 : (t : ℕ) → eval-lts.Need-same-length-2 (R-eval t) (eval-at t) eval.Post eval-Inv-loop eval-μ-loop
 eval-same-length-2 t c = c .before .before .before .before .before .before .before .before .before .before .eval .ensures .does .grown .lenK ∙ c .before .before .before .before .before .before .before .before .before .before .before .before .before .before .before .before .before .loop .inv .run .grown .lenK
@@ -92,7 +92,7 @@ eval-same-length-5 : (t : ℕ) → eval-lts.Need-same-length-5 (R-eval t) (eval-
 eval-same-length-5 t c = search needs
 
 eval-returns-2 : (t : ℕ) → eval-lts.Need-returns-2 (R-eval t) (eval-at t) eval.Post eval-Inv-loop eval-μ-loop
-eval-returns-2 t c = let a = c .before .before .before .before .before .before .before .before .before .before .before .before .before .before .before .before .before .before .before .before .before .before .before .before .before .before .before .before .before .before .before .before .before .args in let pre = c .before .before .before .before .before .before .before .before .before .before .before .before .before .before .before .before .before .before .before .before .before .before .before .before .before .before .before .before .before .before .before .before .before .pre .1 in let prog = programFor (a .kinds .now) (a .ends .now) (a .pool .now) (a .z) in let σ = bindingsIn (a .bound .now) (a .pairs .now) (a .globals .now) in let args = argumentsFor (a .kinds .now) (a .ends .now) (a .pool .now) (a .z) in let head = headFor (a .kinds .now) (a .ends .now) (a .pool .now) (a .z) in let expr = exprFor (a .kinds .now) (a .ends .now) (a .pool .now) (a .z) in stops (a .fact) prog (a .rule) σ (a .z .expressions) args head expr (c .before .before .before .before .before .before .before .before .before .before .before .before .before .before .before .before .before .loop .inv) (search needs) (c .before .before .before .before .before .before .before .before .before .before .eval .ensures) (search needs)
+eval-returns-2 t c = let a = c .before .before .before .before .before .before .before .before .before .before .before .before .before .before .before .before .before .before .before .before .before .before .before .before .before .before .before .before .before .before .before .args in let pre = c .before .before .before .before .before .before .before .before .before .before .before .before .before .before .before .before .before .before .before .before .before .before .before .before .before .before .before .before .before .before .before .pre .1 in let prog = programFor (a .job .now) in let σ = bindingsIn (a .bound .now) (a .pairs .now) (a .globals .now) in let args = argumentsFor (a .job .now) in let head = headFor (a .job .now) in let expr = exprFor (a .job .now) in stops (a .fact) prog (a .rule) σ (sizesOf (a .job .now) .expressions) args head expr (c .before .before .before .before .before .before .before .before .before .before .before .before .before .before .before .before .before .loop .inv) (search needs) (c .before .before .before .before .before .before .before .before .before .before .eval .ensures) (search needs)
 
 eval-mul-vals : (t : ℕ) → eval-lts.Need-mul-vals (R-eval t) (eval-at t) eval.Post eval-Inv-loop eval-μ-loop
 eval-mul-vals t c = search needs
@@ -107,13 +107,13 @@ eval-loop-less : (t : ℕ) → eval-lts.Need-loop-less (R-eval t) (eval-at t) ev
 eval-loop-less t c = search needs
 
 eval-loop-again : (t : ℕ) → eval-lts.Need-loop-again (R-eval t) (eval-at t) eval.Post eval-Inv-loop eval-μ-loop
-eval-loop-again t c = let a = c .before .before .before .before .before .before .before .before .before .before .before .before .before .before .before .before .before .before .before .before .before .before .before .before .before .before .before .before .before .before .before .before .before .before .args in let pre = c .before .before .before .before .before .before .before .before .before .before .before .before .before .before .before .before .before .before .before .before .before .before .before .before .before .before .before .before .before .before .before .before .before .before .pre .1 in let prog = programFor (a .kinds .now) (a .ends .now) (a .pool .now) (a .z) in let σ = bindingsIn (a .bound .now) (a .pairs .now) (a .globals .now) in let args = argumentsFor (a .kinds .now) (a .ends .now) (a .pool .now) (a .z) in let head = headFor (a .kinds .now) (a .ends .now) (a .pool .now) (a .z) in let expr = exprFor (a .kinds .now) (a .ends .now) (a .pool .now) (a .z) in turns (a .fact) prog (a .rule) σ (a .z .expressions) args head expr (c .before .before .before .before .before .before .before .before .before .before .before .before .before .before .before .before .before .before .loop .inv) (search needs) (c .before .before .before .before .before .before .before .before .before .before .before .eval .ensures) (c .before .before .before .before .before .before .before .before .before .before .before .before .before .before .before .before .before .before .before .arguments-at .ensures .is ∙ ap args (c .before .before .before .before .before .before .before .before .before .before .before .before .before .before .before .before .before .before .before .before .before .before .before .wide .ensures)) (c .before .before .before .before .before .before .before .before .before .before .before .before .before .before .before .before .before .before .before .arguments-at .ensures .few) (λ j u. let l = c .before .before .before .before .before .before .before .before .before .before .before .before .before .before .before .before .before .before .before .arguments-at .ensures .lower j u in let w = c .before .before .before .before .before .before .before .before .before .before .before .before .before .before .before .before .before .before .before .before .before .before .before .wide .ensures in let h = pre .1 .1 .0 in omega arith) (search needs) (search needs)
+eval-loop-again t c = let a = c .before .before .before .before .before .before .before .before .before .before .before .before .before .before .before .before .before .before .before .before .before .before .before .before .before .before .before .before .before .before .before .before .args in let pre = c .before .before .before .before .before .before .before .before .before .before .before .before .before .before .before .before .before .before .before .before .before .before .before .before .before .before .before .before .before .before .before .before .pre .1 in let prog = programFor (a .job .now) in let σ = bindingsIn (a .bound .now) (a .pairs .now) (a .globals .now) in let args = argumentsFor (a .job .now) in let head = headFor (a .job .now) in let expr = exprFor (a .job .now) in turns (a .fact) prog (a .rule) σ (sizesOf (a .job .now) .expressions) args head expr (c .before .before .before .before .before .before .before .before .before .before .before .before .before .before .before .before .before .before .loop .inv) (search needs) (c .before .before .before .before .before .before .before .before .before .before .before .eval .ensures) (c .before .before .before .before .before .before .before .before .before .before .before .before .before .before .before .before .before .before .before .arguments-at .ensures .is ∙ ap args (c .before .before .before .before .before .before .before .before .before .before .before .before .before .before .before .before .before .before .before .before .before .before .before .wide .ensures)) (c .before .before .before .before .before .before .before .before .before .before .before .before .before .before .before .before .before .before .before .arguments-at .ensures .few) (λ j u. let l = c .before .before .before .before .before .before .before .before .before .before .before .before .before .before .before .before .before .before .before .arguments-at .ensures .lower j u in let w = c .before .before .before .before .before .before .before .before .before .before .before .before .before .before .before .before .before .before .before .before .before .before .before .wide .ensures in let h = pre .1 .1 .0 in omega arith) (search needs) (search needs)
 
 eval-head-at-requires : (t : ℕ) → eval-lts.Need-head-at-requires (R-eval t) (eval-at t) eval.Post eval-Inv-loop eval-μ-loop
-eval-head-at-requires t c κs = let pre = c .before .before .before .before .before .before .before .before .before .before .before .before .before .before .before .before .before .pre .1 in let h = pre .1 .1 .0 in let w = c .before .before .before .before .before .before .wide .ensures in (pre .0, omega arith)
+eval-head-at-requires t c κs = let pre = c .before .before .before .before .before .before .before .before .before .before .before .before .before .before .before .pre .1 in let h = pre .1 .1 .0 in let w = c .before .before .before .before .before .before .wide .ensures in (pre .0, omega arith)
 
 eval-value-of-requires-2 : (t : ℕ) → eval-lts.Need-value-of-requires-2 (R-eval t) (eval-at t) eval.Post eval-Inv-loop eval-μ-loop
-eval-value-of-requires-2 t c κs = let pre = c .before .before .before .before .before .before .before .before .before .before .before .before .before .before .before .before .before .before .before .pre .1 in let l = c .before .before .before .loop .inv .memo .long in let h = pre .1 .1 .0 in let w = c .before .before .before .before .before .before .before .before .wide .ensures in omega arith
+eval-value-of-requires-2 t c κs = let pre = c .before .before .before .before .before .before .before .before .before .before .before .before .before .before .before .before .before .pre .1 in let l = c .before .before .before .loop .inv .memo .long in let h = pre .1 .1 .0 in let w = c .before .before .before .before .before .before .before .before .wide .ensures in omega arith
 
 eval-array-share-prefix-vals : (t : ℕ) → eval-lts.Need-array-share-prefix-vals (R-eval t) (eval-at t) eval.Post eval-Inv-loop eval-μ-loop
 eval-array-share-prefix-vals t c = let f = c .before .before .before .before .before .before .before .before .arguments-at .ensures .few in let h = c .before .before .before .before .before .before .before .loop .inv .full in omega arith
@@ -122,10 +122,10 @@ eval-slice-aggregate-head-value : (t : ℕ) → eval-lts.Need-slice-aggregate-he
 eval-slice-aggregate-head-value t c = let f = c .before .before .before .before .before .before .before .before .before .arguments-at .ensures .few in let h = c .before .before .before .before .before .before .before .before .loop .inv .full in simp length-take (omega arith)
 
 eval-head-value-requires : (t : ℕ) → eval-lts.Need-head-value-requires (R-eval t) (eval-at t) eval.Post eval-Inv-loop eval-μ-loop
-eval-head-value-requires t c κs = let pre = c .before .before .before .before .before .before .before .before .before .before .before .before .before .before .before .before .before .before .before .before .before .before .before .before .pre .1 in (pre .0, (c .before .before .before .before .before .before .before .before .loop .inv .run .grown .stored, (let f = c .before .before .before .before .before .before .before .before .before .arguments-at .ensures .few in simp length-take (omega arith), c .before .before .before .before .before .before .head-at .ensures .primitive)))
+eval-head-value-requires t c κs = let pre = c .before .before .before .before .before .before .before .before .before .before .before .before .before .before .before .before .before .before .before .before .before .before .pre .1 in (pre .0, (c .before .before .before .before .before .before .before .before .loop .inv .run .grown .stored, (let f = c .before .before .before .before .before .before .before .before .before .arguments-at .ensures .few in simp length-take (omega arith), c .before .before .before .before .before .before .head-at .ensures .primitive)))
 
 eval-note-requires : (t : ℕ) → eval-lts.Need-note-requires (R-eval t) (eval-at t) eval.Post eval-Inv-loop eval-μ-loop
-eval-note-requires t c κs = let pre = c .before .before .before .before .before .before .before .before .before .before .before .before .before .before .before .before .before .before .before .before .before .before .before .before .before .before .before .before .before .before .before .before .pre .1 in let l = c .before .before .before .before .before .before .before .before .before .before .before .before .before .before .before .before .loop .inv .memo .long in let h = pre .1 .1 .0 in let w = c .before .before .before .before .before .before .before .before .before .before .before .before .before .before .before .before .before .before .before .before .before .wide .ensures in omega arith
+eval-note-requires t c κs = let pre = c .before .before .before .before .before .before .before .before .before .before .before .before .before .before .before .before .before .before .before .before .before .before .before .before .before .before .before .before .before .before .pre .1 in let l = c .before .before .before .before .before .before .before .before .before .before .before .before .before .before .before .before .loop .inv .memo .long in let h = pre .1 .1 .0 in let w = c .before .before .before .before .before .before .before .before .before .before .before .before .before .before .before .before .before .before .before .before .before .wide .ensures in omega arith
 
 eval-same-length-6 : (t : ℕ) → eval-lts.Need-same-length-6 (R-eval t) (eval-at t) eval.Post eval-Inv-loop eval-μ-loop
 eval-same-length-6 t c = c .before .before .before .before .before .before .before .before .before .before .head-value .ensures .grown .lenK ∙ c .before .before .before .before .before .before .before .before .before .before .before .before .before .before .before .before .before .before .before .loop .inv .run .grown .lenK
@@ -140,7 +140,7 @@ eval-same-length-9 : (t : ℕ) → eval-lts.Need-same-length-9 (R-eval t) (eval-
 eval-same-length-9 t c = c .before .before .note .kept .0 ∙ c .before .before .before .before .before .before .before .before .before .before .before .before .before .before .before .before .before .before .before .loop .inv .lenM
 
 eval-returns-3 : (t : ℕ) → eval-lts.Need-returns-3 (R-eval t) (eval-at t) eval.Post eval-Inv-loop eval-μ-loop
-eval-returns-3 t c = let a = c .before .before .before .before .before .before .before .before .before .before .before .before .before .before .before .before .before .before .before .before .before .before .before .before .before .before .before .before .before .before .before .before .before .before .before .args in let pre = c .before .before .before .before .before .before .before .before .before .before .before .before .before .before .before .before .before .before .before .before .before .before .before .before .before .before .before .before .before .before .before .before .before .before .before .pre .1 in let prog = programFor (a .kinds .now) (a .ends .now) (a .pool .now) (a .z) in let σ = bindingsIn (a .bound .now) (a .pairs .now) (a .globals .now) in let args = argumentsFor (a .kinds .now) (a .ends .now) (a .pool .now) (a .z) in let head = headFor (a .kinds .now) (a .ends .now) (a .pool .now) (a .z) in let expr = exprFor (a .kinds .now) (a .ends .now) (a .pool .now) (a .z) in finishes (a .fact) prog (a .rule) σ (a .z .expressions) args head expr (c .before .before .before .before .before .before .before .before .before .before .before .before .before .before .before .before .before .before .before .loop .inv) (c .before .before .before .before .before .before .before .before .before .before .before .before .before .before .before .before .before .before .loop-test .left) (c .before .before .before .before .before .before .before .before .before .before .before .before .before .before .before .before .before .before .before .before .arguments-at .ensures .is ∙ ap args (c .before .before .before .before .before .before .before .before .before .before .before .before .before .before .before .before .before .before .before .before .before .before .before .before .wide .ensures)) (pre .1 .1 .0) (at-head (a .fact) _ prog (a .rule) σ _ _ (c .before .before .before .before .before .before .before .before .before .before .before .before .before .before .before .before .before .head-at .ensures .is ∙ ap head (c .before .before .before .before .before .before .before .before .before .before .before .before .before .before .before .before .before .before .before .before .before .before .before .before .wide .ensures)) (c .before .before .before .before .before .before .before .before .before .before .head-value .ensures)) (c .before .before .note .ensures ∙ ap (λ (k : ℕ). noteAt (c .before .before .before .before .before .before .before .before .before .before .before .before .before .before .before .before .before .before .before .loop .memo) k (c .before .before .before .before .before .before .before .before .before .before .head-value .result .value)) (c .before .before .before .before .before .before .before .before .before .before .before .before .before .before .before .before .before .before .before .before .before .before .before .before .wide .ensures))
+eval-returns-3 t c = let a = c .before .before .before .before .before .before .before .before .before .before .before .before .before .before .before .before .before .before .before .before .before .before .before .before .before .before .before .before .before .before .before .before .before .args in let pre = c .before .before .before .before .before .before .before .before .before .before .before .before .before .before .before .before .before .before .before .before .before .before .before .before .before .before .before .before .before .before .before .before .before .pre .1 in let prog = programFor (a .job .now) in let σ = bindingsIn (a .bound .now) (a .pairs .now) (a .globals .now) in let args = argumentsFor (a .job .now) in let head = headFor (a .job .now) in let expr = exprFor (a .job .now) in finishes (a .fact) prog (a .rule) σ (sizesOf (a .job .now) .expressions) args head expr (c .before .before .before .before .before .before .before .before .before .before .before .before .before .before .before .before .before .before .before .loop .inv) (c .before .before .before .before .before .before .before .before .before .before .before .before .before .before .before .before .before .before .loop-test .left) (c .before .before .before .before .before .before .before .before .before .before .before .before .before .before .before .before .before .before .before .before .arguments-at .ensures .is ∙ ap args (c .before .before .before .before .before .before .before .before .before .before .before .before .before .before .before .before .before .before .before .before .before .before .before .before .wide .ensures)) (pre .1 .1 .0) (at-head (a .fact) _ prog (a .rule) σ _ _ (c .before .before .before .before .before .before .before .before .before .before .before .before .before .before .before .before .before .head-at .ensures .is ∙ ap head (c .before .before .before .before .before .before .before .before .before .before .before .before .before .before .before .before .before .before .before .before .before .before .before .before .wide .ensures)) (c .before .before .before .before .before .before .before .before .before .before .head-value .ensures)) (c .before .before .note .ensures ∙ ap (λ (k : ℕ). noteAt (c .before .before .before .before .before .before .before .before .before .before .before .before .before .before .before .before .before .before .before .loop .memo) k (c .before .before .before .before .before .before .before .before .before .before .head-value .result .value)) (c .before .before .before .before .before .before .before .before .before .before .before .before .before .before .before .before .before .before .before .before .before .before .before .before .wide .ensures))
 
 pub +eval-spec : {M : Type 1} → statement M
 +eval-spec = close μ-eval λ t. eval-lts.spec (R-eval t)

@@ -54,7 +54,7 @@ no-validator-requires c κs = search needs
 
 -- src/lib.rt:179:13
 validated-requires : tie.Need-validated-requires
-validated-requires c κs = (c .before .before .before .before .before .before .before .before .before .before .before .before .before .before .before .before .before .pre .0, (c .before .before .before .before .before .before .before .before .before .before .before .before .before .before .before .before .before .pre .1 .0, (c .before .before .before .before .before .before .before .before .before .before .before .before .before .before .before .before .before .pre .1 .1 .1 _ (c .before .before .before .before .before .head5 .given .1), number-above (c .before .before .before .before .before .before .before .before .before .before .before .before .before .before .before .before .before .args .fact) (c .before .before .before .no-validator .ensures))))
+validated-requires c κs = (c .before .before .before .before .before .before .before .before .before .before .before .before .before .before .before .pre .0, (c .before .before .before .before .before .before .before .before .before .before .before .before .before .before .before .pre .1 .0, (c .before .before .before .before .before .before .before .before .before .before .before .before .before .before .before .pre .1 .1 .1 _ (c .before .before .before .before .before .head5 .given .1), number-above (c .before .before .before .before .before .before .before .before .before .before .before .before .before .before .before .args .fact) (c .before .before .before .no-validator .ensures))))
 
 -- src/lib.rt:149:1
 same-length : tie.Need-same-length
@@ -70,11 +70,11 @@ same-length-3 c = search needs
 
 -- src/lib.rt:149:1
 returns : tie.Need-returns
-returns c = let a = c .before .before .before .before .before .before .before .before .before .before .before .before .before .before .before .before .before .before .before .before .before .before .before .args in head-does (a .fact) _ _ (a .rule) _ (a .args .now) _ (a .head) _ (c .before .before .before .before .before .before .before .before .before .before .before .head .given .1) (c .before .before .before .before .before .before .add-lit .ensures)
+returns c = let a = c .before .before .before .before .before .before .before .before .before .before .before .before .before .before .before .before .before .before .before .before .before .args in head-does (a .fact) _ _ (a .rule) _ (a .args .now) _ (a .head) _ (c .before .before .before .before .before .before .before .before .before .before .before .head .given .1) (c .before .before .before .before .before .before .add-lit .ensures)
 
 -- src/lib.rt:149:1
 returns-2 : tie.Need-returns-2
-returns-2 c = let a = c .before .before .before .before .before .before .before .before .before .before .before .before .before .before .args in head-does (a .fact) _ _ (a .rule) _ (a .args .now) _ (a .head) _ (c .before .before .head2 .given .1) (variable-does (c .before .before .before .before .before .before .before .before .before .before .before .before .before .before .pre .1 .0) (c .variable .ensures))
+returns-2 c = let a = c .before .before .before .before .before .before .before .before .before .before .before .before .args in head-does (a .fact) _ _ (a .rule) _ (a .args .now) _ (a .head) _ (c .before .before .head2 .given .1) (variable-does (c .before .before .before .before .before .before .before .before .before .before .before .before .pre .1 .0) (c .variable .ensures))
 
 -- src/lib.rt:149:1
 same-length-4 : tie.Need-same-length-4
@@ -90,7 +90,7 @@ same-length-6 c = search needs
 
 -- src/lib.rt:149:1
 returns-3 : tie.Need-returns-3
-returns-3 c = let a = c .before .before .before .before .before .before .before .before .before .before .before .before .before .before .before .before .before .before .before .before .before .before .before .args in head-does (a .fact) _ _ (a .rule) _ (a .args .now) _ (a .head) _ (c .before .before .before .before .before .before .before .before .before .before .before .head3 .given .1) (c .before .before .before .before .before .before .add-app .ensures)
+returns-3 c = let a = c .before .before .before .before .before .before .before .before .before .before .before .before .before .before .before .before .before .before .before .before .before .args in head-does (a .fact) _ _ (a .rule) _ (a .args .now) _ (a .head) _ (c .before .before .before .before .before .before .before .before .before .before .before .head3 .given .1) (c .before .before .before .before .before .before .add-app .ensures)
 
 -- src/lib.rt:149:1
 same-length-7 : tie.Need-same-length-7
@@ -106,7 +106,7 @@ same-length-9 c = search needs
 
 -- src/lib.rt:149:1
 returns-4 : tie.Need-returns-4
-returns-4 c = let a = c .before .before .before .before .before .before .before .before .before .before .before .before .before .before .before .before .before .before .before .before .before .before .before .args in head-does (a .fact) _ _ (a .rule) _ (a .args .now) _ (a .head) _ (c .before .before .before .before .before .before .before .before .before .before .before .head4 .given .1) (c .before .before .before .before .before .before .custom-value .ensures)
+returns-4 c = let a = c .before .before .before .before .before .before .before .before .before .before .before .before .before .before .before .before .before .before .before .before .before .args in head-does (a .fact) _ _ (a .rule) _ (a .args .now) _ (a .head) _ (c .before .before .before .before .before .before .before .before .before .before .before .head4 .given .1) (c .before .before .before .before .before .before .custom-value .ensures)
 
 -- src/lib.rt:149:1
 same-length-10 : tie.Need-same-length-10
@@ -122,7 +122,7 @@ same-length-12 c = search needs
 
 -- src/lib.rt:149:1
 returns-5 : tie.Need-returns-5
-returns-5 c = let a = c .before .before .before .before .before .before .before .before .before .before .before .before .before .before .before .before .before .before .before .before .before .before .before .before .args in head-does (a .fact) _ _ (a .rule) _ (a .args .now) _ (a .head) _ (c .before .before .before .before .before .before .before .before .before .before .before .before .head5 .given .1) (by-number (programFor (a .kinds .now) (a .ends .now) (a .pool .now) (a .z)) _ (a .args .now) _ (c .before .before .before .before .before .before .before .before .before .before .no-validator .ensures) (c .before .before .before .before .before .before .validated .ensures))
+returns-5 c = let a = c .before .before .before .before .before .before .before .before .before .before .before .before .before .before .before .before .before .before .before .before .before .before .args in head-does (a .fact) _ _ (a .rule) _ (a .args .now) _ (a .head) _ (c .before .before .before .before .before .before .before .before .before .before .before .before .head5 .given .1) (by-number (programFor (a .job .now)) _ (a .args .now) _ (c .before .before .before .before .before .before .before .before .before .before .no-validator .ensures) (c .before .before .before .before .before .before .validated .ensures))
 
 pub head-value-spec : {M : Type 1} → statement M
 head-value-spec =

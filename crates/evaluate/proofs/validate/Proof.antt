@@ -12,7 +12,7 @@ row-value-requires c κs = search needs
 
 -- src/lib.rt:58:1
 returns : tie.Need-returns
-returns c = let a = c .before .before .before .before .before .before .before .before .args in validate-does _ _ (a .args .now) (c .before .before .before .before .before .before .before .before .pre .1) (c .row-value .ensures)
+returns c = let a = c .before .before .before .before .before .before .args in validate-does _ _ (a .args .now) (c .before .before .before .before .before .before .pre .1) (c .row-value .ensures)
 
 pub validate-spec : {M : Type 1} → statement M
 validate-spec = tie.close (tie.spec row-value-requires returns)

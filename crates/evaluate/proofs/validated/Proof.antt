@@ -29,7 +29,7 @@ refuse1-requires c κs = search needs
 
 -- src/lib.rt:100:9
 returns : tie.Need-returns
-returns c = let a = c .before .before .before .before .before .before .before .before .before .before .before .before .args in let prog = programFor (a .kinds .now) (a .ends .now) (a .pool .now) (a .z) in without-validator prog (a .n) (a .p) (a .args .now) (primitiveOf (c .before .before .before .primitive-at .result)) (c .before .before .before .primitive-at .ensures ∙ ap (primitiveAt (prog .primitives)) (c .before .before .before .before .wide .ensures)) (c .before .before .before .before .before .before .before .before .before .before .before .before .pre .1 .0) _ (c .before .before .before .before .before .before .before .before .before .before .before .before .pre .1 .1 .1) (not-true _ (c .before .if1 .taken)) (c .refuse1 .ensures)
+returns c = let a = c .before .before .before .before .before .before .before .before .before .before .args in let prog = programFor (a .job .now) in without-validator prog (a .n) (a .p) (a .args .now) (primitiveOf (c .before .before .before .primitive-at .result)) (c .before .before .before .primitive-at .ensures ∙ ap (primitiveAt (prog .primitives)) (c .before .before .before .before .wide .ensures)) (c .before .before .before .before .before .before .before .before .before .before .pre .1 .0) _ (c .before .before .before .before .before .before .before .before .before .before .pre .1 .1 .1) (not-true _ (c .before .if1 .taken)) (c .refuse1 .ensures)
 
 -- src/lib.rt:102:9
 validate-requires : tie.Need-validate-requires
@@ -65,7 +65,7 @@ same-length-3 c = search needs
 
 -- src/lib.rt:79:1
 returns-2 : tie.Need-returns-2
-returns-2 c = let a = c .before .before .before .before .before .before .before .before .before .before .before .before .before .before .before .before .before .before .before .before .before .before .before .before .before .args in let prog = programFor (a .kinds .now) (a .ends .now) (a .pool .now) (a .z) in validator-some prog (a .n) (a .p) (a .args .now) (primitiveOf (c .before .before .before .before .before .before .before .before .before .before .before .before .before .before .before .before .primitive-at .result)) (c .before .before .before .before .before .before .before .before .before .before .before .before .before .before .before .before .primitive-at .ensures ∙ ap (primitiveAt (prog .primitives)) (c .before .before .before .before .before .before .before .before .before .before .before .before .before .before .before .before .before .wide .ensures)) (c .before .before .before .before .before .before .before .before .before .before .validate .ensures) (not-false _ (c .before .before .before .before .before .before .before .before .before .before .before .before .before .before .if1 .left)) _ _ (ap optionOf (sym (c .before .before .value .given .1))) (c .pass .ensures)
+returns-2 c = let a = c .before .before .before .before .before .before .before .before .before .before .before .before .before .before .before .before .before .before .before .before .before .before .before .args in let prog = programFor (a .job .now) in validator-some prog (a .n) (a .p) (a .args .now) (primitiveOf (c .before .before .before .before .before .before .before .before .before .before .before .before .before .before .before .before .primitive-at .result)) (c .before .before .before .before .before .before .before .before .before .before .before .before .before .before .before .before .primitive-at .ensures ∙ ap (primitiveAt (prog .primitives)) (c .before .before .before .before .before .before .before .before .before .before .before .before .before .before .before .before .before .wide .ensures)) (c .before .before .before .before .before .before .before .before .before .before .validate .ensures) (not-false _ (c .before .before .before .before .before .before .before .before .before .before .before .before .before .before .if1 .left)) _ _ (ap optionOf (sym (c .before .before .value .given .1))) (c .pass .ensures)
 
 -- src/lib.rt:79:1
 same-length-4 : tie.Need-same-length-4
@@ -81,7 +81,7 @@ same-length-6 c = search needs
 
 -- src/lib.rt:79:1
 returns-3 : tie.Need-returns-3
-returns-3 c = let a = c .before .before .before .before .before .before .before .before .before .before .before .before .before .before .before .before .before .before .before .before .before .before .before .before .args in let prog = programFor (a .kinds .now) (a .ends .now) (a .pool .now) (a .z) in validator-none prog (a .n) (a .p) (a .args .now) (primitiveOf (c .before .before .before .before .before .before .before .before .before .before .before .before .before .before .before .primitive-at .result)) (c .before .before .before .before .before .before .before .before .before .before .before .before .before .before .before .primitive-at .ensures ∙ ap (primitiveAt (prog .primitives)) (c .before .before .before .before .before .before .before .before .before .before .before .before .before .before .before .before .wide .ensures)) (c .before .before .before .before .before .before .before .before .before .validate .ensures) (not-false _ (c .before .before .before .before .before .before .before .before .before .before .before .before .before .if1 .left)) _ (ap optionOf (sym (c .before .enum-told .given .1))) (c .refuse12 .ensures)
+returns-3 c = let a = c .before .before .before .before .before .before .before .before .before .before .before .before .before .before .before .before .before .before .before .before .before .before .args in let prog = programFor (a .job .now) in validator-none prog (a .n) (a .p) (a .args .now) (primitiveOf (c .before .before .before .before .before .before .before .before .before .before .before .before .before .before .before .primitive-at .result)) (c .before .before .before .before .before .before .before .before .before .before .before .before .before .before .before .primitive-at .ensures ∙ ap (primitiveAt (prog .primitives)) (c .before .before .before .before .before .before .before .before .before .before .before .before .before .before .before .before .wide .ensures)) (c .before .before .before .before .before .before .before .before .before .validate .ensures) (not-false _ (c .before .before .before .before .before .before .before .before .before .before .before .before .before .if1 .left)) _ (ap optionOf (sym (c .before .enum-told .given .1))) (c .refuse12 .ensures)
 
 pub validated-spec : {M : Type 1} → statement M
 validated-spec =

@@ -1,7 +1,6 @@
 use Rattle.evaluate.specs.Value.{bindingsIn}
-use Rattle.program.specs.Read.{exprFor}
+use Rattle.program.specs.Read.{exprFor, factFor}
 use Rattle.program.specs.Ready.{programFor}
-use Rattle.program.specs.Read.{factFor}
 use Rattle.decode.specs.View.{propositionOf}
 use Rattle.facts.proofs.Wants.{fact-refused, fact-compared}
 use borrow.Author.Needs.{needs}
@@ -24,10 +23,10 @@ same-length-4 : tie.Need-same-length-4
 same-length-4 c = search needs
 
 returns : tie.Need-returns
-returns c = let a = c .before .before .before .before .before .before .before .before .before .before .before .before .before .before .before .before .before .before .before .before .before .before .before .before .before .before .before .args in let pre = c .before .before .before .before .before .before .before .before .before .before .before .before .before .before .before .before .before .before .before .before .before .before .before .before .before .before .before .pre in let prog = programFor (a .kinds .now) (a .ends .now) (a .pool .now) (a .z) in let σ = bindingsIn (a .bound .now) (a .pairs .now) (a .globals .now) in let expr = exprFor (a .kinds .now) (a .ends .now) (a .pool .now) (a .z) in fact-refused prog (a .rule) σ (factFor (a .kinds .now) (a .ends .now) (a .pool .now) (a .z) (a .i)) (propositionOf (a .q)) (c .before .before .before .before .before .before .before .before .before .before .before .before .wanted .result) (c .before .before .before .before .before .before .before .before .before .before .before .before .wanted .ensures) (c .if1 .taken)
+returns c = let a = c .before .before .before .before .before .before .before .before .before .before .before .before .before .before .before .before .before .before .before .before .before .before .before .before .before .args in let pre = c .before .before .before .before .before .before .before .before .before .before .before .before .before .before .before .before .before .before .before .before .before .before .before .before .before .pre in let prog = programFor (a .job .now) in let σ = bindingsIn (a .bound .now) (a .pairs .now) (a .globals .now) in let expr = exprFor (a .job .now) in fact-refused prog (a .rule) σ (factFor (a .job .now) (a .i)) (propositionOf (a .q)) (c .before .before .before .before .before .before .before .before .before .before .before .before .wanted .result) (c .before .before .before .before .before .before .before .before .before .before .before .before .wanted .ensures) (c .if1 .taken)
 
 matches-requires : tie.Need-matches-requires
-matches-requires c κs = let p = c .before .before .before .before .before .before .before .before .before .before .before .before .before .before .before .before .before .before .before .before .before .before .before .before .before .before .before .pre in (p .0, p .1 .1 .1 .1)
+matches-requires c κs = let p = c .before .before .before .before .before .before .before .before .before .before .before .before .before .before .before .before .before .before .before .before .before .before .before .before .before .pre in (p .0, p .1 .1 .1 .1)
 
 same-length-5 : tie.Need-same-length-5
 same-length-5 c = search needs
@@ -42,7 +41,7 @@ same-length-8 : tie.Need-same-length-8
 same-length-8 c = search needs
 
 returns-2 : tie.Need-returns-2
-returns-2 c = let a = c .before .before .before .before .before .before .before .before .before .before .before .before .before .before .before .before .before .before .before .before .before .before .before .before .before .before .before .before .args in let pre = c .before .before .before .before .before .before .before .before .before .before .before .before .before .before .before .before .before .before .before .before .before .before .before .before .before .before .before .before .pre in let prog = programFor (a .kinds .now) (a .ends .now) (a .pool .now) (a .z) in let σ = bindingsIn (a .bound .now) (a .pairs .now) (a .globals .now) in let expr = exprFor (a .kinds .now) (a .ends .now) (a .pool .now) (a .z) in fact-compared prog (a .rule) σ (factFor (a .kinds .now) (a .ends .now) (a .pool .now) (a .z) (a .i)) (propositionOf (a .q)) (c .before .before .before .before .before .before .before .before .before .before .before .before .before .wanted .result) (c .before .before .before .before .before .before .before .before .before .before .before .before .before .wanted .ensures) (c .before .if1 .left) (c .matches .ensures)
+returns-2 c = let a = c .before .before .before .before .before .before .before .before .before .before .before .before .before .before .before .before .before .before .before .before .before .before .before .before .before .before .args in let pre = c .before .before .before .before .before .before .before .before .before .before .before .before .before .before .before .before .before .before .before .before .before .before .before .before .before .before .pre in let prog = programFor (a .job .now) in let σ = bindingsIn (a .bound .now) (a .pairs .now) (a .globals .now) in let expr = exprFor (a .job .now) in fact-compared prog (a .rule) σ (factFor (a .job .now) (a .i)) (propositionOf (a .q)) (c .before .before .before .before .before .before .before .before .before .before .before .before .before .wanted .result) (c .before .before .before .before .before .before .before .before .before .before .before .before .before .wanted .ensures) (c .before .if1 .left) (c .matches .ensures)
 
 pub check-fact-matches-proposition-spec : {M : Type 1} → statement M
 check-fact-matches-proposition-spec =

@@ -16,7 +16,7 @@ enum-known-fact : tie.Need-enum-known-fact
 enum-known-fact c = search needs
 
 equality-matches-requires : tie.Need-equality-matches-requires
-equality-matches-requires c κs = let b = c .before .before .before .fact-at .ensures .equal (c .before .fact .given .0 .0) (c .before .fact .given .0 .1 .0) (c .before .fact .given .1) in (c .before .before .before .before .before .before .before .before .pre .0, (b .0, b .1))
+equality-matches-requires c κs = let b = c .before .before .before .fact-at .ensures .equal (c .before .fact .given .0 .0) (c .before .fact .given .0 .1 .0) (c .before .fact .given .1) in (c .before .before .before .before .before .before .pre .0, (b .0, b .1))
 
 enum-told : tie.Need-enum-told
 enum-told c = search needs
@@ -25,10 +25,10 @@ bare-matches-requires : tie.Need-bare-matches-requires
 bare-matches-requires c κs = search needs
 
 returns : tie.Need-returns
-returns c = let a = c .before .before .before .before .before .before .before .before .before .args in λ s. c .equality-matches .ensures s ∙ matches-as (a .rule) (propositionOf (a .w)) (propositionOf (a .q)) s (fact-by (c .before .before .before .before .fact-at .ensures) (c .before .before .before .before .before .wide .ensures) (c .before .before .fact .given .1))
+returns c = let a = c .before .before .before .before .before .before .before .args in λ s. c .equality-matches .ensures s ∙ matches-as (a .rule) (propositionOf (a .w)) (propositionOf (a .q)) s (fact-by (c .before .before .before .before .fact-at .ensures) (c .before .before .before .before .before .wide .ensures) (c .before .before .fact .given .1))
 
 returns-2 : tie.Need-returns-2
-returns-2 c = let a = c .before .before .before .before .before .before .before .before .args in λ s. c .bare-matches .ensures _ s ∙ matches-as (a .rule) (propositionOf (a .w)) (propositionOf (a .q)) s (fact-by (c .before .before .before .fact-at .ensures) (c .before .before .before .before .wide .ensures) (c .before .enum-told .given .1))
+returns-2 c = let a = c .before .before .before .before .before .before .args in λ s. c .bare-matches .ensures _ s ∙ matches-as (a .rule) (propositionOf (a .w)) (propositionOf (a .q)) s (fact-by (c .before .before .before .fact-at .ensures) (c .before .before .before .before .wide .ensures) (c .before .enum-told .given .1))
 
 pub matches-spec : {M : Type 1} → statement M
 matches-spec =

@@ -17,16 +17,16 @@ use Rattle.cells.proofs.copy.Reads as copy-reads
 use Rattle.heads.proofs.has_pair.Reads as has-pair-reads
 
 abbrev Inv-loop : tie.InvT-loop
-Inv-loop kinds ends pool z bound pairs globals rule skinds₀ sends₀ spool₀ memo₀ marking marks₀ actions q table₀ at₀ have₀ found₀ i₀ skinds sends spool memo marks table at have found i =
-    Turn kinds ends pool z rule pairs globals (propositionOf q) marking actions (bindingsIn bound pairs globals) skinds₀ sends₀ spool₀ have₀ memo₀ marks₀ skinds sends spool have memo marks table at found i
+Inv-loop job bound pairs globals rule skinds₀ sends₀ spool₀ memo₀ marking marks₀ actions q table₀ at₀ have₀ found₀ i₀ skinds sends spool memo marks table at have found i =
+    Turn job rule pairs globals (propositionOf q) marking actions (bindingsIn bound pairs globals) skinds₀ sends₀ spool₀ have₀ memo₀ marks₀ skinds sends spool have memo marks table at found i
 
 abbrev μ-loop : tie.MeasureT-loop
-μ-loop kinds ends pool z bound pairs globals rule skinds₀ sends₀ spool₀ memo₀ marking marks₀ actions q table₀ at₀ have₀ found₀ i₀ skinds sends spool memo marks table at have found i =
+μ-loop job bound pairs globals rule skinds₀ sends₀ spool₀ memo₀ marking marks₀ actions q table₀ at₀ have₀ found₀ i₀ skinds sends spool memo marks table at have found i =
     length actions - i
 
 -- src/lib.rt:83:18
 sub-at : tie.Need-sub-at Inv-loop μ-loop
-sub-at c = let h = c .before .before .before .before .before .before .before .before .before .before .before .before .pre .1 .0 in omega arith
+sub-at c = let h = c .before .before .before .before .before .before .before .before .before .before .pre .1 .0 in omega arith
 
 -- src/lib.rt:84:17
 slice-aggregate-copy : tie.Need-slice-aggregate-copy Inv-loop μ-loop
@@ -34,11 +34,11 @@ slice-aggregate-copy c = search needs
 
 -- src/lib.rt:84:5
 copy-requires : tie.Need-copy-requires Inv-loop μ-loop
-copy-requires c κs = let h = c .before .before .before .before .before .before .before .before .before .before .before .before .before .pre .1 .0 in omega arith
+copy-requires c κs = let h = c .before .before .before .before .before .before .before .before .before .before .before .pre .1 .0 in omega arith
 
 -- src/lib.rt:88:5
 loop-holds : tie.Need-loop-holds Inv-loop μ-loop
-loop-holds c = let a = c .before .before .before .before .before .before .before .before .before .before .before .before .before .before .before .args in let pre = c .before .before .before .before .before .before .before .before .before .before .before .before .before .before .before .pre in let h = pre .1 .0 in start (a .kinds .now) (a .ends .now) (a .pool .now) (a .z) (a .rule) (a .pairs .now) (a .globals .now) (propositionOf (a .q)) (a .marking) (pre .0) (pre .1 .1 .0) (omega arith) (omega arith) (search needs) (copied-at _ (a .bound .now) _ (omega arith) (c .before .copy .ensures))
+loop-holds c = let a = c .before .before .before .before .before .before .before .before .before .before .before .before .before .args in let pre = c .before .before .before .before .before .before .before .before .before .before .before .before .before .pre in let h = pre .1 .0 in start (a .job .now) (a .rule) (a .pairs .now) (a .globals .now) (propositionOf (a .q)) (a .marking) (pre .0) (pre .1 .1 .0) (omega arith) (omega arith) (search needs) (copied-at _ (a .bound .now) _ (omega arith) (c .before .copy .ensures))
 
 -- src/lib.rt:89:54
 mul-process-action : tie.Need-mul-process-action Inv-loop μ-loop
@@ -58,7 +58,7 @@ part-process-action-end c = search needs
 
 -- src/lib.rt:89:140
 mul-process-action-2 : tie.Need-mul-process-action-2 Inv-loop μ-loop
-mul-process-action-2 c = let x = c .before .before .before .before .before .before .before .loop-test .taken in let y = c .before .before .before .before .before .before .before .before .before .before .before .before .before .before .before .before .before .before .before .before .before .before .before .before .pre .1 .1 .0 in omega arith
+mul-process-action-2 c = let x = c .before .before .before .before .before .before .before .loop-test .taken in let y = c .before .before .before .before .before .before .before .before .before .before .before .before .before .before .before .before .before .before .before .before .before .before .pre .1 .1 .0 in omega arith
 
 -- src/lib.rt:89:140
 shared-slice-read-process-action : tie.Need-shared-slice-read-process-action Inv-loop μ-loop
@@ -66,7 +66,7 @@ shared-slice-read-process-action c = search needs
 
 -- src/lib.rt:89:13
 process-action-requires : tie.Need-process-action-requires Inv-loop μ-loop
-process-action-requires c κs = let a = c .before .before .before .before .before .before .before .before .before .before .before .before .before .before .before .before .before .before .before .before .before .before .before .before .before .args in let pre = c .before .before .before .before .before .before .before .before .before .before .before .before .before .before .before .before .before .before .before .before .before .before .before .before .before .pre in let t = c .before .before .before .before .before .before .before .before .before .loop .inv in (standing-part (a .pairs .now) (a .globals .now) (part-is (c .before .before .before .before .before .before .before .before .before .loop .table) (c .before .before .before .before .before .before .before .before .before .loop .at) (t .full)) (t .stand), pre .1 .1 .1 (c .before .before .before .before .before .before .before .before .before .loop .i) (search needs))
+process-action-requires c κs = let a = c .before .before .before .before .before .before .before .before .before .before .before .before .before .before .before .before .before .before .before .before .before .before .before .args in let pre = c .before .before .before .before .before .before .before .before .before .before .before .before .before .before .before .before .before .before .before .before .before .before .before .pre in let t = c .before .before .before .before .before .before .before .before .before .loop .inv in (standing-part (a .pairs .now) (a .globals .now) (part-is (c .before .before .before .before .before .before .before .before .before .loop .table) (c .before .before .before .before .before .before .before .before .before .loop .at) (t .full)) (t .stand), pre .1 .1 .1 (c .before .before .before .before .before .before .before .before .before .loop .i) (search needs))
 
 -- src/lib.rt:93:13
 same-length : tie.Need-same-length Inv-loop μ-loop
@@ -82,15 +82,15 @@ same-length-3 c = c .before .before .before .before .before .before .before .bef
 
 -- src/lib.rt:93:13
 same-length-4 : tie.Need-same-length-4 Inv-loop μ-loop
-same-length-4 c = c .before .before .before .before .before .before .before .before .before .before .before .before .before .before .process-action .kept .1 .1 .1 .1 .1 .1 .1 .1 .1 .1 .1 .1 .0 ∙ c .before .before .before .before .before .before .before .before .before .before .before .before .before .before .before .before .before .before .before .before .before .before .before .before .loop .inv .lenMemo
+same-length-4 c = c .before .before .before .before .before .before .before .before .before .before .before .before .before .before .process-action .kept .1 .1 .1 .1 .1 .1 .1 .1 .1 .0 ∙ c .before .before .before .before .before .before .before .before .before .before .before .before .before .before .before .before .before .before .before .before .before .before .before .before .loop .inv .lenMemo
 
 -- src/lib.rt:93:13
 same-length-5 : tie.Need-same-length-5 Inv-loop μ-loop
-same-length-5 c = c .before .before .before .before .before .before .before .before .before .before .before .before .before .before .process-action .kept .1 .1 .1 .1 .1 .1 .1 .1 .1 .1 .1 .1 .1 .1 .0 ∙ c .before .before .before .before .before .before .before .before .before .before .before .before .before .before .before .before .before .before .before .before .before .before .before .before .loop .inv .lenM
+same-length-5 c = c .before .before .before .before .before .before .before .before .before .before .before .before .before .before .process-action .kept .1 .1 .1 .1 .1 .1 .1 .1 .1 .1 .1 .0 ∙ c .before .before .before .before .before .before .before .before .before .before .before .before .before .before .before .before .before .before .before .before .before .before .before .before .loop .inv .lenM
 
 -- src/lib.rt:93:13
 returns : tie.Need-returns Inv-loop μ-loop
-returns c = let a = c .before .before .before .before .before .before .before .before .before .before .before .before .before .before .before .before .before .before .before .before .before .before .before .before .before .before .before .before .before .before .before .before .before .before .before .before .before .before .before .before .args in let pre = c .before .before .before .before .before .before .before .before .before .before .before .before .before .before .before .before .before .before .before .before .before .before .before .before .before .before .before .before .before .before .before .before .before .before .before .before .before .before .before .before .pre in let t = c .before .before .before .before .before .before .before .before .before .before .before .before .before .before .before .before .before .before .before .before .before .before .before .before .loop .inv in stops (a .kinds .now) (a .ends .now) (a .pool .now) (a .z) (a .rule) (a .pairs .now) (a .globals .now) (propositionOf (a .q)) (a .marking) t (let x = c .before .before .before .before .before .before .before .before .before .before .before .before .before .before .before .before .before .before .before .before .before .before .before .loop-test .taken in omega arith) (acts-part (a .pairs .now) (a .globals .now) (part-is (c .before .before .before .before .before .before .before .before .before .before .before .before .before .before .before .before .before .before .before .before .before .before .before .before .loop .table) (c .before .before .before .before .before .before .before .before .before .before .before .before .before .before .before .before .before .before .before .before .before .before .before .before .loop .at) (t .full)) (c .before .before .before .before .before .before .before .before .before .before .before .before .before .before .process-action .ensures)) (search needs) refl
+returns c = let a = c .before .before .before .before .before .before .before .before .before .before .before .before .before .before .before .before .before .before .before .before .before .before .before .before .before .before .before .before .before .before .before .before .before .before .before .before .before .before .args in let t = c .before .before .before .before .before .before .before .before .before .before .before .before .before .before .before .before .before .before .before .before .before .before .before .before .loop .inv in stops (a .job .now) (a .rule) (a .pairs .now) (a .globals .now) (propositionOf (a .q)) (a .marking) t (c .before .before .before .before .before .before .before .before .before .before .before .before .before .before .before .before .before .before .before .before .before .before .before .loop-test .taken) (acts-part (a .pairs .now) (a .globals .now) (part-is (c .before .before .before .before .before .before .before .before .before .before .before .before .before .before .before .before .before .before .before .before .before .before .before .before .loop .table) (c .before .before .before .before .before .before .before .before .before .before .before .before .before .before .before .before .before .before .before .before .before .before .before .before .loop .at) (t .full)) (c .before .before .before .before .before .before .before .before .before .before .before .before .before .before .process-action .ensures)) (c .before .if1 .taken) refl
 
 -- src/lib.rt:96:25
 has-pair-requires : tie.Need-has-pair-requires Inv-loop μ-loop
@@ -106,15 +106,15 @@ push-binding-requires c κs = let t = c .before .before .before .before .before 
 
 -- src/lib.rt:98:9
 add-i : tie.Need-add-i Inv-loop μ-loop
-add-i c = let x = c .before .before .before .before .before .before .before .before .before .before .before .before .before .before .before .before .before .before .before .before .before .before .before .before .before .before .loop-test .taken in let y = c .before .before .before .before .before .before .before .before .before .before .before .before .before .before .before .before .before .before .before .before .before .before .before .before .before .before .before .before .before .before .before .before .before .before .before .before .before .before .before .before .before .before .before .pre .1 .1 .0 in omega arith
+add-i c = let x = c .before .before .before .before .before .before .before .before .before .before .before .before .before .before .before .before .before .before .before .before .before .before .before .before .before .before .loop-test .taken in let y = c .before .before .before .before .before .before .before .before .before .before .before .before .before .before .before .before .before .before .before .before .before .before .before .before .before .before .before .before .before .before .before .before .before .before .before .before .before .before .before .before .before .pre .1 .1 .0 in omega arith
 
 -- src/lib.rt:88:5
 loop-less : tie.Need-loop-less Inv-loop μ-loop
-loop-less c = let x = c .before .before .before .before .before .before .before .before .before .before .before .before .before .before .before .before .before .before .before .before .before .before .before .before .before .before .loop-test .taken in let y = c .before .before .before .before .before .before .before .before .before .before .before .before .before .before .before .before .before .before .before .before .before .before .before .before .before .before .before .before .before .before .before .before .before .before .before .before .before .before .before .before .before .before .before .pre .1 .1 .0 in omega arith
+loop-less c = let x = c .before .before .before .before .before .before .before .before .before .before .before .before .before .before .before .before .before .before .before .before .before .before .before .before .before .before .loop-test .taken in let y = c .before .before .before .before .before .before .before .before .before .before .before .before .before .before .before .before .before .before .before .before .before .before .before .before .before .before .before .before .before .before .before .before .before .before .before .before .before .before .before .before .before .pre .1 .1 .0 in omega arith
 
 -- src/lib.rt:88:5
 loop-again : tie.Need-loop-again Inv-loop μ-loop
-loop-again c = let a = c .before .before .before .before .before .before .before .before .before .before .before .before .before .before .before .before .before .before .before .before .before .before .before .before .before .before .before .before .before .before .before .before .before .before .before .before .before .before .before .before .before .before .before .args in let pre = c .before .before .before .before .before .before .before .before .before .before .before .before .before .before .before .before .before .before .before .before .before .before .before .before .before .before .before .before .before .before .before .before .before .before .before .before .before .before .before .before .before .before .before .pre in let t = c .before .before .before .before .before .before .before .before .before .before .before .before .before .before .before .before .before .before .before .before .before .before .before .before .before .before .before .loop .inv in turns (a .kinds .now) (a .ends .now) (a .pool .now) (a .z) (a .rule) (a .pairs .now) (a .globals .now) (propositionOf (a .q)) (a .marking) t (let x = c .before .before .before .before .before .before .before .before .before .before .before .before .before .before .before .before .before .before .before .before .before .before .before .before .before .before .loop-test .taken in omega arith) (acts-part (a .pairs .now) (a .globals .now) (part-is (c .before .before .before .before .before .before .before .before .before .before .before .before .before .before .before .before .before .before .before .before .before .before .before .before .before .before .before .loop .table) (c .before .before .before .before .before .before .before .before .before .before .before .before .before .before .before .before .before .before .before .before .before .before .before .before .before .before .before .loop .at) (t .full)) (c .before .before .before .before .before .before .before .before .before .before .before .before .before .before .before .before .before .process-action .ensures)) (search needs) (c .before .before .before .has-pair .ensures) refl (c .before .push-binding .ensures) (search needs) (c .before .before .before .before .before .before .before .before .before .before .before .before .before .before .before .before .before .process-action .kept .1 .1 .1 .1 .1 .1 .1 .1 .1 .1 .1 .1 .0) (c .before .before .before .before .before .before .before .before .before .before .before .before .before .before .before .before .before .process-action .kept .1 .1 .1 .1 .1 .1 .1 .1 .1 .1 .1 .1 .1 .1 .0)
+loop-again c = let a = c .before .before .before .before .before .before .before .before .before .before .before .before .before .before .before .before .before .before .before .before .before .before .before .before .before .before .before .before .before .before .before .before .before .before .before .before .before .before .before .before .before .args in let t = c .before .before .before .before .before .before .before .before .before .before .before .before .before .before .before .before .before .before .before .before .before .before .before .before .before .before .before .loop .inv in turns (a .job .now) (a .rule) (a .pairs .now) (a .globals .now) (propositionOf (a .q)) (a .marking) t (c .before .before .before .before .before .before .before .before .before .before .before .before .before .before .before .before .before .before .before .before .before .before .before .before .before .before .loop-test .taken) (acts-part (a .pairs .now) (a .globals .now) (part-is (c .before .before .before .before .before .before .before .before .before .before .before .before .before .before .before .before .before .before .before .before .before .before .before .before .before .before .before .loop .table) (c .before .before .before .before .before .before .before .before .before .before .before .before .before .before .before .before .before .before .before .before .before .before .before .before .before .before .before .loop .at) (t .full)) (c .before .before .before .before .before .before .before .before .before .before .before .before .before .before .before .before .before .process-action .ensures)) (c .before .before .before .before .if1 .left) (c .before .before .before .has-pair .ensures) refl (c .before .push-binding .ensures) (c .before .push-binding .kept .0) (c .before .before .before .before .before .before .before .before .before .before .before .before .before .before .before .before .before .process-action .kept .1 .1 .1 .1 .1 .1 .1 .1 .1 .0) (c .before .before .before .before .before .before .before .before .before .before .before .before .before .before .before .before .before .process-action .kept .1 .1 .1 .1 .1 .1 .1 .1 .1 .1 .1 .0)
 
 -- src/lib.rt:57:1
 same-length-6 : tie.Need-same-length-6 Inv-loop μ-loop
@@ -138,7 +138,7 @@ same-length-10 c = c .before .loop .inv .lenM
 
 -- src/lib.rt:57:1
 returns-2 : tie.Need-returns-2 Inv-loop μ-loop
-returns-2 c = let a = c .before .before .before .before .before .before .before .before .before .before .before .before .before .before .before .before .before .args in let pre = c .before .before .before .before .before .before .before .before .before .before .before .before .before .before .before .before .before .pre in finishes (a .kinds .now) (a .ends .now) (a .pool .now) (a .z) (a .rule) (a .pairs .now) (a .globals .now) (propositionOf (a .q)) (a .marking) (c .before .loop .inv) (search needs) refl
+returns-2 c = let a = c .before .before .before .before .before .before .before .before .before .before .before .before .before .before .before .args in let pre = c .before .before .before .before .before .before .before .before .before .before .before .before .before .before .before .pre in finishes (a .job .now) (a .rule) (a .pairs .now) (a .globals .now) (propositionOf (a .q)) (a .marking) (c .before .loop .inv) (search needs) refl
 
 pub head-actions-spec : {M : Type 1} → statement M
 head-actions-spec =

@@ -42,11 +42,11 @@ slice-aggregate-yield-value-3 c = search needs
 
 -- src/lib.rt:218:27
 yield-value-requires : tie.Need-yield-value-requires
-yield-value-requires c κs = (c .before .before .before .before .before .before .before .before .before .before .before .before .before .before .before .before .before .before .before .before .pre, c .before .before .before .before .before .before .before .before .before .before .before .merge-of .ensures .within _ (c .before .before .before .before .before .before .before .before .before .merge .given .1))
+yield-value-requires c κs = (c .before .before .before .before .before .before .before .before .before .before .before .before .before .before .before .before .before .before .pre, c .before .before .before .before .before .before .before .before .before .before .before .merge-of .ensures .within _ (c .before .before .before .before .before .before .before .before .before .merge .given .1))
 
 -- src/lib.rt:194:1
 returns : tie.Need-returns
-returns c = let a = c .before .before .before .before .before .before .before .before .before .before .before .before .args in merged-none (programFor (a .kinds .now) (a .ends .now) (a .pool .now) (a .z)) (a .function) (a .old) (a .new) (c .before .before .before .before .before .before .before .before .before .before .before .before .pre .stored) (ap (view.mergeOf (exprFor (a .kinds .now) (a .ends .now) (a .pool .now) (a .z))) (sym (c .before .enum-told .given .1)) ∙ c .before .before .before .merge-of .ensures .is) (c .refuse1 .ensures)
+returns c = let a = c .before .before .before .before .before .before .before .before .before .before .args in merged-none (programFor (a .job .now)) (a .function) (a .old) (a .new) (c .before .before .before .before .before .before .before .before .before .before .pre .stored) (ap (view.mergeOf (exprFor (a .job .now))) (sym (c .before .enum-told .given .1)) ∙ c .before .before .before .merge-of .ensures .is) (c .refuse1 .ensures)
 
 -- src/lib.rt:194:1
 same-length : tie.Need-same-length
@@ -70,7 +70,7 @@ same-length-5 c = search needs
 
 -- src/lib.rt:194:1
 returns-2 : tie.Need-returns-2
-returns-2 c = let a = c .before .before .before .before .before .before .before .before .before .before .before .before .before .before .before .before .before .before .before .before .before .before .before .before .before .before .before .before .before .before .before .args in merged-by (programFor (a .kinds .now) (a .ends .now) (a .pool .now) (a .z)) (a .function) (a .old) (a .new) _ (ap (view.mergeOf (exprFor (a .kinds .now) (a .ends .now) (a .pool .now) (a .z))) (sym (c .before .before .before .before .before .before .before .before .before .before .before .before .before .before .before .before .before .before .before .before .merge .given .1)) ∙ c .before .before .before .before .before .before .before .before .before .before .before .before .before .before .before .before .before .before .before .before .before .before .merge-of .ensures .is) (c .before .before .before .before .before .before .before .before .before .before .yield-value .ensures)
+returns-2 c = let a = c .before .before .before .before .before .before .before .before .before .before .before .before .before .before .before .before .before .before .before .before .before .before .before .before .before .before .before .before .before .args in merged-by (programFor (a .job .now)) (a .function) (a .old) (a .new) _ (ap (view.mergeOf (exprFor (a .job .now))) (sym (c .before .before .before .before .before .before .before .before .before .before .before .before .before .before .before .before .before .before .before .before .merge .given .1)) ∙ c .before .before .before .before .before .before .before .before .before .before .before .before .before .before .before .before .before .before .before .before .before .before .merge-of .ensures .is) (c .before .before .before .before .before .before .before .before .before .before .yield-value .ensures)
 
 pub run-merge-spec : {M : Type 1} → statement M
 run-merge-spec =

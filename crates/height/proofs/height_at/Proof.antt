@@ -10,8 +10,8 @@ add-result : tie.Need-add-result
 add-result c = search needs
 
 returns : tie.Need-returns
-returns c = let a = c .before .before .before .before .before .args in
-    height-above (a .kinds .now) (a .ends .now) (a .pool .now) (a .z) (a .p) (c .highest-reference .result) (c .highest-reference .ensures)
+returns c = let a = c .before .before .before .args in
+    height-above (a .job .now) (a .p) (c .highest-reference .result) (c .highest-reference .ensures)
 
 pub height-at-spec : {M : Type 1} → statement M
 height-at-spec = tie.close (tie.spec highest-reference-requires add-result returns)

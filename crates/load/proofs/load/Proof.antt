@@ -1,4 +1,5 @@
 use borrow.Author.Tests.{le-leb, lt-leb}
+use Rattle.load.specs.Held.{sizesIn}
 use Rattle.load.proofs.Loading.{refuses-1, refuses-2, refuses-3, behind-3, sizes-words, limits-of, inside, cut-of, cut-refusal}
 use mathlib.Core.Path.{sym, ap, _∙_}
 use native.Mathlib.Omega.{arith}
@@ -79,7 +80,7 @@ part-load-cells-end-3 : tie.Need-part-load-cells-end-3
 part-load-cells-end-3 c = search needs
 
 load-cells-requires : tie.Need-load-cells-requires
-load-cells-requires c κs = cut-of (c .before .before .before .before .before .before .before .before .before .before .before .before .before .args .job .now) (c .before .before .before .before .before .before .before .before .before .read-sizes .result) (c .before .before .before .cell-count .result) (c .before .before .before .before .before .before .before .before .before .read-sizes .ensures .0) (c .before .before .before .cell-count .ensures) (sym (c .before .before .before .before .before .before .before .before .before .before .before .wrong-length .ensures) ∙ c .before .before .before .before .before .before .before .before .before .before .if1 .left) (limits-of (c .before .before .before .before .before .before .before .before .before .read-sizes .result) (sym (c .before .before .before .before .before .before .before .before .too-large .ensures) ∙ c .before .before .before .before .before .before .before .if2 .left))
+load-cells-requires c κs = cut-of (c .before .before .before .before .before .before .before .before .before .before .before .before .before .args .job .now) (c .before .before .before .before .before .before .before .before .before .read-sizes .result) (c .before .before .before .cell-count .result) (c .before .before .before .before .before .before .before .before .before .read-sizes .ensures .0) (c .before .before .before .cell-count .ensures) (sym (c .before .before .before .before .before .before .before .before .before .before .before .wrong-length .ensures) ∙ c .before .before .before .before .before .before .before .before .before .before .if1 .left) (limits-of (sizesIn (c .before .before .before .before .before .before .before .before .before .read-sizes .result)) (sym (c .before .before .before .before .before .before .before .before .too-large .ensures) ∙ c .before .before .before .before .before .before .before .if2 .left))
 
 returns-4 : tie.Need-returns-4
 returns-4 c = let a = c .before .before .before .before .before .before .before .before .before .before .before .before .before .before .args in

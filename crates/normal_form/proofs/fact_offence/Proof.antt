@@ -19,7 +19,7 @@ mul-first-of c = search needs
 
 shared-slice-read-first-of : tie.Need-shared-slice-read-first-of
 shared-slice-read-first-of c = let b = c .before .before .before .before .before .fact-at .ensures .equal (c .before .before .before .f .given .0 .0) (c .before .before .before .f .given .0 .1 .0) (c .before .before .before .f .given .1) in
-    omega (arith, b .0, c .before .wide .ensures, c .before .before .before .before .before .before .before .before .before .before .pre .1 .0 .long)
+    omega (arith, b .0, c .before .wide .ensures, c .before .before .before .before .before .before .before .before .pre .1 .0 .long)
 
 wide-requires-2 : tie.Need-wide-requires-2
 wide-requires-2 c κs = search needs
@@ -29,7 +29,7 @@ mul-first-of-2 c = search needs
 
 shared-slice-read-first-of-2 : tie.Need-shared-slice-read-first-of-2
 shared-slice-read-first-of-2 c = let b = c .before .before .before .before .before .before .before .fact-at .ensures .equal (c .before .before .before .before .before .f .given .0 .0) (c .before .before .before .before .before .f .given .0 .1 .0) (c .before .before .before .before .before .f .given .1) in
-    omega (arith, b .1, c .before .wide2 .ensures, c .before .before .before .before .before .before .before .before .before .before .before .before .pre .1 .0 .long)
+    omega (arith, b .1, c .before .wide2 .ensures, c .before .before .before .before .before .before .before .before .before .before .pre .1 .0 .long)
 
 first-of-requires : tie.Need-first-of-requires
 first-of-requires c κs = search needs
@@ -48,18 +48,18 @@ mul-read-offence c = search needs
 
 shared-slice-read-read-offence : tie.Need-shared-slice-read-read-offence
 shared-slice-read-read-offence c = let b = c .before .before .before .before .before .fact-at .ensures .bare (c .before .before .before .f2 .given .0 .0) (c .before .before .before .f2 .given .1) in
-    omega (arith, b, c .before .wide3 .ensures, c .before .before .before .before .before .before .before .before .before .before .pre .1 .0 .long)
+    omega (arith, b, c .before .wide3 .ensures, c .before .before .before .before .before .before .before .before .pre .1 .0 .long)
 
 read-offence-requires-2 : tie.Need-read-offence-requires-2
 read-offence-requires-2 c κs = search needs
 
 returns : tie.Need-returns
-returns c = let a = c .before .before .before .before .before .before .before .before .before .before .before .before .before .before .args in
-    c .read-offence .ensures ∙ equal-offence (a .kinds .now) (a .ends .now) (a .pool .now) (a .z) (a .i) (c .before .before .before .before .before .before .before .before .before .fact-at .result) (c .before .before .before .before .before .before .before .before .before .fact-at .ensures) (a .found .now) (c .before .before .before .before .before .before .before .f .given .0 .0) (c .before .before .before .before .before .before .before .f .given .0 .1 .0) (c .before .before .before .before .before .wide .result) (c .before .before .before .wide2 .result) (c .before .first-of .result) (c .before .before .before .before .before .before .before .f .given .1) (c .before .before .before .before .before .before .before .before .before .before .before .before .before .before .pre .1 .0) (c .before .before .before .before .before .wide .ensures) (c .before .before .before .wide2 .ensures) (c .before .first-of .ensures)
+returns c = let a = c .before .before .before .before .before .before .before .before .before .before .before .before .args in
+    c .read-offence .ensures ∙ equal-offence (a .job .now) (a .i) (c .before .before .before .before .before .before .before .before .before .fact-at .result) (c .before .before .before .before .before .before .before .before .before .fact-at .ensures) (a .found .now) (c .before .before .before .before .before .before .before .f .given .0 .0) (c .before .before .before .before .before .before .before .f .given .0 .1 .0) (c .before .before .before .before .before .wide .result) (c .before .before .before .wide2 .result) (c .before .first-of .result) (c .before .before .before .before .before .before .before .f .given .1) (c .before .before .before .before .before .before .before .before .before .before .before .before .pre .1 .0) (c .before .before .before .before .before .wide .ensures) (c .before .before .before .wide2 .ensures) (c .before .first-of .ensures)
 
 returns-2 : tie.Need-returns-2
-returns-2 c = let a = c .before .before .before .before .before .before .before .before .before .before .before .args in
-    c .read-offence2 .ensures ∙ bare-offence (a .kinds .now) (a .ends .now) (a .pool .now) (a .z) (a .i) (c .before .before .before .before .before .before .fact-at .result) (c .before .before .before .before .before .before .fact-at .ensures) (a .found .now) (c .before .before .before .before .f2 .given .0 .0) (c .before .before .wide3 .result) (c .before .before .before .before .f2 .given .1) (c .before .before .before .before .before .before .before .before .before .before .before .pre .1 .0) (c .before .before .wide3 .ensures)
+returns-2 c = let a = c .before .before .before .before .before .before .before .before .before .args in
+    c .read-offence2 .ensures ∙ bare-offence (a .job .now) (a .i) (c .before .before .before .before .before .before .fact-at .result) (c .before .before .before .before .before .before .fact-at .ensures) (a .found .now) (c .before .before .before .before .f2 .given .0 .0) (c .before .before .wide3 .result) (c .before .before .before .before .f2 .given .1) (c .before .before .before .before .before .before .before .before .before .pre .1 .0) (c .before .before .wide3 .ensures)
 
 pub fact-offence-spec : {M : Type 1} → statement M
 fact-offence-spec =

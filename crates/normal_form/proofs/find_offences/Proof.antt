@@ -2,23 +2,28 @@ use mathlib.Core.Path.{_≡_, refl, subst}
 use native.Mathlib.Omega.{arith}
 use Prim.Native.Nat.{ℕ, _-_, _≤_}
 use lib.ListN.{length, length-set}
+use borrow.Author.Needs.{needs}
+use Rattle.model.specs.Layout.{sizesOf}
 use Rattle.normal_form.specs.Search.{SearchedTo}
 use Rattle.normal_form.proofs.Laws.{searched-none, searched-more}
 use Rattle.normal_form.proofs.find_offences.Statement.{statement}
 use Rattle.normal_form.proofs.find_offences.Tie as tie
 
 abbrev Inv-loop : tie.InvT-loop
-Inv-loop kinds ends pool z found₀ count e₀ found e = (e ≤ count) × SearchedTo kinds ends pool z e found × (length found ≡ length found₀)
+Inv-loop job found₀ count e₀ found e = (e ≤ count) × SearchedTo job e found × (length found ≡ length found₀)
 
 abbrev μ-loop : tie.MeasureT-loop
-μ-loop kinds ends pool z found₀ count e₀ found e = count - e
+μ-loop job found₀ count e₀ found e = count - e
+
+size-requires : tie.Need-size-requires Inv-loop μ-loop
+size-requires c κs = search needs
 
 loop-holds : tie.Need-loop-holds Inv-loop μ-loop
-loop-holds c = let a = c .before .before .before .before .args in
-    (omega arith, searched-none (a .kinds .now) (a .ends .now) (a .pool .now) (a .z) (a .found .now), refl)
+loop-holds c = let a = c .before .before .before .args in
+    (omega arith, searched-none (a .job .now) (a .found .now), refl)
 
 first-offence-requires : tie.Need-first-offence-requires Inv-loop μ-loop
-first-offence-requires c κs = (c .before .before .before .before .before .before .before .pre .0, (c .before .before .loop .inv .1, c .before .loop-test .taken))
+first-offence-requires c κs = (c .before .before .before .before .before .before .pre .0, (c .before .before .loop .inv .1, omega arith))
 
 mul-found : tie.Need-mul-found Inv-loop μ-loop
 mul-found c = omega arith
@@ -33,18 +38,18 @@ loop-less : tie.Need-loop-less Inv-loop μ-loop
 loop-less c = omega arith
 
 loop-again : tie.Need-loop-again Inv-loop μ-loop
-loop-again c = let a = c .before .before .before .before .before .before .before .before .args in
+loop-again c = let a = c .before .before .before .before .before .before .before .args in
     let l = c .before .before .before .loop in
-    (omega arith, searched-more (a .kinds .now) (a .ends .now) (a .pool .now) (a .z) (l .found) (l .e) (c .first-offence .result) (l .inv .1) (omega arith) (c .first-offence .ensures), simp length-set (l .inv .2))
+    (omega arith, searched-more (a .job .now) (l .found) (l .e) (c .first-offence .result) (l .inv .1) (omega arith) (c .first-offence .ensures), simp length-set (l .inv .2))
 
 same-length : tie.Need-same-length Inv-loop μ-loop
 same-length c = c .before .loop .inv .2
 
 returns : tie.Need-returns Inv-loop μ-loop
-returns c = let a = c .before .before .before .before .before .before .args in
+returns c = let a = c .before .before .before .before .before .args in
     let l = c .before .loop in
-    let e : l .e ≡ a .z .expressions = omega arith in
-    subst (λ (n : ℕ). SearchedTo (a .kinds .now) (a .ends .now) (a .pool .now) (a .z) n (l .found)) e (l .inv .1)
+    let e : l .e ≡ sizesOf (a .job .now) .expressions = omega arith in
+    subst (λ (n : ℕ). SearchedTo (a .job .now) n (l .found)) e (l .inv .1)
 
 pub find-offences-spec : {M : Type 1} → statement M
 find-offences-spec =
@@ -52,6 +57,7 @@ find-offences-spec =
     (tie.spec
     Inv-loop
     μ-loop
+    size-requires
     loop-holds
     first-offence-requires
     mul-found

@@ -16,8 +16,8 @@ enum-told : tie.Need-enum-told
 enum-told c = search needs
 
 returns : tie.Need-returns
-returns c = let a = c .before .before .before .before .before .before .before .args in
-    let prog = programFor (a .kinds .now) (a .ends .now) (a .pool .now) (a .z) in
+returns c = let a = c .before .before .before .before .before .args in
+    let prog = programFor (a .job .now) in
     λ s. normal-without prog (a .t) (a .head) (a .args .now) s (ap optionOf (sym (c .enum-told .given .1)) ∙ c .before .before .normaliser-of .ensures)
 
 row-value-requires : tie.Need-row-value-requires
@@ -30,14 +30,14 @@ enum-told-2 : tie.Need-enum-told-2
 enum-told-2 c = search needs
 
 returns-2 : tie.Need-returns-2
-returns-2 c = let a = c .before .before .before .before .before .before .before .before .before .before .before .args in
-    let prog = programFor (a .kinds .now) (a .ends .now) (a .pool .now) (a .z) in
+returns-2 c = let a = c .before .before .before .before .before .before .before .before .before .args in
+    let prog = programFor (a .job .now) in
     λ s. normal-by prog (a .t) (a .head) (a .args .now) s (c .before .before .before .before .normaliser .given .0 .0) none
     (ap optionOf (sym (c .before .before .before .before .normaliser .given .1)) ∙ c .before .before .before .before .before .before .normaliser-of .ensures) (ap optionOf (sym (c .enum-told2 .given .1)) ∙ c .before .before .row-value .ensures)
 
 returns-3 : tie.Need-returns-3
-returns-3 c = let a = c .before .before .before .before .before .before .before .before .before .before .before .before .args in
-    let prog = programFor (a .kinds .now) (a .ends .now) (a .pool .now) (a .z) in
+returns-3 c = let a = c .before .before .before .before .before .before .before .before .before .before .args in
+    let prog = programFor (a .job .now) in
     λ s. normal-by prog (a .t) (a .head) (a .args .now) s (c .before .before .before .before .before .normaliser .given .0 .0) (some (c .before .value .given .0 .0))
     (ap optionOf (sym (c .before .before .before .before .before .normaliser .given .1)) ∙ c .before .before .before .before .before .before .before .normaliser-of .ensures) (ap optionOf (sym (c .before .value .given .1)) ∙ c .before .before .before .row-value .ensures)
 

@@ -33,24 +33,24 @@ normalize-app-requires : tie.Need-normalize-app-requires
 normalize-app-requires c κs = search needs
 
 returns : tie.Need-returns
-returns c = let a = c .before .before .before .before .before .before .before .before .before .before .before .args in
-    let prog = programFor (a .kinds .now) (a .ends .now) (a .pool .now) (a .z) in
+returns c = let a = c .before .before .before .before .before .before .before .before .before .args in
+    let prog = programFor (a .job .now) in
     let s = termsIn (a .skinds .now) (a .sends .now) (a .spool .now) (a .sfill) in
     let xs = c .before .before .children .result .now in
     normal-view prog (a .t) (c .before .before .before .before .wide .result) s (c .before .before .before .get .result) xs (ok (a .t) s) (c .before .before .before .before .wide .ensures) (c .before .before .before .get .ensures) (c .before .before .children .ensures)
     (ap (λ (r : Term). normalizeApp prog (a .t) (asApp (some (termOf r xs))) s) (c .enum-told .given .1))
 
 returns-2 : tie.Need-returns-2
-returns-2 c = let a = c .before .before .before .before .before .before .before .before .before .before .before .args in
-    let prog = programFor (a .kinds .now) (a .ends .now) (a .pool .now) (a .z) in
+returns-2 c = let a = c .before .before .before .before .before .before .before .before .before .args in
+    let prog = programFor (a .job .now) in
     let s = termsIn (a .skinds .now) (a .sends .now) (a .spool .now) (a .sfill) in
     let xs = c .before .before .children .result .now in
     normal-view prog (a .t) (c .before .before .before .before .wide .result) s (c .before .before .before .get .result) xs (ok (a .t) s) (c .before .before .before .before .wide .ensures) (c .before .before .before .get .ensures) (c .before .before .children .ensures)
     (ap (λ (r : Term). normalizeApp prog (a .t) (asApp (some (termOf r xs))) s) (c .enum-told2 .given .1))
 
 returns-3 : tie.Need-returns-3
-returns-3 c = let a = c .before .before .before .before .before .before .before .before .before .before .before .before .before .args in
-    let prog = programFor (a .kinds .now) (a .ends .now) (a .pool .now) (a .z) in
+returns-3 c = let a = c .before .before .before .before .before .before .before .before .before .before .before .args in
+    let prog = programFor (a .job .now) in
     let s = termsIn (a .skinds .now) (a .sends .now) (a .spool .now) (a .sfill) in
     let xs = c .before .before .before .before .children .result .now in
     normal-view prog (a .t) (c .before .before .before .before .before .before .wide .result) s (c .before .before .before .before .before .get .result) xs (ok (c .normalize-app .result) s) (c .before .before .before .before .before .before .wide .ensures) (c .before .before .before .before .before .get .ensures) (c .before .before .before .before .children .ensures)

@@ -1,29 +1,25 @@
+use native.Mathlib.Omega.{arith}
 use borrow.Author.Needs.{needs}
-use Rattle.model.specs.Cell.{cellsOf}
-use Rattle.model.specs.Layout.{cellCount, firstRule}
-use Rattle.load.specs.Held.{sizesIn, tablesFor}
-use Rattle.program.proofs.Laws.{named-in, rules-read, rule-found}
+use lib.Dec.{lit<}
+use Rattle.model.specs.Layout.{sizesOf}
+use Rattle.program.specs.Ready.{tablesFor}
+use Rattle.program.proofs.Laws.{front-whole, rules-read, rule-found}
 use Rattle.program.proofs.rule_of.Statement.{statement}
 use Rattle.program.proofs.rule_of.Tie as tie
 
-first-rule-requires : tie.Need-first-rule-requires
-first-rule-requires c κs = search needs
+size-requires : tie.Need-size-requires
+size-requires c κs = search needs
 
 first-named-requires : tie.Need-first-named-requires
 first-named-requires c κs = search needs
 
 returns : tie.Need-returns
-returns c = let a = c .before .before .before .before .before .args in
-    let K = a .kinds .now in
-    let E = a .ends .now in
-    let P = a .pool .now in
-    let z = sizesIn (a .z) in
-    let T = tablesFor K E P (a .z) in
-    let named = named-in (cellsOf K E P (cellCount z)) (firstRule z) (a .z .rules) (a .name) (c .before .first-rule .ensures) (c .first-named .ensures .is) in
+returns c = let a = c .before .before .before .args in
+    let J = a .job .now in
     record {
-      is = rw (rules-read (a .z .globals) T) (rule-found _ _ (T .rules) (a .name) (c .first-named .result) named);
-      within = c .first-named .ensures .within;
+      is = rw (rules-read (sizesOf J .globals) (tablesFor J)) (rule-found _ _ (tablesFor J .rules) (a .name) (c .first-named .result) (front-whole J 8 (lit< tt) (a .name) (c .before .size .ensures) (c .first-named .ensures .is)));
+      within = λ i e. omega (arith, c .first-named .ensures .within i e, c .before .size .ensures);
     }
 
 pub rule-of-spec : {M : Type 1} → statement M
-rule-of-spec = tie.close (tie.spec first-rule-requires first-named-requires returns)
+rule-of-spec = tie.close (tie.spec size-requires first-named-requires returns)

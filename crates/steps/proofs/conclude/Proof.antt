@@ -26,7 +26,7 @@ enum-known-j c = search needs
 
 -- src/lib.rt:401:38
 merge-at-requires : tie.Need-merge-at-requires
-merge-at-requires c κs = let a = c .before .before .before .before .before .before .before .before .before .before .before .before .before .before .before .before .before .before .before .before .args in let pre = c .before .before .before .before .before .before .before .before .before .before .before .before .before .before .before .before .before .before .before .before .pre in let J = justified-here (a .kinds .now) (a .ends .now) (a .pool .now) (a .z) (a .unions .now) (a .skinds .now) (a .sends .now) (a .spool .now) (a .fill) (a .memo .now) (a .scratch .now) (a .p) (pre .0) (c .before .before .before .before .before .before .before .before .before .before .wide .ensures) (c .before .before .before .before .before .before .before .before .before .claim-at .result) (c .before .before .before .before .before .before .before .before .justification-at .result) (c .before .before .before .before .before .before .before .before .before .claim-at .ensures) (c .before .before .before .before .before .before .before .before .justification-at .ensures) in (pre .0, (reference-inside J (pre .1) (c .before .before .before .before .before .before .j .given .1) (List·Memᴰ·head refl) refl, reference-inside J (pre .1) (c .before .before .before .before .before .before .j .given .1) (List·Memᴰ·tail (List·Memᴰ·head refl)) refl))
+merge-at-requires c κs = let a = c .before .before .before .before .before .before .before .before .before .before .before .before .before .before .before .before .before .before .args in let pre = c .before .before .before .before .before .before .before .before .before .before .before .before .before .before .before .before .before .before .pre in let J = justified-here (a .job .now) (a .unions .now) (a .skinds .now) (a .sends .now) (a .spool .now) (a .fill) (a .memo .now) (a .scratch .now) (a .p) (pre .0) (c .before .before .before .before .before .before .before .before .before .before .wide .ensures) (c .before .before .before .before .before .before .before .before .before .claim-at .result) (c .before .before .before .before .before .before .before .before .justification-at .result) (c .before .before .before .before .before .before .before .before .before .claim-at .ensures) (c .before .before .before .before .before .before .before .before .justification-at .ensures) in (pre .0, (reference-inside J (pre .1) (c .before .before .before .before .before .before .j .given .1) (List·Memᴰ·head refl) refl, reference-inside J (pre .1) (c .before .before .before .before .before .before .j .given .1) (List·Memᴰ·tail (List·Memᴰ·head refl)) refl))
 
 -- src/lib.rt:418:30
 enum-known-j-2 : tie.Need-enum-known-j-2
@@ -34,7 +34,7 @@ enum-known-j-2 c = search needs
 
 -- src/lib.rt:418:36
 congr-at-requires : tie.Need-congr-at-requires
-congr-at-requires c κs = let a = c .before .before .before .before .before .before .before .before .before .before .before .before .before .before .before .before .before .before .args in let pre = c .before .before .before .before .before .before .before .before .before .before .before .before .before .before .before .before .before .before .pre in let J = justified-here (a .kinds .now) (a .ends .now) (a .pool .now) (a .z) (a .unions .now) (a .skinds .now) (a .sends .now) (a .spool .now) (a .fill) (a .memo .now) (a .scratch .now) (a .p) (pre .0) (c .before .before .before .before .before .before .before .before .wide .ensures) (c .before .before .before .before .before .before .before .claim-at .result) (c .before .before .before .before .before .before .justification-at .result) (c .before .before .before .before .before .before .before .claim-at .ensures) (c .before .before .before .before .before .before .justification-at .ensures) in (pre .0 .ready, (pre .0 .stored, (pre .0 .terms, (reference-inside J (pre .1) (c .before .before .before .before .j2 .given .1) (List·Memᴰ·head refl) refl, reference-inside J (pre .1) (c .before .before .before .before .j2 .given .1) (List·Memᴰ·tail (List·Memᴰ·head refl)) refl))))
+congr-at-requires c κs = let a = c .before .before .before .before .before .before .before .before .before .before .before .before .before .before .before .before .args in let pre = c .before .before .before .before .before .before .before .before .before .before .before .before .before .before .before .before .pre in let J = justified-here (a .job .now) (a .unions .now) (a .skinds .now) (a .sends .now) (a .spool .now) (a .fill) (a .memo .now) (a .scratch .now) (a .p) (pre .0) (c .before .before .before .before .before .before .before .before .wide .ensures) (c .before .before .before .before .before .before .before .claim-at .result) (c .before .before .before .before .before .before .justification-at .result) (c .before .before .before .before .before .before .before .claim-at .ensures) (c .before .before .before .before .before .before .justification-at .ensures) in (pre .0 .ready, (pre .0 .stored, (pre .0 .terms, (reference-inside J (pre .1) (c .before .before .before .before .j2 .given .1) (List·Memᴰ·head refl) refl, reference-inside J (pre .1) (c .before .before .before .before .j2 .given .1) (List·Memᴰ·tail (List·Memᴰ·head refl)) refl))))
 
 -- src/lib.rt:441:17
 slice-reshare-prefix-plain-step : tie.Need-slice-reshare-prefix-plain-step
@@ -42,11 +42,11 @@ slice-reshare-prefix-plain-step c = search needs
 
 -- src/lib.rt:441:17
 slice-aggregate-plain-step : tie.Need-slice-aggregate-plain-step
-slice-aggregate-plain-step c = let a = c .before .before .before .before .before .before .before .before .before .before .before .before .before .before .args in let pre = c .before .before .before .before .before .before .before .before .before .before .before .before .before .before .pre in let h = pre .0 .long in simp length-take (omega arith)
+slice-aggregate-plain-step c = let a = c .before .before .before .before .before .before .before .before .before .before .before .before .args in let pre = c .before .before .before .before .before .before .before .before .before .before .before .before .pre in let h = pre .0 .long in simp length-take (omega arith)
 
 -- src/lib.rt:435:17
 plain-step-requires : tie.Need-plain-step-requires
-plain-step-requires c κs = let a = c .before .before .before .before .before .before .before .before .before .before .before .before .before .before .before .before .before .args in let pre = c .before .before .before .before .before .before .before .before .before .before .before .before .before .before .before .before .before .pre in (pre .0 .ready, (pre .0 .stored, (first-cells (pre .0 .ready) (a .skinds .now) (a .sends .now) (a .spool .now) (a .fill) (pre .0 .terms), (pre .1, (claim-here (a .kinds .now) (a .ends .now) (a .pool .now) (a .z) (a .unions .now) (a .skinds .now) (a .sends .now) (a .spool .now) (a .fill) (a .memo .now) (a .scratch .now) (a .p) (pre .0) (c .before .before .before .before .before .before .before .wide .ensures) (c .before .before .before .before .before .before .claim-at .result) (c .before .before .before .before .before .justification-at .result) (c .before .before .before .before .before .before .claim-at .ensures) (c .before .before .before .before .before .justification-at .ensures), justified-here (a .kinds .now) (a .ends .now) (a .pool .now) (a .z) (a .unions .now) (a .skinds .now) (a .sends .now) (a .spool .now) (a .fill) (a .memo .now) (a .scratch .now) (a .p) (pre .0) (c .before .before .before .before .before .before .before .wide .ensures) (c .before .before .before .before .before .before .claim-at .result) (c .before .before .before .before .before .justification-at .result) (c .before .before .before .before .before .before .claim-at .ensures) (c .before .before .before .before .before .justification-at .ensures))))))
+plain-step-requires c κs = let a = c .before .before .before .before .before .before .before .before .before .before .before .before .before .before .before .args in let pre = c .before .before .before .before .before .before .before .before .before .before .before .before .before .before .before .pre in (pre .0 .ready, (pre .0 .stored, (first-cells (pre .0 .ready) (a .skinds .now) (a .sends .now) (a .spool .now) (a .fill) (pre .0 .terms), (pre .1, (claim-here (a .job .now) (a .unions .now) (a .skinds .now) (a .sends .now) (a .spool .now) (a .fill) (a .memo .now) (a .scratch .now) (a .p) (pre .0) (c .before .before .before .before .before .before .before .wide .ensures) (c .before .before .before .before .before .before .claim-at .result) (c .before .before .before .before .before .justification-at .result) (c .before .before .before .before .before .before .claim-at .ensures) (c .before .before .before .before .before .justification-at .ensures), justified-here (a .job .now) (a .unions .now) (a .skinds .now) (a .sends .now) (a .spool .now) (a .fill) (a .memo .now) (a .scratch .now) (a .p) (pre .0) (c .before .before .before .before .before .before .before .wide .ensures) (c .before .before .before .before .before .before .claim-at .result) (c .before .before .before .before .before .justification-at .result) (c .before .before .before .before .before .before .claim-at .ensures) (c .before .before .before .before .before .justification-at .ensures))))))
 
 -- src/lib.rt:379:1
 same-length : tie.Need-same-length
@@ -70,7 +70,7 @@ same-length-5 c = search needs
 
 -- src/lib.rt:379:1
 returns : tie.Need-returns
-returns c = let a = c .before .before .before .before .before .before .before .before .before .before .before .before .before .before .before .before .before .before .before .before .before .before .before .before .before .before .before .before .before .before .before .args in let pre = c .before .before .before .before .before .before .before .before .before .before .before .before .before .before .before .before .before .before .before .before .before .before .before .before .before .before .before .before .before .before .before .pre in concludes-merge (a .kinds .now) (a .ends .now) (a .pool .now) (a .z) (a .unions .now) (a .skinds .now) (a .sends .now) (a .spool .now) (a .fill) (a .memo .now) (a .scratch .now) (a .p) (pre .0) (c .before .before .before .before .before .before .before .before .before .before .before .before .before .before .before .before .before .before .before .before .before .wide .ensures) (c .before .before .before .before .before .before .before .before .before .before .before .before .before .before .before .before .before .before .before .before .claim-at .result) (c .before .before .before .before .before .before .before .before .before .before .before .before .before .before .before .before .before .before .before .justification-at .result) (c .before .before .before .before .before .before .before .before .before .before .before .before .before .before .before .before .before .before .before .before .claim-at .ensures) (c .before .before .before .before .before .before .before .before .before .before .before .before .before .before .before .before .before .before .before .justification-at .ensures) (c .before .before .before .before .before .before .before .before .before .before .merge-at .result) {k₁ = c .before .before .before .before .before .before .before .before .before .before .merge-at .last .1 .1 .1 .1 .0} {e₁ = c .before .before .before .before .before .before .before .before .before .before .merge-at .last .1 .1 .1 .1 .1 .0} {l₁ = c .before .before .before .before .before .before .before .before .before .before .merge-at .last .1 .1 .1 .1 .1 .1 .0} {memo₁ = c .before .before .before .before .before .before .before .before .before .before .merge-at .last .1 .1 .1 .1 .1 .1 .1 .1 .0} {W₁ = c .before .before .before .before .before .before .before .before .before .before .merge-at .last .1 .1 .1 .1 .1 .1 .1 .1 .1 .0} (c .before .before .before .before .before .before .before .before .before .before .before .before .before .before .before .before .before .j .given .1) (c .before .before .before .before .before .before .before .before .before .before .merge-at .ensures .0) (c .before .before .before .before .before .before .before .before .before .before .merge-at .ensures .1)
+returns c = let a = c .before .before .before .before .before .before .before .before .before .before .before .before .before .before .before .before .before .before .before .before .before .before .before .before .before .before .before .before .before .args in let pre = c .before .before .before .before .before .before .before .before .before .before .before .before .before .before .before .before .before .before .before .before .before .before .before .before .before .before .before .before .before .pre in concludes-merge (a .job .now) (a .unions .now) (a .skinds .now) (a .sends .now) (a .spool .now) (a .fill) (a .memo .now) (a .scratch .now) (a .p) (pre .0) (c .before .before .before .before .before .before .before .before .before .before .before .before .before .before .before .before .before .before .before .before .before .wide .ensures) (c .before .before .before .before .before .before .before .before .before .before .before .before .before .before .before .before .before .before .before .before .claim-at .result) (c .before .before .before .before .before .before .before .before .before .before .before .before .before .before .before .before .before .before .before .justification-at .result) (c .before .before .before .before .before .before .before .before .before .before .before .before .before .before .before .before .before .before .before .before .claim-at .ensures) (c .before .before .before .before .before .before .before .before .before .before .before .before .before .before .before .before .before .before .before .justification-at .ensures) (c .before .before .before .before .before .before .before .before .before .before .merge-at .result) {k₁ = c .before .before .before .before .before .before .before .before .before .before .merge-at .last .1 .0} {e₁ = c .before .before .before .before .before .before .before .before .before .before .merge-at .last .1 .1 .0} {l₁ = c .before .before .before .before .before .before .before .before .before .before .merge-at .last .1 .1 .1 .0} {memo₁ = c .before .before .before .before .before .before .before .before .before .before .merge-at .last .1 .1 .1 .1 .1 .0} {W₁ = c .before .before .before .before .before .before .before .before .before .before .merge-at .last .1 .1 .1 .1 .1 .1 .0} (c .before .before .before .before .before .before .before .before .before .before .before .before .before .before .before .before .before .j .given .1) (c .before .before .before .before .before .before .before .before .before .before .merge-at .ensures .0) (c .before .before .before .before .before .before .before .before .before .before .merge-at .ensures .1)
 
 -- src/lib.rt:379:1
 same-length-6 : tie.Need-same-length-6
@@ -86,7 +86,7 @@ same-length-8 c = search needs
 
 -- src/lib.rt:379:1
 returns-2 : tie.Need-returns-2
-returns-2 c = let a = c .before .before .before .before .before .before .before .before .before .before .before .before .before .before .before .before .before .before .before .before .before .before .before .before .before .args in let pre = c .before .before .before .before .before .before .before .before .before .before .before .before .before .before .before .before .before .before .before .before .before .before .before .before .before .pre in concludes-congr (a .kinds .now) (a .ends .now) (a .pool .now) (a .z) (a .unions .now) (a .skinds .now) (a .sends .now) (a .spool .now) (a .fill) (a .memo .now) (a .scratch .now) (a .p) (pre .0) (c .before .before .before .before .before .before .before .before .before .before .before .before .before .before .before .wide .ensures) (c .before .before .before .before .before .before .before .before .before .before .before .before .before .before .claim-at .result) (c .before .before .before .before .before .before .before .before .before .before .before .before .before .justification-at .result) (c .before .before .before .before .before .before .before .before .before .before .before .before .before .before .claim-at .ensures) (c .before .before .before .before .before .before .before .before .before .before .before .before .before .justification-at .ensures) (c .before .before .before .before .before .before .congr-at .result) {k₁ = c .before .before .before .before .before .before .congr-at .last .1 .1 .1 .1 .0} {e₁ = c .before .before .before .before .before .before .congr-at .last .1 .1 .1 .1 .1 .0} {l₁ = c .before .before .before .before .before .before .congr-at .last .1 .1 .1 .1 .1 .1 .0} (c .before .before .before .before .before .before .before .before .before .before .before .j2 .given .1) (reference-inside (justified-here (a .kinds .now) (a .ends .now) (a .pool .now) (a .z) (a .unions .now) (a .skinds .now) (a .sends .now) (a .spool .now) (a .fill) (a .memo .now) (a .scratch .now) (a .p) (pre .0) (c .before .before .before .before .before .before .before .before .before .before .before .before .before .before .before .wide .ensures) (c .before .before .before .before .before .before .before .before .before .before .before .before .before .before .claim-at .result) (c .before .before .before .before .before .before .before .before .before .before .before .before .before .justification-at .result) (c .before .before .before .before .before .before .before .before .before .before .before .before .before .before .claim-at .ensures) (c .before .before .before .before .before .before .before .before .before .before .before .before .before .justification-at .ensures)) (pre .1) (c .before .before .before .before .before .before .before .before .before .before .before .j2 .given .1) (List·Memᴰ·tail (List·Memᴰ·head refl)) refl) (c .before .before .before .before .before .before .congr-at .ensures)
+returns-2 c = let a = c .before .before .before .before .before .before .before .before .before .before .before .before .before .before .before .before .before .before .before .before .before .before .before .args in let pre = c .before .before .before .before .before .before .before .before .before .before .before .before .before .before .before .before .before .before .before .before .before .before .before .pre in concludes-congr (a .job .now) (a .unions .now) (a .skinds .now) (a .sends .now) (a .spool .now) (a .fill) (a .memo .now) (a .scratch .now) (a .p) (pre .0) (c .before .before .before .before .before .before .before .before .before .before .before .before .before .before .before .wide .ensures) (c .before .before .before .before .before .before .before .before .before .before .before .before .before .before .claim-at .result) (c .before .before .before .before .before .before .before .before .before .before .before .before .before .justification-at .result) (c .before .before .before .before .before .before .before .before .before .before .before .before .before .before .claim-at .ensures) (c .before .before .before .before .before .before .before .before .before .before .before .before .before .justification-at .ensures) (c .before .before .before .before .before .before .congr-at .result) {k₁ = c .before .before .before .before .before .before .congr-at .last .1 .0} {e₁ = c .before .before .before .before .before .before .congr-at .last .1 .1 .0} {l₁ = c .before .before .before .before .before .before .congr-at .last .1 .1 .1 .0} (c .before .before .before .before .before .before .before .before .before .before .before .j2 .given .1) (reference-inside (justified-here (a .job .now) (a .unions .now) (a .skinds .now) (a .sends .now) (a .spool .now) (a .fill) (a .memo .now) (a .scratch .now) (a .p) (pre .0) (c .before .before .before .before .before .before .before .before .before .before .before .before .before .before .before .wide .ensures) (c .before .before .before .before .before .before .before .before .before .before .before .before .before .before .claim-at .result) (c .before .before .before .before .before .before .before .before .before .before .before .before .before .justification-at .result) (c .before .before .before .before .before .before .before .before .before .before .before .before .before .before .claim-at .ensures) (c .before .before .before .before .before .before .before .before .before .before .before .before .before .justification-at .ensures)) (pre .1) (c .before .before .before .before .before .before .before .before .before .before .before .j2 .given .1) (List·Memᴰ·tail (List·Memᴰ·head refl)) refl) (c .before .before .before .before .before .before .congr-at .ensures)
 
 -- src/lib.rt:379:1
 same-length-9 : tie.Need-same-length-9
@@ -106,7 +106,7 @@ same-length-12 c = search needs
 
 -- src/lib.rt:379:1
 returns-3 : tie.Need-returns-3
-returns-3 c = let a = c .before .before .before .before .before .before .before .before .before .before .before .before .before .before .before .before .before .before .args in let pre = c .before .before .before .before .before .before .before .before .before .before .before .before .before .before .before .before .before .before .pre in concludes-plain (a .kinds .now) (a .ends .now) (a .pool .now) (a .z) (a .unions .now) (a .skinds .now) (a .sends .now) (a .spool .now) (a .fill) (a .memo .now) (a .scratch .now) (a .p) (pre .0) (c .before .before .before .before .before .before .before .before .wide .ensures) (c .before .before .before .before .before .before .before .claim-at .result) (c .before .before .before .before .before .before .justification-at .result) (c .before .before .before .before .before .before .before .claim-at .ensures) (c .before .before .before .before .before .before .justification-at .ensures) (plain-arm (c .before .before .before .before .before .before .justification-at .result) (c .before .before .before .before .before .match .keys3)) (c .plain-step .ensures)
+returns-3 c = let a = c .before .before .before .before .before .before .before .before .before .before .before .before .before .before .before .before .args in let pre = c .before .before .before .before .before .before .before .before .before .before .before .before .before .before .before .before .pre in concludes-plain (a .job .now) (a .unions .now) (a .skinds .now) (a .sends .now) (a .spool .now) (a .fill) (a .memo .now) (a .scratch .now) (a .p) (pre .0) (c .before .before .before .before .before .before .before .before .wide .ensures) (c .before .before .before .before .before .before .before .claim-at .result) (c .before .before .before .before .before .before .justification-at .result) (c .before .before .before .before .before .before .before .claim-at .ensures) (c .before .before .before .before .before .before .justification-at .ensures) (plain-arm (c .before .before .before .before .before .before .justification-at .result) (c .before .before .before .before .before .match .keys3)) (c .plain-step .ensures)
 
 pub conclude-spec : {M : Type 1} → statement M
 conclude-spec =

@@ -23,7 +23,7 @@ claim-at-requires-2 c κs = search needs
 
 -- src/lib.rt:328:5
 congr-step-requires : tie.Need-congr-step-requires
-congr-step-requires c κs = let a = c .before .before .before .before .before .before .before .before .before .before .before .before .before .args in let pre = c .before .before .before .before .before .before .before .before .before .before .before .before .before .pre in (pre .1 .0, term-small (pre .0) (pre .1 .1 .0) (c .before .before .before .before .before .claim-at .ensures .rhs))
+congr-step-requires c κs = let a = c .before .before .before .before .before .before .before .before .before .before .before .args in let pre = c .before .before .before .before .before .before .before .before .before .before .before .pre in (pre .1 .0, term-small (pre .0) (pre .1 .1 .0) (c .before .before .before .before .before .claim-at .ensures .rhs))
 
 -- src/lib.rt:304:1
 same-length : tie.Need-same-length
@@ -39,7 +39,7 @@ same-length-3 c = search needs
 
 -- src/lib.rt:304:1
 returns : tie.Need-returns
-returns c = let a = c .before .before .before .before .before .before .before .before .before .before .before .before .before .before .before .before .before .before .before .before .args in let pre = c .before .before .before .before .before .before .before .before .before .before .before .before .before .before .before .before .before .before .before .before .pre in congr-as (a .p) (propositionOf (a .q)) (a .i) (claim-of (c .before .before .before .before .before .before .before .before .before .before .before .before .claim-at .ensures) (c .before .before .before .before .before .before .before .before .before .before .before .before .before .wide .ensures)) (claim-of (c .before .before .before .before .before .before .before .before .before .before .claim-at2 .ensures) (c .before .before .before .before .before .before .before .before .before .before .before .wide2 .ensures)) (c .before .before .before .before .before .before .congr-step .ensures)
+returns c = let a = c .before .before .before .before .before .before .before .before .before .before .before .before .before .before .before .before .before .before .args in let pre = c .before .before .before .before .before .before .before .before .before .before .before .before .before .before .before .before .before .before .pre in congr-as (a .p) (propositionOf (a .q)) (a .i) (claim-of (c .before .before .before .before .before .before .before .before .before .before .before .before .claim-at .ensures) (c .before .before .before .before .before .before .before .before .before .before .before .before .before .wide .ensures)) (claim-of (c .before .before .before .before .before .before .before .before .before .before .claim-at2 .ensures) (c .before .before .before .before .before .before .before .before .before .before .before .wide2 .ensures)) (c .before .before .before .before .before .before .congr-step .ensures)
 
 pub congr-at-spec : {M : Type 1} → statement M
 congr-at-spec =

@@ -30,7 +30,7 @@ add-d c = search needs
 
 -- src/lib.rt:369:9
 mul-merge-step : tie.Need-mul-merge-step
-mul-merge-step c = let a = c .before .before .before .before .before .before .before .before .before .before .before .before .before .before .before .before .args in let pre = c .before .before .before .before .before .before .before .before .before .before .before .before .before .before .before .before .pre in let h = pre .0 .stored .formed .few in omega arith
+mul-merge-step c = let a = c .before .before .before .before .before .before .before .before .before .before .before .before .before .before .args in let pre = c .before .before .before .before .before .before .before .before .before .before .before .before .before .before .pre in let h = pre .0 .stored .formed .few in omega arith
 
 -- src/lib.rt:369:9
 sub-merge-step : tie.Need-sub-merge-step
@@ -46,7 +46,7 @@ part-merge-step-end c = search needs
 
 -- src/lib.rt:359:5
 merge-step-requires : tie.Need-merge-step-requires
-merge-step-requires c κs = let a = c .before .before .before .before .before .before .before .before .before .before .before .before .before .before .before .before .before .args in let pre = c .before .before .before .before .before .before .before .before .before .before .before .before .before .before .before .before .before .pre in (merge-stands (pre .0), (term-small (pre .0 .ready) (pre .0 .terms) (c .before .before .before .before .before .before .before .claim-at .ensures .rhs), term-small (pre .0 .ready) (pre .0 .terms) (c .before .before .before .before .before .claim-at2 .ensures .rhs)))
+merge-step-requires c κs = let a = c .before .before .before .before .before .before .before .before .before .before .before .before .before .before .before .args in let pre = c .before .before .before .before .before .before .before .before .before .before .before .before .before .before .before .pre in (merge-stands (pre .0), (term-small (pre .0 .ready) (pre .0 .terms) (c .before .before .before .before .before .before .before .claim-at .ensures .rhs), term-small (pre .0 .ready) (pre .0 .terms) (c .before .before .before .before .before .claim-at2 .ensures .rhs)))
 
 -- src/lib.rt:332:1
 same-length : tie.Need-same-length
@@ -70,7 +70,7 @@ same-length-5 c = search needs
 
 -- src/lib.rt:332:1
 returns : tie.Need-returns
-returns c = let a = c .before .before .before .before .before .before .before .before .before .before .before .before .before .before .before .before .before .before .before .before .before .before .before .before .before .before .before .before .args in let pre = c .before .before .before .before .before .before .before .before .before .before .before .before .before .before .before .before .before .before .before .before .before .before .before .before .before .before .before .before .pre in (merge-as (programFor (a .kinds .now) (a .ends .now) (a .pool .now) (a .z)) (a .p) (propositionOf (a .q)) (a .function) {k = a .skinds .now} {e = a .sends .now} {l = a .spool .now} {f = a .fill} {k₁ = c .before .before .before .before .before .before .before .before .before .before .merge-step .last .1 .1 .1 .1 .0} {e₁ = c .before .before .before .before .before .before .before .before .before .before .merge-step .last .1 .1 .1 .1 .1 .0} {l₁ = c .before .before .before .before .before .before .before .before .before .before .merge-step .last .1 .1 .1 .1 .1 .1 .0} {m = c .before .before .before .before .before .before .before .before .before .before .merge-step .last .1 .1 .1 .1 .1 .1 .1 .1 .0} (claim-of (c .before .before .before .before .before .before .before .before .before .before .before .before .before .before .before .before .before .before .claim-at .ensures) (c .before .before .before .before .before .before .before .before .before .before .before .before .before .before .before .before .before .before .before .wide .ensures)) (claim-of (c .before .before .before .before .before .before .before .before .before .before .before .before .before .before .before .before .claim-at2 .ensures) (c .before .before .before .before .before .before .before .before .before .before .before .before .before .before .before .before .before .wide2 .ensures)) (c .before .before .before .before .before .before .before .before .before .before .merge-step .ensures), second-part (length (a .skinds .now)) (a .scratch .now) (pre .0 .long) (c .before .before .before .before .before .before .before .before .before .before .merge-step .last .1 .1 .1 .1 .1 .1 .1 .1 .1 .0) (c .before .before .before .before .before .before .before .before .before .before .merge-step .kept .1 .1 .1 .1 .1 .1 .1 .1 .1 .0))
+returns c = let a = c .before .before .before .before .before .before .before .before .before .before .before .before .before .before .before .before .before .before .before .before .before .before .before .before .before .before .args in let pre = c .before .before .before .before .before .before .before .before .before .before .before .before .before .before .before .before .before .before .before .before .before .before .before .before .before .before .pre in (merge-as (programFor (a .job .now)) (a .p) (propositionOf (a .q)) (a .function) {k = a .skinds .now} {e = a .sends .now} {l = a .spool .now} {f = a .fill} {k₁ = c .before .before .before .before .before .before .before .before .before .before .merge-step .last .1 .0} {e₁ = c .before .before .before .before .before .before .before .before .before .before .merge-step .last .1 .1 .0} {l₁ = c .before .before .before .before .before .before .before .before .before .before .merge-step .last .1 .1 .1 .0} {m = c .before .before .before .before .before .before .before .before .before .before .merge-step .last .1 .1 .1 .1 .1 .0} (claim-of (c .before .before .before .before .before .before .before .before .before .before .before .before .before .before .before .before .before .before .claim-at .ensures) (c .before .before .before .before .before .before .before .before .before .before .before .before .before .before .before .before .before .before .before .wide .ensures)) (claim-of (c .before .before .before .before .before .before .before .before .before .before .before .before .before .before .before .before .claim-at2 .ensures) (c .before .before .before .before .before .before .before .before .before .before .before .before .before .before .before .before .before .wide2 .ensures)) (c .before .before .before .before .before .before .before .before .before .before .merge-step .ensures), second-part (length (a .skinds .now)) (a .scratch .now) (pre .0 .long) (c .before .before .before .before .before .before .before .before .before .before .merge-step .last .1 .1 .1 .1 .1 .1 .0) (c .before .before .before .before .before .before .before .before .before .before .merge-step .kept .1 .1 .1 .1 .1 .1 .0))
 
 pub merge-at-spec : {M : Type 1} → statement M
 merge-at-spec =

@@ -1,31 +1,16 @@
 use borrow.Author.Needs.{needs}
-use Rattle.model.specs.Layout.{firstRule}
-use Rattle.load.specs.Held.{sizesIn}
-use Rattle.program.proofs.Laws.{words-read}
 use Rattle.program.proofs.Reading.{rule-operands, rule-facts-read}
 use Rattle.program.proofs.read.rule_facts_at.Statement.{statement}
 use Rattle.program.proofs.read.rule_facts_at.Tie as tie
 
-first-rule-requires : tie.Need-first-rule-requires
-first-rule-requires c κs = search needs
-
-add-cell-words : tie.Need-add-cell-words
-add-cell-words c = search needs
-
-cell-words-requires : tie.Need-cell-words-requires
-cell-words-requires c κs = search needs
+words-at-requires : tie.Need-words-at-requires
+words-at-requires c κs = search needs
 
 rule-facts-requires : tie.Need-rule-facts-requires
-rule-facts-requires c κs = let a = c .before .before .before .before .before .args in
-    let ws = words-read (a .kinds .now) (a .ends .now) (a .pool .now) (a .z) (firstRule (sizesIn (a .z))) (a .z .rules) (a .r) (c .before .first-rule .ensures) (c .before .before .before .before .before .pre .1) (c .cell-words .ensures) in
-    rule-operands (c .before .before .before .before .before .pre .0) (a .r) (c .before .before .before .before .before .pre .1) ws
+rule-facts-requires c κs = rule-operands (c .before .before .pre .0) (c .before .before .args .r) (c .before .before .pre .1) (c .words-at .ensures)
 
 returns : tie.Need-returns
-returns c = let a = c .before .before .before .before .before .before .args in
-    let ws = words-read (a .kinds .now) (a .ends .now) (a .pool .now) (a .z) (firstRule (sizesIn (a .z))) (a .z .rules) (a .r) (c .before .before .first-rule .ensures) (c .before .before .before .before .before .before .pre .1) (c .before .cell-words .ensures) in
-    rule-facts-read (c .before .before .before .before .before .before .pre .0) (a .r) (c .before .before .before .before .before .before .pre .1) ws (c .rule-facts .ensures)
+returns c = rule-facts-read (c .before .before .before .pre .0) (c .before .before .before .args .r) (c .before .before .before .pre .1) (c .before .words-at .ensures) (c .rule-facts .ensures)
 
 pub rule-facts-at-spec : {M : Type 1} → statement M
-rule-facts-at-spec =
-    tie.close
-    (tie.spec first-rule-requires add-cell-words cell-words-requires rule-facts-requires returns)
+rule-facts-at-spec = tie.close (tie.spec words-at-requires rule-facts-requires returns)

@@ -1,31 +1,16 @@
 use borrow.Author.Needs.{needs}
-use Rattle.model.specs.Layout.{firstProof}
-use Rattle.load.specs.Held.{sizesIn}
-use Rattle.program.proofs.Laws.{words-read}
 use Rattle.program.proofs.Proving.{step-words, substitution-read}
 use Rattle.program.proofs.read.substitution_at.Statement.{statement}
 use Rattle.program.proofs.read.substitution_at.Tie as tie
 
-first-proof-requires : tie.Need-first-proof-requires
-first-proof-requires c κs = search needs
-
-add-cell-words : tie.Need-add-cell-words
-add-cell-words c = search needs
-
-cell-words-requires : tie.Need-cell-words-requires
-cell-words-requires c κs = search needs
+words-at-requires : tie.Need-words-at-requires
+words-at-requires c κs = search needs
 
 rule-pairs-requires : tie.Need-rule-pairs-requires
-rule-pairs-requires c κs = let a = c .before .before .before .before .before .args in
-    let ws = words-read (a .kinds .now) (a .ends .now) (a .pool .now) (a .z) (firstProof (sizesIn (a .z))) (a .z .proofs) (a .p) (c .before .first-proof .ensures) (c .before .before .before .before .before .pre .1 .0) (c .cell-words .ensures) in
-    step-words (c .before .before .before .before .before .pre .0) (a .p) (c .before .before .before .before .before .pre .1 .0) (c .before .before .before .before .before .pre .1 .1) ws
+rule-pairs-requires c κs = step-words (c .before .before .pre .0) (c .before .before .args .p) (c .before .before .pre .1 .0) (c .before .before .pre .1 .1) (c .words-at .ensures)
 
 returns : tie.Need-returns
-returns c = let a = c .before .before .before .before .before .before .args in
-    let ws = words-read (a .kinds .now) (a .ends .now) (a .pool .now) (a .z) (firstProof (sizesIn (a .z))) (a .z .proofs) (a .p) (c .before .before .first-proof .ensures) (c .before .before .before .before .before .before .pre .1 .0) (c .before .cell-words .ensures) in
-    substitution-read (c .before .before .before .before .before .before .pre .0) (a .p) (c .before .before .before .before .before .before .pre .1 .0) (c .before .before .before .before .before .before .pre .1 .1) ws (c .rule-pairs .ensures)
+returns c = substitution-read (c .before .before .before .pre .0) (c .before .before .before .args .p) (c .before .before .before .pre .1 .0) (c .before .before .before .pre .1 .1) (c .before .words-at .ensures) (c .rule-pairs .ensures)
 
 pub substitution-at-spec : {M : Type 1} → statement M
-substitution-at-spec =
-    tie.close
-    (tie.spec first-proof-requires add-cell-words cell-words-requires rule-pairs-requires returns)
+substitution-at-spec = tie.close (tie.spec words-at-requires rule-pairs-requires returns)
