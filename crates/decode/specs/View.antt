@@ -68,7 +68,7 @@ module _ (expr : ℕ → program.Expr) where
 
 -- A primitive.
 abbrev pub primitiveOf : Primitive → program.Primitive
-primitiveOf p = record { name = p .name; validator = p .validator; container = p .container }
+primitiveOf p = record { name = p .name; kind = p .kind; validator = p .validator; container = p .container }
 
 -- A row, with its arguments xs.
 abbrev pub rowOf : Row → List ℕ → program.Row

@@ -74,9 +74,10 @@ pub struct Function {
     pub merge: Merge,
 }
 
-// A primitive: whether it has a validator, and whether its output is a container sort.
+// A primitive: whether it has a validator, and whether its output is a container sort. The validator of kinds 4 to 8 computes.
 pub struct Primitive {
     pub name: u32,
+    pub kind: u32,
     pub validator: bool,
     pub container: bool,
 }
@@ -243,23 +244,33 @@ pub fn read_primitive(kind: u32, words: &[u32]) -> Primitive
     match kind {
         0 => Primitive {
             name,
+            kind,
             validator: false,
             container: false,
         },
         1 => Primitive {
             name,
+            kind,
             validator: true,
             container: false,
         },
         2 => Primitive {
             name,
+            kind,
             validator: false,
+            container: true,
+        },
+        3 => Primitive {
+            name,
+            kind,
+            validator: true,
             container: true,
         },
         _ => Primitive {
             name,
+            kind,
             validator: true,
-            container: true,
+            container: false,
         },
     }
 }

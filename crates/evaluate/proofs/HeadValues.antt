@@ -3,17 +3,19 @@ use mathlib.Core.Path.{_≡_, refl, sym, ap, subst, _∙_}
 use mathlib.Core.Bool.{Bool, true, false, cond}
 use mathlib.Core.List.{List, [], _∷_, _++_}
 use mathlib.Core.Option.{Option, none, some}
-use Prim.Native.Nat.{ℕ, _<_}
-use lib.Dec.{eqb}
+use Prim.Native.Nat.{ℕ, _<_, _≤_}
+use lib.Dec.{eqb, ltb}
+use borrow.Author.Tests.{lt-ltb, le-ltb}
 use Rattle.model.specs.Term.{Term, lit, app}
 use Rattle.model.specs.Program.{Binding, Program, Primitive}
 use Rattle.model.specs.Decode.{readBindings}
-use Rattle.model.specs.Check.{Outcome, ok, refused, Check, firstOf, orRefuse, Room, addNode}
-use Rattle.model.specs.Evaluate.{lookup, primitiveAt, rowValue, validate, validatedBy, validated}
+use Rattle.model.specs.Check.{Outcome, ok, refused, Check, andThen, _>>=_, firstOf, orRefuse, Room, addNode}
+use Rattle.model.specs.Counts.{countValue}
+use Rattle.model.specs.Evaluate.{lookup, primitiveAt, rowValue, countsIn, addCount, validateBy, validate, validatedBy, validated}
 use Rattle.cells.specs.declared.Fill.{Fill}
 use Rattle.decode.specs.View.{literalOf, headOf}
 use Rattle.decode.specs.declared.Head as view
-use Rattle.termdag.specs.Store.{termsIn, Stored}
+use Rattle.termdag.specs.Store.{termsIn, Stored, roomOf}
 use Rattle.outcome.specs.Does.{passed, refusal, outcomeOf, Does}
 use Rattle.outcome.specs.declared.Checked.{Checked}
 use Rattle.outcome.specs.declared.Refusal.{Refusal}
@@ -60,51 +62,57 @@ given-none c a b f e q = (ap (λ (x : Checked). x .fill) e, λ s. ap (λ (x : Ch
 
 -- primitives
 module _ (prog : Program) (n p : ℕ) (xs : List ℕ) (q : Primitive) (is : q ≡ primitiveAt (prog .primitives) p) where
-  abbrev name : ℕ
-  name = primitiveAt (prog .primitives) p .name
-
-  by-validator : (b : Bool) (s : List Term) → q .validator ≡ b → validated prog n p xs s ≡ validatedBy prog n p xs b s
-  by-validator b s e = ap (λ (v : Bool). validatedBy prog n p xs v s) (ap (λ (r : Primitive). r .validator) (sym is) ∙ e)
+  by-validator : (room : Room) (b : Bool) (s : List Term) → q .validator ≡ b → validated room prog n p xs s ≡ validatedBy room prog n p xs b s
+  by-validator room b s e = ap (λ (v : Bool). validatedBy room prog n p xs v s) (ap (λ (r : Primitive). r .validator) (sym is) ∙ e)
 
   -- without a validator
   pub without-validator : {K E P : List ℕ} {f : Fill} → Stored K E P f → (c : Checked) → 0 < n → q .validator ≡ false
       → c ≡ record { refusal = refusal n 1 (q .name ∷ 0 ∷ 0 ∷ 0 ∷ 0 ∷ 0 ∷ []); value = 0; fill = f }
-      → Does K E P f K E P (c .fill) (c .refusal) (c .value) (validated prog n p xs (termsIn K E P f))
+      → Does K E P f K E P (c .fill) (c .refusal) (c .value) (validated (roomOf K P) prog n p xs (termsIn K E P f))
   without-validator {K} {E} {P} {f} S c z e d =
-      subst (λ (x : Checked). Does K E P f K E P (x .fill) (x .refusal) (x .value) (validated prog n p xs (termsIn K E P f))) (sym d)
+      subst (λ (x : Checked). Does K E P f K E P (x .fill) (x .refusal) (x .value) (validated (roomOf K P) prog n p xs (termsIn K E P f))) (sym d)
       (does-here S (refused-of (refusal n 1 (q .name ∷ 0 ∷ 0 ∷ 0 ∷ 0 ∷ 0 ∷ [])) 0 (termsIn K E P f) (λ i. omega arith)
       ∙ ap {B = Outcome ℕ} (λ (r : Primitive). refused (record { number = n; fields = r .name ∷ [] }) (termsIn K E P f)) is
-      ∙ sym (by-validator false (termsIn K E P f) e)))
+      ∙ sym (by-validator (roomOf K P) false (termsIn K E P f) e)))
 
-  module _ {K E P : List ℕ} {f : Fill} {K₁ E₁ P₁ : List ℕ} {f₁ : Fill} {o : Option ℕ} (d : Does K E P f K₁ E₁ P₁ f₁ passed o (validate prog p xs (termsIn K E P f))) (v : q .validator ≡ true) where
-    after : (c : Checked) → outcomeOf (c .refusal) (c .value) (termsIn K₁ E₁ P₁ f₁) ≡ orRefuse o 46 (name ∷ []) (termsIn K₁ E₁ P₁ f₁)
-        → Does K E P f K₁ E₁ P₁ f₁ (c .refusal) (c .value) (validated prog n p xs (termsIn K E P f))
-    after c e = subst (Does K E P f K₁ E₁ P₁ f₁ (c .refusal) (c .value)) (sym (by-validator true (termsIn K E P f) v))
-        (does-then (λ room a. orRefuse a 46 (name ∷ [])) d refl (does-here (d .grown .stored) e))
+  -- with one: it computes, or looks rows up
+  abbrev given-by : Room → Primitive → Bool → Check ℕ
+  given-by room r b = validateBy room prog p xs b >>= λ o. orRefuse o 46 (r .name ∷ [])
 
-    -- a validator that gives a value
-    pub validator-some : (c : Checked) (t : ℕ) → some t ≡ o → c ≡ record { refusal = passed; value = t; fill = f₁ }
-        → Does K E P f K₁ E₁ P₁ (c .fill) (c .refusal) (c .value) (validated prog n p xs (termsIn K E P f))
+  by-kind : (room : Room) (b : Bool) (s : List Term) → q .validator ≡ true → ltb 3 (q .kind) ≡ b → given-by room q b s ≡ validated room prog n p xs s
+  unfolding validate
+  by-kind room b s e k =
+      ap (λ (r : Primitive). given-by room r b s) is
+      ∙ ap (λ (v : Bool). given-by room (primitiveAt (prog .primitives) p) v s) (sym k ∙ ap (λ (r : Primitive). ltb 3 (r .kind)) is)
+      ∙ sym (by-validator room true s e)
+
+  pub computes-value : {K E P : List ℕ} {f : Fill} {K₁ E₁ P₁ : List ℕ} {f₁ : Fill} {r : Refusal} {a : ℕ} → q .validator ≡ true → 3 < q .kind
+      → Does K E P f K₁ E₁ P₁ f₁ r a (andThen (addCount (roomOf K P) (countValue (q .kind) (countsIn (termsIn K E P f) xs)) (termsIn K E P f)) (λ o. orRefuse o 46 (q .name ∷ [])))
+      → Does K E P f K₁ E₁ P₁ f₁ r a (validated (roomOf K P) prog n p xs (termsIn K E P f))
+  computes-value {K} {E} {P} {f} {K₁} {E₁} {P₁} {f₁} {r} {a} e k d =
+      subst (Does K E P f K₁ E₁ P₁ f₁ r a)
+      (ap (λ (x : Primitive). andThen (addCount (roomOf K P) (countValue (x .kind) (countsIn (termsIn K E P f) xs)) (termsIn K E P f)) (λ o. orRefuse o 46 (q .name ∷ []))) is
+      ∙ by-kind (roomOf K P) true (termsIn K E P f) e (lt-ltb 3 (q .kind) k)) d
+
+  module _ {K E P : List ℕ} {f : Fill} {o : Option ℕ} (S : Stored K E P f) (v : q .validator ≡ true) (k : q .kind ≤ 3) (w : o ≡ rowValue (prog .rows) p xs) where
+    looked : orRefuse o 46 (q .name ∷ []) (termsIn K E P f) ≡ validated (roomOf K P) prog n p xs (termsIn K E P f)
+    looked = ap (λ (a : Option ℕ). orRefuse a 46 (q .name ∷ []) (termsIn K E P f)) w ∙ by-kind (roomOf K P) false (termsIn K E P f) v (le-ltb 3 (q .kind) k)
+
+    -- a row
+    pub row-some : (c : Checked) (t : ℕ) → some t ≡ o → c ≡ record { refusal = passed; value = t; fill = f }
+        → Does K E P f K E P (c .fill) (c .refusal) (c .value) (validated (roomOf K P) prog n p xs (termsIn K E P f))
     unfolding orRefuse
-    validator-some c t e g =
-        subst (λ (x : Checked). Does K E P f K₁ E₁ P₁ (x .fill) (x .refusal) (x .value) (validated prog n p xs (termsIn K E P f))) (sym g)
-        (after (record { refusal = passed; value = t; fill = f₁ }) (ap (λ (a : Option ℕ). orRefuse a 46 (name ∷ []) (termsIn K₁ E₁ P₁ f₁)) e))
+    row-some c t e g =
+        subst (λ (x : Checked). Does K E P f K E P (x .fill) (x .refusal) (x .value) (validated (roomOf K P) prog n p xs (termsIn K E P f))) (sym g)
+        (does-here S (ap (λ (a : Option ℕ). orRefuse a 46 (q .name ∷ []) (termsIn K E P f)) e ∙ looked))
 
-    -- one that gives none
-    pub validator-none : (c : Checked) → none ≡ o → c ≡ record { refusal = refusal 46 1 (q .name ∷ 0 ∷ 0 ∷ 0 ∷ 0 ∷ 0 ∷ []); value = 0; fill = f₁ }
-        → Does K E P f K₁ E₁ P₁ (c .fill) (c .refusal) (c .value) (validated prog n p xs (termsIn K E P f))
+    -- none
+    pub row-none : (c : Checked) → none ≡ o → c ≡ record { refusal = refusal 46 1 (q .name ∷ 0 ∷ 0 ∷ 0 ∷ 0 ∷ 0 ∷ []); value = 0; fill = f }
+        → Does K E P f K E P (c .fill) (c .refusal) (c .value) (validated (roomOf K P) prog n p xs (termsIn K E P f))
     unfolding orRefuse
-    validator-none c e g =
-        subst (λ (x : Checked). Does K E P f K₁ E₁ P₁ (x .fill) (x .refusal) (x .value) (validated prog n p xs (termsIn K E P f))) (sym g)
-        (after (record { refusal = refusal 46 1 (q .name ∷ 0 ∷ 0 ∷ 0 ∷ 0 ∷ 0 ∷ []); value = 0; fill = f₁ })
-        (ap {B = Outcome ℕ} (λ (r : Primitive). refused (record { number = 46; fields = r .name ∷ [] }) (termsIn K₁ E₁ P₁ f₁)) is
-        ∙ ap (λ (a : Option ℕ). orRefuse a 46 (name ∷ []) (termsIn K₁ E₁ P₁ f₁)) e))
-
--- a validator that looks rows up
-pub validate-does : {K E P : List ℕ} {f : Fill} (prog : Program) (p : ℕ) (xs : List ℕ) {o : Option ℕ} → Stored K E P f → o ≡ rowValue (prog .rows) p xs
-    → Does K E P f K E P f passed o (validate prog p xs (termsIn K E P f))
-unfolding validate
-validate-does {K} {E} {P} {f} prog p xs S e = does-here S (ap {B = Outcome (Option ℕ)} (λ (x : Option ℕ). ok x (termsIn K E P f)) e)
+    row-none c e g =
+        subst (λ (x : Checked). Does K E P f K E P (x .fill) (x .refusal) (x .value) (validated (roomOf K P) prog n p xs (termsIn K E P f))) (sym g)
+        (does-here S (ap (λ (a : Option ℕ). orRefuse a 46 (q .name ∷ []) (termsIn K E P f)) e ∙ looked))
 
 -- custom calls
 module _ {K E P : List ℕ} {f : Fill} (room : Room) (g : ℕ) (ts : List ℕ) {b : Bool} where
@@ -125,7 +133,7 @@ module _ (fact : Bool) (room : Room) (prog : Program) (rule : ℕ) (σ : List Bi
   outcomeAt (view.Head.Var x) = orRefuse (lookup σ x) 45 (rule ∷ x ∷ []) s
   outcomeAt (view.Head.Constructor f) = addNode room (app f ts) s
   outcomeAt (view.Head.Custom f) = customTerm fact room f ts s
-  outcomeAt (view.Head.Primitive p) = validated prog (cond fact 47 51) p ts s
+  outcomeAt (view.Head.Primitive p) = validated room prog (cond fact 47 51) p ts s
 
   head-is : (h : view.Head) → outcomeAt h ≡ headTerm fact room prog rule σ (headOf h) ts s
   unfolding headTerm
@@ -150,7 +158,7 @@ pub number-above : {n : ℕ} (fact : Bool) → n ≡ cond fact 47 51 → 0 < n
 number-above {n} true e = omega arith
 number-above {n} false e = omega arith
 
-pub by-number : (prog : Program) (p : ℕ) (ts : List ℕ) (s : List Term) {n k : ℕ} {K E P : List ℕ} {f : Fill} {K₁ E₁ P₁ : List ℕ} {f₁ : Fill} {r : Refusal} {a : ℕ} → n ≡ k
-    → Does K E P f K₁ E₁ P₁ f₁ r a (validated prog n p ts s) → Does K E P f K₁ E₁ P₁ f₁ r a (validated prog k p ts s)
-by-number prog p ts s {K = K} {E = E} {P = P} {f = f} {K₁ = K₁} {E₁ = E₁} {P₁ = P₁} {f₁ = f₁} {r = r} {a = a} e d =
-    subst (λ (m : ℕ). Does K E P f K₁ E₁ P₁ f₁ r a (validated prog m p ts s)) e d
+pub by-number : (room : Room) (prog : Program) (p : ℕ) (ts : List ℕ) (s : List Term) {n k : ℕ} {K E P : List ℕ} {f : Fill} {K₁ E₁ P₁ : List ℕ} {f₁ : Fill} {r : Refusal} {a : ℕ} → n ≡ k
+    → Does K E P f K₁ E₁ P₁ f₁ r a (validated room prog n p ts s) → Does K E P f K₁ E₁ P₁ f₁ r a (validated room prog k p ts s)
+by-number room prog p ts s {K = K} {E = E} {P = P} {f = f} {K₁ = K₁} {E₁ = E₁} {P₁ = P₁} {f₁ = f₁} {r = r} {a = a} e d =
+    subst (λ (m : ℕ). Does K E P f K₁ E₁ P₁ f₁ r a (validated room prog m p ts s)) e d

@@ -52,7 +52,7 @@ module _ (room : Room) (prog : Program) (rule : ℕ) (σ : List Binding) where
   plain-head (variable x) vs s = valued-term (orRefuse (lookup σ x) 45 (rule ∷ x ∷ []) s) []
   plain-head (constructor f) vs s = valued-term (addNode room (app f (vs .terms)) s) (vs .pairs)
   plain-head (custom f) vs s = valued-term (addNode room (app f (vs .terms)) s) (vs .pairs)
-  plain-head (primitive p) vs s = valued-term (validated prog 51 p (vs .terms) s) (vs .pairs)
+  plain-head (primitive p) vs s = valued-term (validated room prog 51 p (vs .terms) s) (vs .pairs)
 
   plain-then : (o : Outcome Values) (h : Head) → termOutcome (andThen o (headValue room prog rule σ h)) ≡ andThen (termsOutcome o) (headTerm false room prog rule σ h)
   plain-then (ok vs s) h = plain-head h vs s
@@ -111,7 +111,7 @@ module _ (fact : Bool) (room : Room) (prog : Program) (rule : ℕ) (σ : List Bi
   head-settled (variable x) ts s = settled-or (lookup σ x) _ _ s tt
   head-settled (constructor f) ts s = post-map (added room (app f ts) s) λ t s′ m. m .0
   head-settled (custom f) ts s = custom-settled fact room f ts s
-  head-settled (primitive p) ts s = validated-settled prog (cond fact 47 51) p ts s (number-settled fact) (primitiveAt (prog .primitives) p .validator)
+  head-settled (primitive p) ts s = validated-settled room prog (cond fact 47 51) p ts s (number-settled fact) (primitiveAt (prog .primitives) p .validator)
 
   mutual
     unfolding evalTerm
@@ -134,9 +134,9 @@ module _ (fact : Bool) (room : Room) (prog : Program) (rule : ℕ) (σ : List Bi
 
 module _ (room : Room) (prog : Program) (rule : ℕ) (σ : List Binding) where
   -- what has a value in an ordinary fact has the same elsewhere
-  validated-plain : (p : ℕ) (ts : List ℕ) (s : List Term) (b : Bool) → Post (validatedBy prog 47 p ts b s) (λ t s′. validatedBy prog 51 p ts b s ≡ ok t s′)
+  validated-plain : (p : ℕ) (ts : List ℕ) (s : List Term) (b : Bool) → Post (validatedBy room prog 47 p ts b s) (λ t s′. validatedBy room prog 51 p ts b s ≡ ok t s′)
   validated-plain p ts s false = record { holds = tt }
-  validated-plain p ts s true = post-self (validatedBy prog 47 p ts true s) (validated-settled prog 47 p ts s tt true)
+  validated-plain p ts s true = post-self (validatedBy room prog 47 p ts true s) (validated-settled room prog 47 p ts s tt true)
 
   head-plain : (h : Head) (ts : List ℕ) (s : List Term) → Post (headTerm true room prog rule σ h ts s) (λ t s′. headTerm false room prog rule σ h ts s ≡ ok t s′)
   unfolding headTerm

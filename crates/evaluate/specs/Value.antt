@@ -33,7 +33,7 @@ module _ (fact : Bool) (room : Room) (prog : Program) (rule : ℕ) (σ : List Bi
   headTerm (variable x) ts = orRefuse (lookup σ x) 45 (rule ∷ x ∷ [])
   headTerm (constructor f) ts = addNode room (app f ts)
   headTerm (custom f) ts = customTerm fact room f ts
-  headTerm (primitive p) ts = validated prog (cond fact 47 51) p ts
+  headTerm (primitive p) ts = validated room prog (cond fact 47 51) p ts
 
   unfoldable mutual
     pub evalTerm : Expr → Check ℕ

@@ -2,6 +2,7 @@
 // most once in an evaluation.
 use cells::Fill;
 use cells::wide;
+use computing::computed;
 use decode::Head;
 use outcome::Checked;
 use outcome::add_app;
@@ -23,7 +24,7 @@ ghost use lib.ListN.{length};
 ghost use Rattle.model.specs.Layout.{sizesOf};
 ghost use Rattle.model.specs.Term.{Term};
 ghost use Rattle.model.specs.Check.{orRefuse};
-ghost use Rattle.model.specs.Evaluate.{lookup, validate, validated};
+ghost use Rattle.model.specs.Evaluate.{lookup, validated};
 ghost use Rattle.termdag.specs.Store.{termsIn, Stored, roomOf};
 ghost use Rattle.program.specs.Ready.{Ready, programFor, optionOf};
 ghost use Rattle.decode.specs.View.{headOf};
@@ -33,12 +34,6 @@ ghost use Rattle.outcome.specs.Does.{passed, outcomeOf, Does};
 ghost use Rattle.program.specs.Read.{argumentsFor};
 ghost use Rattle.evaluate.specs.Value.{customTerm, headTerm, bindingsIn, evalFor, valueFor};
 ghost use Rattle.evaluate.specs.Evaluation.{Memo, Evaluates, EvaluatesRoot};
-
-// What a validator gives, and the fill of the store.
-pub struct Validation {
-    pub value: Looked,
-    pub fill: Fill,
-}
 
 // The term bound to a name: by conditions and lets, by the substitution, by the globals.
 pub fn lookup(bound: &[u32], pairs: &[u32], globals: &[u32], name: u32) -> Looked
@@ -55,25 +50,7 @@ pub fn lookup(bound: &[u32], pairs: &[u32], globals: &[u32], name: u32) -> Looke
     lookup_pairs(globals, name)
 }
 
-// A primitive's validator. It is lent the store, though it looks rows up alone.
-pub fn validate(
-    job: &[u32],
-    skinds: &mut [u32],
-    sends: &mut [u32],
-    spool: &mut [u32],
-    fill: Fill,
-    p: u32,
-    args: &[u32],
-) -> Validation
-    requires { ⌜ Ready (now job) ⌝ }
-    requires { ⌜ Stored (now skinds) (now sends) (now spool) fill ⌝ }
-    ensures { λ r. ⌜ Does (now (skinds .entry)) (now (sends .entry)) (now (spool .entry)) fill (now (skinds .exit)) (now (sends .exit)) (now (spool .exit)) (r .fill) passed (optionOf (r .value)) (validate (programFor (now (job .entry))) p (now (args .entry)) (termsIn (now (skinds .entry)) (now (sends .entry)) (now (spool .entry)) fill)) ⌝ }
-{
-    let value = row_value(job, p, args);
-    Validation { value, fill }
-}
-
-// A primitive's value: refusal n where it has no validator, 46 where the validator gives nothing.
+// A primitive's value, computed or looked up: refusal n where it has no validator, 46 where the validator gives nothing.
 fn validated(
     job: &[u32],
     n: u32,
@@ -81,6 +58,7 @@ fn validated(
     sends: &mut [u32],
     spool: &mut [u32],
     fill: Fill,
+    near: u32,
     p: u32,
     args: &[u32],
 ) -> Checked
@@ -88,17 +66,27 @@ fn validated(
     requires { ⌜ Stored (now skinds) (now sends) (now spool) fill ⌝ }
     requires { ⌜ p < sizesOf (now job) .primitives ⌝ }
     requires { ⌜ 0 < n ⌝ }
-    ensures { λ r. ⌜ Does (now (skinds .entry)) (now (sends .entry)) (now (spool .entry)) fill (now (skinds .exit)) (now (sends .exit)) (now (spool .exit)) (r .fill) (r .refusal) (r .value) (validated (programFor (now (job .entry))) n p (now (args .entry)) (termsIn (now (skinds .entry)) (now (sends .entry)) (now (spool .entry)) fill)) ⌝ }
+    ensures { λ r. ⌜ Does (now (skinds .entry)) (now (sends .entry)) (now (spool .entry)) fill (now (skinds .exit)) (now (sends .exit)) (now (spool .exit)) (r .fill) (r .refusal) (r .value) (validated (roomOf (now (skinds .entry)) (now (spool .entry))) (programFor (now (job .entry))) n p (now (args .entry)) (termsIn (now (skinds .entry)) (now (sends .entry)) (now (spool .entry)) fill)) ⌝ }
 {
     let primitive = primitive_at(job, wide(p));
     if !primitive.validator {
         return refuse1(n, primitive.name, fill);
     }
-    let v = validate(job, skinds, sends, spool, fill, p, args);
-    let value = v.value;
-    match value {
-        Looked::Some(t) => pass(t, v.fill),
-        Looked::None => refuse1(46, primitive.name, v.fill),
+    if 3 < primitive.kind {
+        return computed(
+            skinds,
+            sends,
+            spool,
+            fill,
+            near,
+            primitive.kind,
+            primitive.name,
+            args,
+        );
+    }
+    match row_value(job, p, args) {
+        Looked::Some(t) => pass(t, fill),
+        Looked::None => refuse1(46, primitive.name, fill),
     }
 }
 
@@ -177,7 +165,7 @@ pub fn head_value(
         Head::Custom(f) => custom_value(fact, skinds, sends, spool, fill, near, f, args),
         Head::Primitive(p) => {
             let n = no_validator(fact);
-            validated(job, n, skinds, sends, spool, fill, p, args)
+            validated(job, n, skinds, sends, spool, fill, near, p, args)
         }
     }
 }

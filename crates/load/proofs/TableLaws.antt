@@ -8,11 +8,12 @@ use native.Mathlib.Omega.{arith}
 use lib.Dec.{eqb, ltb}
 use lib.ListN.{length, getD, take, drop, length-take, length-drop, drop-of-length-le, List·getD-eq-default}
 use lib.Seq.{getD-take, getD-drop, drop-cons, take-take}
-use borrow.Author.Tests.{ne-eqb, le-ltb, le-leb, lt-leb}
+use borrow.Author.Tests.{ne-eqb, lt-ltb, le-ltb, le-leb, lt-leb}
 use Rattle.model.specs.Cell.{Cell, noCell, cellsOf}
 use Rattle.model.specs.Layout.{Sizes, Tables, part, tablesIn, tableList, cellCount, firstFact, firstAction, firstFunction, firstPrimitive, firstRow, firstNormaliser, firstRule, firstProof}
 use Rattle.model.specs.Decode.{readArguments, readPrimitive}
-use Rattle.model.specs.Load.{any, failsFrom, marks, isFirst, sameHead, counts, isSetCall, setFits, validates, passed, fitTests, validTests, onceTests}
+use Rattle.model.specs.Program.{looksUp}
+use Rattle.model.specs.Load.{any, failsFrom, marks, isFirst, sameHead, counts, isSetCall, setFits, primitiveLooksUp, passed, fitTests, validTests, onceTests}
 use Rattle.cells.proofs.Laws.{cell-at}
 use Rattle.cells.specs.declared.Found.{Found}
 use Rattle.load.specs.Held.{countsOf, cellNumber, fixedCounts, alikeBy, firstAmong, testsFor, firstFound}
@@ -111,23 +112,25 @@ held-cell K E P n i us h e =
     let k : getD K i 0 ≡ getD (cellsOf K E P n) i noCell .kind = sym (ap (λ (x : Cell). x .kind) (cell-at K E P n i h)) in
     λ t. record { kind = k t; words = e t }
 
-pub validator-kind : (k : ℕ) → (not (eqb k 0) && not (eqb k 2)) ≡ getD (false ∷ true ∷ false ∷ []) k true
+pub validator-kind : (k : ℕ) → (eqb k 1 || eqb k 3) ≡ (getD (false ∷ true ∷ false ∷ []) k true && not (ltb 3 k))
 validator-kind zero = refl
 validator-kind (suc zero) = refl
 validator-kind (suc (suc zero)) = refl
-validator-kind (suc (suc (suc k))) = rw (ne-eqb (suc (suc (suc k))) 0 (λ e. omega arith), ne-eqb (suc (suc (suc k))) 2 (λ e. omega arith))
+validator-kind (suc (suc (suc zero))) = refl
+validator-kind (suc (suc (suc (suc k)))) =
+    let n = suc (suc (suc (suc k))) in rw (ne-eqb n 1 (λ e. omega arith), ne-eqb n 3 (λ e. omega arith), lt-ltb 3 n (omega arith))
 
 -- the primitives of a job
 pub primitive-held : (z : Sizes) (cs : List Cell) (p k : ℕ) → p < z .primitives → k ≡ getD cs (firstPrimitive z + p) noCell .kind
-    → (not (eqb k 0) && not (eqb k 2)) ≡ validates (tablesIn z cs .primitives) p
+    → (eqb k 1 || eqb k 3) ≡ primitiveLooksUp (tablesIn z cs .primitives) p
 primitive-held z cs p k h e =
     let x = part-at cs (firstPrimitive z) (z .primitives) p h in
-    rw e (validator-kind (getD cs (firstPrimitive z + p) noCell .kind)) ∙ ap (λ (c : Cell). readPrimitive c .validator) (sym x)
+    rw e (validator-kind (getD cs (firstPrimitive z + p) noCell .kind)) ∙ ap (λ (c : Cell). looksUp (readPrimitive c)) (sym x)
 
-pub primitive-out : (z : Sizes) (cs : List Cell) (p : ℕ) → z .primitives ≤ p → false ≡ validates (tablesIn z cs .primitives) p
+pub primitive-out : (z : Sizes) (cs : List Cell) (p : ℕ) → z .primitives ≤ p → false ≡ primitiveLooksUp (tablesIn z cs .primitives) p
 primitive-out z cs p h =
     let l : length (tablesIn z cs .primitives) ≤ p = simp length-take (omega arith) in
-    ap (λ (c : Cell). readPrimitive c .validator) (sym (List·getD-eq-default (tablesIn z cs .primitives) noCell l))
+    ap (λ (c : Cell). looksUp (readPrimitive c)) (sym (List·getD-eq-default (tablesIn z cs .primitives) noCell l))
 
 pub valid-other : (t : Tables) (k i : ℕ) (c : Cell) → (k ≡ 6 → ⊥) → (k ≡ 7 → ⊥) → true ≡ getD (validTests t) k passed i c
 valid-other t zero i c a b = refl

@@ -94,7 +94,7 @@ cellNumber z table = sumOf table (countsOf z)
 
 -- The operand count of each kind: of facts (2), functions (4), primitives (5) and normalisers.
 abbrev pub fixedCounts : ℕ → List ℕ
-fixedCounts table = getD ((2 ∷ []) ∷ (2 ∷ []) ∷ (2 ∷ 1 ∷ []) ∷ (2 ∷ []) ∷ (1 ∷ 2 ∷ []) ∷ (1 ∷ 1 ∷ 1 ∷ 1 ∷ []) ∷ []) table (2 ∷ [])
+fixedCounts table = getD ((2 ∷ []) ∷ (2 ∷ []) ∷ (2 ∷ 1 ∷ []) ∷ (2 ∷ []) ∷ (1 ∷ 2 ∷ []) ∷ (1 ∷ 1 ∷ 1 ∷ 1 ∷ 1 ∷ 1 ∷ 1 ∷ 1 ∷ 1 ∷ []) ∷ []) table (2 ∷ [])
 
 -- When two cells of a table are the same: terms, rows (6), and normalisers.
 abbrev pub alikeBy : ℕ → Cell → Cell → Bool

@@ -18,7 +18,7 @@ ghost use mathlib.Core.Bool.{true, false};
 ghost use Prim.Native.Nat.{ℕ, _+_, _<_};
 ghost use lib.ListN.{getD};
 ghost use mathlib.Core.List.{[]};
-ghost use Rattle.model.specs.Load.{counts as operandCounts, failsFrom, marks, setFits, actionFits, passed, fitTests, referTests, validTests, onceTests, validates, bindsOnce};
+ghost use Rattle.model.specs.Load.{counts as operandCounts, failsFrom, marks, setFits, actionFits, passed, fitTests, referTests, validTests, onceTests, primitiveLooksUp, bindsOnce};
 ghost use Rattle.model.specs.Cell.{cellsOf};
 ghost use Rattle.model.specs.Layout.{cellCount, tableList};
 ghost use Rattle.model.specs.Program.{substitution};
@@ -118,7 +118,7 @@ pub fn fixed_fits(table: usize, kind: u32, ws: &[u32]) -> bool
         return fit::counted(&ns, kind, ws);
     }
     if table == 5 {
-        let ns: [u32; 4] = [1, 1, 1, 1];
+        let ns: [u32; 9] = [1, 1, 1, 1, 1, 1, 1, 1, 1];
         return fit::counted(&ns, kind, ws);
     }
     let ns: [u32; 1] = [2];
@@ -160,17 +160,17 @@ pub fn refers(z: Sizes, table: usize, i: usize, kind: u32, ws: &[u32]) -> bool
     refer::proof_refers(z.terms, i, kind, ws)
 }
 
-// The primitive has a validator.
-pub fn has_validator(kinds: &[u32], ends: &[u32], pool: &[u32], z: Sizes, p: usize) -> bool
+// The primitive has a validator that looks rows up.
+pub fn looks_up(kinds: &[u32], ends: &[u32], pool: &[u32], z: Sizes, p: usize) -> bool
     requires { ⌜ Held (now kinds) (now ends) (now pool) z ⌝ }
-    ensures { λ r. ⌜ r ≡ validates (tablesFor (now (kinds .entry)) (now (ends .entry)) (now (pool .entry)) z .primitives) p ⌝ }
+    ensures { λ r. ⌜ r ≡ primitiveLooksUp (tablesFor (now (kinds .entry)) (now (ends .entry)) (now (pool .entry)) z .primitives) p ⌝ }
 {
     if z.primitives <= p {
         return false;
     }
     let i = z.terms + z.expressions + z.facts + z.actions + z.functions + p;
     let kind = kinds[i];
-    (kind != 0) & (kind != 2)
+    (kind == 1) | (kind == 3)
 }
 
 // 8, by table.
@@ -179,10 +179,10 @@ pub fn valid(kinds: &[u32], ends: &[u32], pool: &[u32], z: Sizes, table: usize, 
     ensures { λ r. ⌜ ((i kind : ℕ) → r ≡ getD (validTests (tablesFor (now (kinds .entry)) (now (ends .entry)) (now (pool .entry)) z)) table passed i (record { kind = kind; words = now (ws .entry) })) ⌝ }
 {
     if table == 6 {
-        return has_validator(kinds, ends, pool, z, wide(at(ws, 0)));
+        return looks_up(kinds, ends, pool, z, wide(at(ws, 0)));
     }
     if table == 7 {
-        return has_validator(kinds, ends, pool, z, wide(at(ws, 1)));
+        return looks_up(kinds, ends, pool, z, wide(at(ws, 1)));
     }
     true
 }

@@ -9,10 +9,12 @@ use mathlib.Core.Option.{Option, none, some, Option·none-ne-some, Option·some-
 use lib.ListN.{length}
 use lib.Dec.{eqb}
 use Rattle.model.specs.Cell.{sameWords}
-use Rattle.model.specs.Term.{Term, lit, var, app, getTerm, Extends, Below, Ordered}
-use Rattle.model.specs.Program.{Head, literal, variable, constructor, custom, primitive, Expr, node, Exprs, nil, cons, Proposition, Binding, Row, Program}
-use Rattle.model.specs.Check.{Outcome, ok, Check, andThen, _>>=_, pure, orRefuse, Room, addNode}
-use Rattle.model.specs.Evaluate.{lookup, primitiveAt, rowValue, validate, validatedBy, children, concatMap, subtermsIn, same, reflexive, Value, Values, valued, headValue, evalExpr, evalExprs}
+use lib.IntN.{ℤ}
+use Rattle.model.specs.Counts.{countOfTerm, allOf, exact, fitting, countValue}
+use Rattle.model.specs.Term.{Term, Literal, lit, var, app, getTerm, Extends, Below, Ordered}
+use Rattle.model.specs.Program.{Head, literal, variable, constructor, custom, primitive, Expr, node, Exprs, nil, cons, Proposition, Binding, Row, Program, computes}
+use Rattle.model.specs.Check.{Outcome, ok, Check, andThen, _>>=_, pure, orRefuse, Room, addNode, _>>?_}
+use Rattle.model.specs.Evaluate.{lookup, primitiveAt, rowValue, countsIn, addCount, validateBy, validate, validatedBy, children, concatMap, subtermsIn, same, reflexive, Value, Values, valued, headValue, evalExpr, evalExprs}
 use Rattle.model.proofs.Post.{Nonzero, Post, post-ok, post-map, post-bind, post-result}
 use Rattle.model.proofs.Agree.{agree-post}
 use Rattle.model.proofs.Store.{extends-same, extends-then, extends-length, get-extends, get-inside, find-extends, Children, Added, add-agrees, add-found}
@@ -67,11 +69,72 @@ pub reflexive-extend : (s s′ : List Term) → Ordered s → Extends s s′ →
 unfolding reflexive
 reflexive-extend s s′ o x n h = ap (map same) (subterms-extend s s′ o x (suc n) n h)
 
-module _ (prog : Program) where
-  pub validated-settled : (n p : ℕ) (ts : List ℕ) (s : List Term) → Nonzero {0} n → (b : Bool) → Post (validatedBy prog n p ts b s) (Settled (validatedBy prog n p ts b) s)
+-- the integers of terms, where each has one, are the same in every later store
+all-tail : (o : Option ℤ) (r : Option (List ℤ)) (bs : List ℤ) → (o >>? λ a. r >>? λ as′. some (a ∷ as′)) ≡ some bs → (as′ : List ℤ) × (r ≡ some as′)
+all-tail none r bs e = absurd (Option·none-ne-some bs e)
+all-tail (some a) none bs e = absurd (Option·none-ne-some bs e)
+all-tail (some a) (some as′) bs e = (as′, refl)
+
+count-inside : (s : List Term) (x : ℕ) (q : Option Term) → getTerm s x ≡ q → (r : Option (List ℤ)) (bs : List ℤ)
+    → (countOfTerm q >>? λ a. r >>? λ as′. some (a ∷ as′)) ≡ some bs → x < length s
+count-inside s x none e r bs h = absurd (Option·none-ne-some bs h)
+count-inside s x (some t) e r bs h = get-inside s x t e
+
+counts-extend : (s s′ : List Term) → Extends s s′ → (xs : List ℕ) (bs : List ℤ) → allOf (countsIn s xs) ≡ some bs → countsIn s′ xs ≡ countsIn s xs
+counts-extend s s′ g [] bs e = refl
+counts-extend s s′ g (x ∷ xs) bs e =
+    let t = all-tail (countOfTerm (getTerm s x)) (allOf (countsIn s xs)) bs e in
+    ap₂ _∷_ (ap countOfTerm (get-extends s s′ g x (count-inside s x (getTerm s x) refl (allOf (countsIn s xs)) bs e))) (counts-extend s s′ g xs (t .0) (t .1))
+
+value-extend : (s s′ : List Term) → Extends s s′ → (k : ℕ) (xs : List ℕ) (l : Literal) → countValue k (countsIn s xs) ≡ some l → countValue k (countsIn s′ xs) ≡ some l
+unfolding countValue
+value-extend s s′ g k xs l e = go (allOf (countsIn s xs)) refl e
+  where
+    go : (o : Option (List ℤ)) → allOf (countsIn s xs) ≡ o → (o >>? exact k >>? fitting) ≡ some l → countValue k (countsIn s′ xs) ≡ some l
+    go none f h = absurd (Option·none-ne-some l h)
+    go (some bs) f h = ap (countValue k) (counts-extend s s′ g xs bs f) ∙ e
+
+module _ (room : Room) (prog : Program) where
+  -- a count's value: it is settled, and a literal was added
+  record Computed (c : Check ℕ) (s : List Term) (t : ℕ) (s′ : List Term) : Type 0 where
+    pub settled : Settled c s t s′
+    pub literal : Literal
+    pub added : Added room (lit literal) s t s′
+
+  module _ (n p : ℕ) (fs : List ℕ) (ts : List ℕ) where
+    abbrev computing : Check ℕ
+    computing = validateBy room prog p ts true >>= λ o. orRefuse o n fs
+
+    abbrev kind : ℕ
+    kind = primitiveAt (prog .primitives) p .kind
+
+    computed : (s : List Term) → Nonzero {0} n → Post (computing s) (Computed computing s)
+    unfolding orRefuse
+    computed s z = by (countValue kind (countsIn s ts)) refl
+      where
+        by : (v : Option Literal) → countValue kind (countsIn s ts) ≡ v → Post (andThen (addCount room v s) (λ o. orRefuse o n fs)) (Computed computing s)
+        by none e = record { holds = z }
+        by (some l) e = post-bind {P = λ o s′. (t : ℕ) × (o ≡ some t) × Settled (addNode room (lit l)) s t s′ × Added room (lit l) s t s′}
+            (post-bind (added room (lit l) s) λ t s′ m. post-ok (t, refl, m .0, m .1))
+            λ o s′ m. rw (m .1) (post-ok (record {
+              settled = record {
+                grows = m .2 .grows;
+                again = λ s″ x. ap (λ (v : Option Literal). andThen (addCount room v s″) (λ q. orRefuse q n fs)) (value-extend s s″ (extends-then (m .2 .grows) x) kind ts l e)
+                    ∙ ap (λ (r : Outcome ℕ). andThen (andThen r (λ t. pure (some t))) (λ q. orRefuse q n fs)) (m .2 .again s″ x);
+              };
+              literal = l;
+              added = m .3;
+            }))
+
+  pub validated-settled : (n p : ℕ) (ts : List ℕ) (s : List Term) → Nonzero {0} n → (b : Bool) → Post (validatedBy room prog n p ts b s) (Settled (validatedBy room prog n p ts b) s)
   unfolding validate
   validated-settled n p ts s z false = record { holds = z }
-  validated-settled n p ts s z true = settled-or (rowValue (prog .rows) p ts) _ _ s tt
+  validated-settled n p ts s z true = by (computes (primitiveAt (prog .primitives) p))
+    where
+      by : (b : Bool) → Post ((validateBy room prog p ts b >>= λ o. orRefuse o 46 (primitiveAt (prog .primitives) p .name ∷ [])) s)
+          (Settled (validateBy room prog p ts b >>= λ o. orRefuse o 46 (primitiveAt (prog .primitives) p .name ∷ [])) s)
+      by false = settled-or (rowValue (prog .rows) p ts) _ _ s tt
+      by true = post-map (computed 46 p _ ts s tt) λ t s′ m. m .settled
 
 -- evaluation with pairs: the store is ordered, and the numbers that the bindings and the rows name lie in it
 lookup-member : (σ : List Binding) (x t : ℕ) → lookup σ x ≡ some t → (b : Binding) × List·Memᴰ b σ × (b .term ≡ t)
@@ -138,11 +201,16 @@ module _ (prog : Program) (room : Room) (rule : ℕ) (σ : List Binding) where
   or-again (some t) n fs ps s z w h = valued-again ps settled-pure w (h t refl)
 
   row-again : (p : ℕ) (ts : List ℕ) (ps : List Proposition) (s : List Term) → Sane s → (b : Bool)
-      → Post ((validatedBy prog 51 p ts b >>= valued ps) s) (Again (validatedBy prog 51 p ts b >>= valued ps) s)
+      → Post ((validatedBy room prog 51 p ts b >>= valued ps) s) (Again (validatedBy room prog 51 p ts b >>= valued ps) s)
   unfolding validate
   row-again p ts ps s w false = record { holds = tt }
-  row-again p ts ps s w true = or-again (rowValue (prog .rows) p ts) _ _ ps s tt w
-      (λ t e. let k = row-member (prog .rows) p ts t e in rw (k .2) at (w .rows (k .0) (k .1)))
+  row-again p ts ps s w true = by (computes (primitiveAt (prog .primitives) p))
+    where
+      by : (b : Bool) → Post (((validateBy room prog p ts b >>= λ o. orRefuse o 46 (primitiveAt (prog .primitives) p .name ∷ [])) >>= valued ps) s)
+          (Again ((validateBy room prog p ts b >>= λ o. orRefuse o 46 (primitiveAt (prog .primitives) p .name ∷ [])) >>= valued ps) s)
+      by false = or-again (rowValue (prog .rows) p ts) _ _ ps s tt w (λ t e. let k = row-member (prog .rows) p ts t e in rw (k .2) at (w .rows (k .0) (k .1)))
+      by true = post-bind (computed room prog 46 p _ ts s tt) λ t s′ m.
+          valued-again ps (m .settled) (sane-grows (m .added .grows) (m .added .ordered tt (w .ordered)) w) (get-inside s′ t (lit (m .literal)) (m .added .there))
 
   head-again : (h : Head) (vs : Values) (s : List Term) → Sane s → Below (length s) (vs .terms)
       → Post (headValue room prog rule σ h vs s) (Again (headValue room prog rule σ h vs) s)

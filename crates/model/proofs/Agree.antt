@@ -5,8 +5,7 @@ use mathlib.Core.Path.{_≡_, refl, sym, subst}
 use mathlib.Core.List.{List}
 use mathlib.Core.Option.{Option, none, some}
 use Rattle.model.specs.Term.{Term}
-use Rattle.model.specs.Check.{Refusal, Outcome, ok, refused, Check, andThen}
-use Rattle.model.specs.Tree.{_>>?_}
+use Rattle.model.specs.Check.{Refusal, Outcome, ok, refused, Check, andThen, _>>?_}
 use Rattle.model.proofs.Post.{Nonzero, Post, post-ok}
 
 module _ {A B : Type 0} where

@@ -11,10 +11,11 @@ use lib.ListN.{length}
 use lib.Dec.{eqb}
 use Rattle.model.specs.Cell.{sameWords}
 use Rattle.model.specs.Term.{Term, Literal, lit, app, getTerm, Extends, Below, Ordered}
-use Rattle.model.specs.Program.{Head, literal, variable, constructor, custom, primitive, Expr, node, Exprs, nil, cons, Proposition, Binding, Row, Program}
-use Rattle.model.specs.Check.{orRefuse, Room, addNode}
-use Rattle.model.specs.Evaluate.{lookup, primitiveAt, rowValue, validate, validatedBy, children, concatMap, subtermsIn, same, reflexive, Value, Values, valued, headValue, evalExpr, evalExprs, factHeadValue, evalFactExpr, evalFactExprs}
-use Rattle.model.specs.Tree.{Tree, leaf, named, apply, Trees, tnil, tcons, sameTrees, TreePair, TreeBinding, TreeRow, treeLookup, treeRow, both, reflexiveTree, reflexiveTrees, TreeValue, TreeValues, treeValued, treeValidatedBy, treeHeadValue, treeEval, treeEvals, treeFactHeadValue, treeFactEval, treeFactEvals}
+use Rattle.model.specs.Program.{Head, literal, variable, constructor, custom, primitive, Expr, node, Exprs, nil, cons, Proposition, Binding, Row, Program, computes}
+use Rattle.model.specs.Check.{orRefuse, Room, addNode, _>>?_}
+use Rattle.model.specs.Evaluate.{lookup, primitiveAt, rowValue, countsIn, addCount, validateBy, validate, validatedBy, children, concatMap, subtermsIn, same, reflexive, Value, Values, valued, headValue, evalExpr, evalExprs, factHeadValue, evalFactExpr, evalFactExprs}
+use Rattle.model.specs.Counts.{countOfTerm, countValue}
+use Rattle.model.specs.Tree.{treeCount, treeCounts, treeValidateBy, treeValidate, Tree, leaf, named, apply, Trees, tnil, tcons, sameTrees, TreePair, TreeBinding, TreeRow, treeLookup, treeRow, both, reflexiveTree, reflexiveTrees, TreeValue, TreeValues, treeValued, treeValidatedBy, treeHeadValue, treeEval, treeEvals, treeFactHeadValue, treeFactEval, treeFactEvals}
 use Rattle.model.proofs.Tests.{words-eq, words-same, trees-eq, trees-same, never}
 use Rattle.model.proofs.Represent.{Rep, Reps, Keeps, Distinct, rep-keeps, reps-keeps, reps-one, reps-tree}
 use Rattle.model.proofs.Post.{Nonzero}
@@ -85,6 +86,18 @@ row-same {s} d (rcons {R = R} {r = r} {Rs = Rs} {rs = rs} n v g t) p TS ts a =
     go false false e h = h
     go true false e h = absurd (true≢false e)
     go false true e h = never e
+
+-- the integers that trees and their numbers stand for
+count-same : (T : Tree) (s : List Term) (t : ℕ) → Rep T s t → treeCount T ≡ countOfTerm (getTerm s t)
+count-same (leaf l) s t r = sym (ap countOfTerm r)
+count-same (named x) s t r = sym (ap countOfTerm r)
+count-same (apply f ts) s t r = sym (ap countOfTerm (r .1))
+
+counts-same : (TS : Trees) (s : List Term) (ts : List ℕ) → Reps TS s ts → treeCounts TS ≡ countsIn s ts
+counts-same tnil s [] r = refl
+counts-same tnil s (t ∷ ts) r = absurd r
+counts-same (tcons T TS) s [] r = absurd r
+counts-same (tcons T TS) s (t ∷ ts) r = ap₂ _∷_ (count-same T s t (r .0)) (counts-same TS s ts (r .1))
 
 -- a pair of trees and a pair of numbers that have them
 pub record Stands (Q : TreePair) (s : List Term) (q : Proposition) : Type 0 where
@@ -316,11 +329,33 @@ module _ (prog : Program) (rows : List TreeRow) where
   made-or (some T) none s w m n fs z = absurd m
   made-or (some T) (some t) s w m n fs z = agree-ok (record { after = stay w; rep = m })
 
-  made-row : (n p : ℕ) → Nonzero {0} n → (TS : Trees) (ts : List ℕ) (s : List Term) → World s → Reps TS s ts → (b : Bool)
-      → Agree (validatedBy prog n p ts b s) (treeValidatedBy prog rows p TS b) (Made s)
-  unfolding validate
-  made-row n p z TS ts s w r false = agree-none z
-  made-row n p z TS ts s w r true = made-or (treeRow rows p TS) (rowValue (prog .rows) p ts) s w (row-same (w .distinct) (w .table) p TS ts r) 46 _ tt
+  -- a value on both sides or on neither, in a store that came after s
+  pub record Perhaps (s : List Term) (o : Option ℕ) (s′ : List Term) (O : Option Tree) : Type 0 where
+    pub after : After s s′
+    pub maybe : Maybe O s′ o
+
+  -- a count's result, added
+  count-agrees : (room : Room) (v : Option Literal) (s : List Term) → World s → Agree (addCount room v s) (some (v >>? λ l. some (leaf l))) (Perhaps s)
+  count-agrees room none s w = agree-ok (record { after = stay w; maybe = tt })
+  count-agrees room (some l) s w =
+      agree-bind {O = some (leaf l)} {F = λ T. some (some T)} (add-leaf room l s w) λ n s′ T m. agree-ok (record { after = m .after; maybe = m .rep })
+
+  -- a primitive's validator on both sides
+  pub valid-agrees : (room : Room) (p : ℕ) (TS : Trees) (ts : List ℕ) (s : List Term) → World s → Reps TS s ts
+      → Agree (validate room prog p ts s) (some (treeValidate prog rows p TS)) (Perhaps s)
+  unfolding validate treeValidate
+  valid-agrees room p TS ts s w r = by (computes (primitiveAt (prog .primitives) p))
+    where
+      by : (b : Bool) → Agree (validateBy room prog p ts b s) (some (treeValidateBy prog rows p TS b)) (Perhaps s)
+      by false = agree-ok (record { after = stay w; maybe = row-same (w .distinct) (w .table) p TS ts r })
+      by true = rw (counts-same TS s ts r) (count-agrees room (countValue (primitiveAt (prog .primitives) p .kind) (countsIn s ts)) s w)
+
+  made-row : (room : Room) (n p : ℕ) → Nonzero {0} n → (TS : Trees) (ts : List ℕ) (s : List Term) → World s → Reps TS s ts → (b : Bool)
+      → Agree (validatedBy room prog n p ts b s) (treeValidatedBy prog rows p TS b) (Made s)
+  made-row room n p z TS ts s w r false = agree-none z
+  made-row room n p z TS ts s w r true =
+      agree-bind {O = some (treeValidate prog rows p TS)} {F = λ O. O} (valid-agrees room p TS ts s w r) λ o s′ O m.
+      agree-map (made-or O o s′ (m .after .world) (m .maybe) 46 _ tt) λ t s″ T k. record { after = then (m .after) (k .after); rep = k .rep }
 
   valued-of : {s s′ : List Term} {T : Tree} {t : ℕ} (PS : List TreePair) (ps : List Proposition) → Covers PS s ps → Made s t s′ T
       → Agree (valued ps t s′) (treeValued PS T) (Valued s)
@@ -344,7 +379,7 @@ module _ (prog : Program) (rows : List TreeRow) where
     head-agrees Σ′ σ (custom f) V′ v s w b r c =
         agree-bind {O = some (apply f (V′ .trees))} {F = treeValued (V′ .pairs)} (add-apply room f (V′ .trees) (v .terms) s w r) λ n s′ T m. valued-of (V′ .pairs) (v .pairs) c m
     head-agrees Σ′ σ (primitive p) V′ v s w b r c =
-        agree-bind (made-row 51 p tt (V′ .trees) (v .terms) s w r (primitiveAt (prog .primitives) p .validator)) λ n s′ T m. valued-of (V′ .pairs) (v .pairs) c m
+        agree-bind (made-row room 51 p tt (V′ .trees) (v .terms) s w r (primitiveAt (prog .primitives) p .validator)) λ n s′ T m. valued-of (V′ .pairs) (v .pairs) c m
 
     mutual
       unfolding evalExpr treeEval
@@ -376,7 +411,7 @@ module _ (prog : Program) (rows : List TreeRow) where
     fact-head-agrees Σ′ σ (variable x) TS ts s w b r = made-or (treeLookup Σ′ x) (lookup σ x) s w (lookup-same b x) 45 (rule ∷ x ∷ []) tt
     fact-head-agrees Σ′ σ (constructor f) TS ts s w b r = add-apply room f TS ts s w r
     fact-head-agrees Σ′ σ (custom f) TS ts s w b r = agree-none tt
-    fact-head-agrees Σ′ σ (primitive p) TS ts s w b r = made-row 47 p tt TS ts s w r (primitiveAt (prog .primitives) p .validator)
+    fact-head-agrees Σ′ σ (primitive p) TS ts s w b r = made-row room 47 p tt TS ts s w r (primitiveAt (prog .primitives) p .validator)
 
     mutual
       unfolding evalFactExpr treeFactEval

@@ -6,11 +6,11 @@ use mathlib.Core.List.{List}
 use mathlib.Core.Option.{Option, none, some}
 use Rattle.model.specs.Term.{Term}
 use Rattle.model.specs.Program.{Expr, Proposition, Binding, Program, Fact, Action}
-use Rattle.model.specs.Check.{Refusal, Outcome, ok, refused, Room}
+use Rattle.model.specs.Check.{Refusal, Outcome, ok, refused, Room, _>>?_}
 use Rattle.model.specs.Evaluate.{evalExpr, evalFactExpr}
 use Rattle.model.specs.Fact.{checkSideCondition, checkFactMatchesProposition}
 use Rattle.model.specs.Action.{ActionContext, processActions, runMerge}
-use Rattle.model.specs.Tree.{Tree, TreePair, TreeBinding, TreeRow, TreeContext, _>>?_, treeEval, treeFactEval, treeWanted, treeCondition, treeActions, treeMerge}
+use Rattle.model.specs.Tree.{Tree, TreePair, TreeBinding, TreeRow, TreeContext, treeEval, treeFactEval, treeWanted, treeCondition, treeActions, treeMerge}
 use Rattle.model.proofs.Represent.{Rep, rep-keeps}
 use Rattle.model.proofs.Post.{post-result}
 use Rattle.model.proofs.Agree.{Agree, agree-bind, agree-map, agree-post, agree-refused}

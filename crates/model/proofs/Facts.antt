@@ -7,17 +7,17 @@ use mathlib.Core.Option.{Option, none, some}
 use lib.Dec.{eqb}
 use Rattle.model.specs.Term.{Term, getTerm}
 use Rattle.model.specs.Program.{nameMergeFunction, Expr, Proposition, Binding, Program, Fact, equal, bare, Action, bind, union, run, idle}
-use Rattle.model.specs.Check.{ok, andThen, pure, orRefuse, checkThat, Room}
+use Rattle.model.specs.Check.{ok, andThen, pure, orRefuse, checkThat, Room, _>>?_}
 use Rattle.model.specs.Evaluate.{lookup, rowValue, validate, evalExpr}
 use Rattle.model.specs.Fact.{headOf, argsOf, variableOf, FunctionFact, functionFact, bindOutput, compareSides, evalSideBy, checkSideCondition, wantedEquality, wanted, matchesEquality, matches}
 use Rattle.model.specs.Action.{ActionContext, processAction, processActions, mergeOf, mergeBindings, runMerge}
 use Rattle.model.specs.Normalize.{asApp, normaliserOf, unwrapOr, normalizeBy, normalizeApp, normalizeContainer}
-use Rattle.model.specs.Tree.{Tree, leaf, named, apply, Trees, tnil, tcons, sameTree, TreePair, TreeBinding, TreeRow, _>>?_, treeLookup, treeRow, both, snoc, treeBindOutput, treeCompareSides, TreeContext, treeMergeBindings, treeEval, treeWantedEquality, treeWanted, treeSideBy, treeCondition, treeAction, treeActions, treeMerge, treeNormalBy, treeNormal}
+use Rattle.model.specs.Tree.{treeValidate, Tree, leaf, named, apply, Trees, tnil, tcons, sameTree, TreePair, TreeBinding, TreeRow, treeLookup, treeRow, both, snoc, treeBindOutput, treeCompareSides, TreeContext, treeMergeBindings, treeEval, treeWantedEquality, treeWanted, treeSideBy, treeCondition, treeAction, treeActions, treeMerge, treeNormalBy, treeNormal}
 use Rattle.model.proofs.Tests.{eq-of, eqb-same, tree-eq, tree-same}
 use Rattle.model.proofs.Represent.{Rep, Reps, Keeps, Distinct, rep-keeps, rep-tree, rep-one}
 use Rattle.model.proofs.Post.{Nonzero}
 use Rattle.model.proofs.Agree.{Agree, agree-ok, agree-none, agree-map, agree-bind}
-use Rattle.model.proofs.Evaluation.{Binds, bnil, bcons, binds-keeps, Maybe, lookup-same, row-same, Stands, Covers, covers-keeps, covers-append, covers-cons, covers-none, stands-same, World, After, keeps, stay, then, Made, Valued, add-apply, made-or, eval-agrees, fact-eval-agrees, fact-evals-agree}
+use Rattle.model.proofs.Evaluation.{valid-agrees, Binds, bnil, bcons, binds-keeps, Maybe, lookup-same, row-same, Stands, Covers, covers-keeps, covers-append, covers-cons, covers-none, stands-same, World, After, keeps, stay, then, Made, Valued, add-apply, made-or, eval-agrees, fact-eval-agrees, fact-evals-agree}
 
 -- two numbers are equal just when their trees are
 pub same-test : {s : List Term} → Distinct s → (A B : Tree) (a b : ℕ) → Rep A s a → Rep B s b → eqb a b ≡ sameTree A B
@@ -225,23 +225,24 @@ module _ (prog : Program) (rows : List TreeRow) where
       go (bare i e) a b = that 30 tt _ _ _ b
 
   -- the normal form of a number has the normal form of its tree
-  pub normal-agrees : (T : Tree) (t : ℕ) (s : List Term) → World prog rows s → Rep T s t
-      → Agree (normalizeContainer prog t s) (some (treeNormal prog rows T)) (Made prog rows s)
-  unfolding normalizeContainer validate
-  normal-agrees T t s w r = go T r
+  pub normal-agrees : (room : Room) (T : Tree) (t : ℕ) (s : List Term) → World prog rows s → Rep T s t
+      → Agree (normalizeContainer room prog t s) (some (treeNormal prog rows T)) (Made prog rows s)
+  unfolding normalizeContainer
+  normal-agrees room T t s w r = go T r
     where
       by : (ts : Trees) (xs : List ℕ) → Reps ts s xs → (U : Tree) → Rep U s t → (o : Option ℕ)
-          → Agree (normalizeBy prog t xs o s) (some (treeNormalBy prog rows ts U o)) (Made prog rows s)
+          → Agree (normalizeBy room prog t xs o s) (some (treeNormalBy prog rows ts U o)) (Made prog rows s)
       by ts xs k U u none = agree-ok (record { after = stay prog rows w; rep = u })
-      by ts xs k U u (some p) = found (treeRow rows p ts) (rowValue (prog .rows) p xs) (row-same (w .distinct) (w .table) p ts xs k)
+      by ts xs k U u (some p) =
+          agree-bind {O = some (treeValidate prog rows p ts)} {F = λ O. some (unwrapOr O U)} (valid-agrees prog rows room p ts xs s w k) λ o s′ O m. found s′ (m .after) O o (m .maybe)
         where
-          found : (O : Option Tree) (o : Option ℕ) → Maybe O s o → Agree (ok (unwrapOr o t) s) (some (unwrapOr O U)) (Made prog rows s)
-          found none none m = agree-ok (record { after = stay prog rows w; rep = u })
-          found none (some v) m = absurd m
-          found (some X) none m = absurd m
-          found (some X) (some v) m = agree-ok (record { after = stay prog rows w; rep = m })
+          found : (s′ : List Term) → After prog rows s s′ → (O : Option Tree) (o : Option ℕ) → Maybe O s′ o → Agree (ok (unwrapOr o t) s′) (some (unwrapOr O U)) (Made prog rows s)
+          found s′ a none none m = agree-ok (record { after = a; rep = rep-keeps U (keeps prog rows a) t u })
+          found s′ a none (some v) m = absurd m
+          found s′ a (some X) none m = absurd m
+          found s′ a (some X) (some v) m = agree-ok (record { after = a; rep = m })
 
-      go : (T : Tree) → Rep T s t → Agree (normalizeApp prog t (asApp (getTerm s t)) s) (some (treeNormal prog rows T)) (Made prog rows s)
+      go : (T : Tree) → Rep T s t → Agree (normalizeApp room prog t (asApp (getTerm s t)) s) (some (treeNormal prog rows T)) (Made prog rows s)
       go (leaf l) r = rw r (agree-ok (record { after = stay prog rows w; rep = r }))
       go (named x) r = rw r (agree-ok (record { after = stay prog rows w; rep = r }))
       go (apply f ts) r = rw (r .1) (by ts (r .0) (r .2) (apply f ts) r (normaliserOf (prog .normalisers) f))

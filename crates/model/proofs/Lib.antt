@@ -16,4 +16,7 @@ pub mod Exact
 pub mod JobA
 pub mod JobB
 pub mod Example
+pub mod Tilt
 pub mod Premises
+pub mod Counting
+pub mod Computing

@@ -11,7 +11,7 @@ use Rattle.model.specs.Term.{Literal}
 use Rattle.model.specs.Program.{literal, variable, constructor, primitive, node, nil, cons, Fact, bare, union, Rule, Program}
 use Rattle.model.specs.Fact.{primitiveNonNormalArg, offence, offences, factOffence}
 use Rattle.model.specs.Action.{mergeOf}
-use Rattle.model.specs.Tree.{Tree, leaf, named, apply, Trees, tnil, tcons, sameTree, TreePair, both, TreeRow, TreeContext, treeStart, reflexiveTree, snoc, treeEval, treeEvals, treeFactEval, treeFactEvals, treeWanted, treeActions, treeGlobals, treeMerge, treeNormal}
+use Rattle.model.specs.Tree.{treeValidate, Tree, leaf, named, apply, Trees, tnil, tcons, sameTree, TreePair, both, TreeRow, TreeContext, treeStart, reflexiveTree, snoc, treeEval, treeEvals, treeFactEval, treeFactEvals, treeWanted, treeActions, treeGlobals, treeMerge, treeNormal}
 use Rattle.model.specs.Relation.{Normal, FactsHold, Closed}
 
 abbrev integer : ℕ → Literal
@@ -29,7 +29,7 @@ abbrev program : Program
 program = record {
   globals = [];
   functions = record { name = 5; merge = some (node 0 (variable 1) nil) } ∷ [];
-  primitives = record { name = 6; validator = true; container = false } ∷ [];
+  primitives = record { name = 6; kind = 1; validator = true; container = false } ∷ [];
   rows = [];
   normalisers = record { head = 9; primitive = 0 } ∷ [];
   rules = unites ∷ [];
@@ -84,7 +84,7 @@ low-closed = record {
 
 -- all but the normal form holds of the rule
 pub facts-hold : FactsHold program rows SameLow (unites .facts) [] []
-unfolding treeWanted treeFactEval treeFactEvals sameTree
+unfolding treeWanted treeFactEval treeFactEvals treeValidate
 facts-hold = FactsHold.premise refl refl (1, refl, refl) FactsHold.done
 
 pub head-pairs : treeActions program rows (unites .actions) (treeStart [])

@@ -290,7 +290,7 @@ module _ {ℓ} (room : Room) (job : Job) (valid : Valid job) (R : Tree → Tree 
         post-bind (walks .call r ps s w d) λ ps₁ s₁ a.
         let x = claimAt proofs r in
         let w₁ : State s₁ = next w (a .after) in
-        post-bind (agree-post (normal-agrees prog rows (tree (x .rhs)) (x .rhs) s₁ (a .after .world) (here w₁ (x .rhs) (a .this .claim .rhs)))) λ t s₂ m.
+        post-bind (agree-post (normal-agrees prog rows room (tree (x .rhs)) (x .rhs) s₁ (a .after .world) (here w₁ (x .rhs) (a .this .claim .rhs)))) λ t s₂ m.
         that-bind _ _ _ _ _ tt λ k.
         let normal-is : treeNormal prog rows (tree (x .rhs)) ≡ tree (q .rhs) =
         Option·some-injective (treeNormal prog rows (tree (x .rhs))) (m .0) (m .1) ∙

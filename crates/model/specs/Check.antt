@@ -20,7 +20,7 @@ pub data Outcome (A : Type 0) : Type 0 where
 abbrev pub Check : Type 0 → Type 0
 Check A = List Term → Outcome A
 
-infixl 10 _>>=_
+infixl 10 _>>=_ _>>?_
 module _ {A B : Type 0} where
   abbrev pub andThen : Outcome A → (A → Check B) → Outcome B
   andThen (ok a s) f = f a s
@@ -29,6 +29,11 @@ module _ {A B : Type 0} where
   -- One check, then the next: the Rust's `?`.
   abbrev pub _>>=_ : Check A → (A → Check B) → Check B
   _>>=_ m f s = andThen (m s) f
+
+  -- The function of a value, where there is one.
+  abbrev pub _>>?_ : Option A → (A → Option B) → Option B
+  _>>?_ none f = none
+  _>>?_ (some a) f = f a
 
 module _ {A : Type 0} where
   abbrev pub pure : A → Check A

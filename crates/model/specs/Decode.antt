@@ -47,7 +47,12 @@ module _ (expr : ℕ → Expr) where
   readFunction c = record { name = word c 0; merge = getD (none ∷ []) (c .kind) (some (expr (word c 1))) }
 
 abbrev pub readPrimitive : Cell → Primitive
-readPrimitive c = record { name = word c 0; validator = getD (false ∷ true ∷ false ∷ []) (c .kind) true; container = getD (false ∷ false ∷ []) (c .kind) true }
+readPrimitive c = record {
+  name = word c 0;
+  kind = c .kind;
+  validator = getD (false ∷ true ∷ false ∷ []) (c .kind) true;
+  container = getD (false ∷ false ∷ true ∷ true ∷ []) (c .kind) false;
+}
 
 abbrev pub readRow : Cell → Row
 readRow c = record { primitive = word c 0; result = word c 1; arguments = drop 2 (c .words) }

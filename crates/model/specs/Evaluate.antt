@@ -4,10 +4,12 @@ use mathlib.Core.List.{List, [], _∷_, _++_, map}
 use mathlib.Core.Bool.{Bool, true, false, _&&_}
 use mathlib.Core.Option.{Option, none, some}
 use lib.Dec.{eqb}
+use lib.IntN.{ℤ}
 use Rattle.model.specs.Cell.{sameWords}
-use Rattle.model.specs.Term.{Term, lit, var, app, getTerm}
-use Rattle.model.specs.Program.{Head, literal, variable, constructor, custom, primitive, Expr, node, Exprs, nil, cons, Proposition, Binding, Row, Program, Primitive}
-use Rattle.model.specs.Check.{ok, Check, _>>=_, pure, refuse, orRefuse, Room, addNode}
+use Rattle.model.specs.Term.{Term, Literal, lit, var, app, getTerm}
+use Rattle.model.specs.Program.{Head, literal, variable, constructor, custom, primitive, Expr, node, Exprs, nil, cons, Proposition, Binding, Row, Program, Primitive, computes}
+use Rattle.model.specs.Counts.{countOfTerm, countValue}
+use Rattle.model.specs.Check.{ok, Check, _>>=_, pure, refuse, orRefuse, getTerms, Room, addNode}
 
 -- The term bound to a name: the first binding counts.
 abbrev pub lookup : List Binding → ℕ → Option ℕ
@@ -16,7 +18,7 @@ lookup (b ∷ bs) x = elim (eqb (b .name) x) [ true ↦ some (b .term) | false �
 
 -- The primitive of a number; past the end, where no admitted job leads, one without validator.
 abbrev pub primitiveAt : List Primitive → ℕ → Primitive
-primitiveAt [] n = record { name = 0; validator = false; container = false }
+primitiveAt [] n = record { name = 0; kind = 0; validator = false; container = false }
 primitiveAt (p ∷ ps) zero = p
 primitiveAt (p ∷ ps) (suc n) = primitiveAt ps n
 
@@ -26,17 +28,31 @@ rowValue [] p xs = none
 rowValue (r ∷ rs) p xs =
     elim (eqb (r .primitive) p && sameWords (r .arguments) xs) [ true ↦ some (r .result) | false ↦ rowValue rs p xs ]
 
--- A primitive's validator: it is handed the store as well, though it looks rows up alone.
-unfoldable pub validate : Program → ℕ → List ℕ → Check (Option ℕ)
-validate prog p xs = pure (rowValue (prog .rows) p xs)
+-- The integers that terms stand for.
+abbrev pub countsIn : List Term → List ℕ → List (Option ℤ)
+countsIn s xs = map (λ x. countOfTerm (getTerm s x)) xs
 
--- A primitive's value: refusal n where it has no validator, 46 where the validator gives nothing.
-abbrev pub validatedBy : Program → ℕ → ℕ → List ℕ → Bool → Check ℕ
-validatedBy prog n p xs false = refuse n (primitiveAt (prog .primitives) p .name ∷ [])
-validatedBy prog n p xs true = validate prog p xs >>= λ o. orRefuse o 46 (primitiveAt (prog .primitives) p .name ∷ [])
+module _ (room : Room) where
+  -- A result, added to the store: 53 where there is no room.
+  abbrev pub addCount : Option Literal → Check (Option ℕ)
+  addCount none = pure none
+  addCount (some l) = addNode room (lit l) >>= λ t. pure (some t)
 
-abbrev pub validated : Program → ℕ → ℕ → List ℕ → Check ℕ
-validated prog n p xs = validatedBy prog n p xs (primitiveAt (prog .primitives) p .validator)
+  abbrev pub validateBy : Program → ℕ → List ℕ → Bool → Check (Option ℕ)
+  validateBy prog p xs false = pure (rowValue (prog .rows) p xs)
+  validateBy prog p xs true = getTerms >>= λ s. addCount (countValue (primitiveAt (prog .primitives) p .kind) (countsIn s xs))
+
+  -- A primitive's validator: it computes and adds its result, or looks rows up.
+  unfoldable pub validate : Program → ℕ → List ℕ → Check (Option ℕ)
+  validate prog p xs = validateBy prog p xs (computes (primitiveAt (prog .primitives) p))
+
+  -- A primitive's value: refusal n where it has no validator, 46 where the validator gives nothing.
+  abbrev pub validatedBy : Program → ℕ → ℕ → List ℕ → Bool → Check ℕ
+  validatedBy prog n p xs false = refuse n (primitiveAt (prog .primitives) p .name ∷ [])
+  validatedBy prog n p xs true = validate prog p xs >>= λ o. orRefuse o 46 (primitiveAt (prog .primitives) p .name ∷ [])
+
+  abbrev pub validated : Program → ℕ → ℕ → List ℕ → Check ℕ
+  validated prog n p xs = validatedBy prog n p xs (primitiveAt (prog .primitives) p .validator)
 
 -- The children of a term; literals and variables have none.
 abbrev pub children : Option Term → List ℕ
@@ -82,7 +98,7 @@ module _ (room : Room) (prog : Program) (rule : ℕ) (σ : List Binding) where
   headValue (variable x) vs = orRefuse (lookup σ x) 45 (rule ∷ x ∷ []) >>= valued []
   headValue (constructor f) vs = addNode room (app f (vs .terms)) >>= valued (vs .pairs)
   headValue (custom f) vs = addNode room (app f (vs .terms)) >>= valued (vs .pairs)
-  headValue (primitive p) vs = validated prog 51 p (vs .terms) >>= valued (vs .pairs)
+  headValue (primitive p) vs = validated room prog 51 p (vs .terms) >>= valued (vs .pairs)
 
   -- `eval_expr_with_subst`, for heads, globals, merges and side conditions.
   unfoldable mutual
@@ -102,7 +118,7 @@ module _ (room : Room) (prog : Program) (rule : ℕ) (σ : List Binding) where
   factHeadValue (variable x) ts = orRefuse (lookup σ x) 45 (rule ∷ x ∷ [])
   factHeadValue (constructor f) ts = addNode room (app f ts)
   factHeadValue (custom f) ts = refuse 52 (f ∷ [])
-  factHeadValue (primitive p) ts = validated prog 47 p ts
+  factHeadValue (primitive p) ts = validated room prog 47 p ts
 
   -- `ProofStore::eval_expr_with_subst`, for ordinary facts.
   unfoldable mutual

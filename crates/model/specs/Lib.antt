@@ -1,5 +1,6 @@
 pub mod Cell
 pub mod Term
+pub mod Counts
 pub mod Program
 pub mod Layout
 pub mod Decode

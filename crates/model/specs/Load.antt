@@ -8,7 +8,7 @@ use lib.ListN.{length, getD, take, drop}
 use lib.Dec.{eqb, leb, ltb}
 use Rattle.model.specs.Cell.{Cell, noCell, sameWords, sameCell}
 use Rattle.model.specs.Term.{Term, Literal, lit, var, app, readLiteral, readTerm, widths}
-use Rattle.model.specs.Program.{Head, literal, variable, constructor, custom, primitive, Binding, Proof, references, substitution, Row}
+use Rattle.model.specs.Program.{Head, literal, variable, constructor, custom, primitive, Binding, Proof, references, substitution, Row, looksUp}
 use Rattle.model.specs.Check.{Refusal}
 use Rattle.model.specs.Layout.{sizeWords, Sizes, sizesOf, cellCount, endsOf, Tables, tableList, tablesOf}
 use Rattle.model.specs.Decode.{word, readHead, readArguments, readPrimitive, readRow, readNormaliser, ruleFacts, ruleActions, readProof}
@@ -122,9 +122,9 @@ proofRefers terms i p =
     ltb (p .claim .lhs) terms && ltb (p .claim .rhs) terms && below i (references (p .justification)) &&
     below terms (map (λ b. b .term) (substitution (p .justification)))
 
--- 8: the primitive has a validator.
-abbrev pub validates : List Cell → ℕ → Bool
-validates primitives p = readPrimitive (getD primitives p noCell) .validator
+-- 8: the primitive has a validator, and it looks rows up.
+abbrev pub primitiveLooksUp : List Cell → ℕ → Bool
+primitiveLooksUp primitives p = looksUp (readPrimitive (getD primitives p noCell))
 
 module _ {A : Type 0} where
   abbrev pub any : (A → Bool) → List A → Bool
@@ -192,7 +192,7 @@ fitTests t =
     (λ _. counts (2 ∷ 1 ∷ [])) ∷
     (λ _. actionFits (t .expressions)) ∷
     (λ _. counts (1 ∷ 2 ∷ [])) ∷
-    (λ _. counts (1 ∷ 1 ∷ 1 ∷ 1 ∷ [])) ∷
+    (λ _. counts (1 ∷ 1 ∷ 1 ∷ 1 ∷ 1 ∷ 1 ∷ 1 ∷ 1 ∷ 1 ∷ [])) ∷
     (λ _. rowFits) ∷
     (λ _. counts (2 ∷ [])) ∷
     (λ _. ruleFits) ∷
@@ -212,12 +212,12 @@ referTests z =
     (λ _. ruleRefers (z .facts) (z .actions)) ∷
     (λ i c. proofRefers (z .terms) i (readProof c)) ∷ []
 
--- For 8: rows and normalisers on a primitive with a validator.
+-- For 8: rows and normalisers on a primitive whose validator looks rows up.
 abbrev pub validTests : Tables → List (ℕ → Cell → Bool)
 validTests t =
     passed ∷ passed ∷ passed ∷ passed ∷ passed ∷ passed ∷
-    (λ _ c. validates (t .primitives) (readRow c .primitive)) ∷
-    (λ _ c. validates (t .primitives) (readNormaliser c .primitive)) ∷
+    (λ _ c. primitiveLooksUp (t .primitives) (readRow c .primitive)) ∷
+    (λ _ c. primitiveLooksUp (t .primitives) (readNormaliser c .primitive)) ∷
     passed ∷ passed ∷ []
 
 -- For 9: terms, rows and normalisers are first of their kind, and no substitution binds a name twice.

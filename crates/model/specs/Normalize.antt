@@ -6,7 +6,7 @@ use mathlib.Core.Option.{Option, none, some}
 use lib.Dec.{eqb}
 use Rattle.model.specs.Term.{Term, lit, var, app, getTerm}
 use Rattle.model.specs.Program.{Program, Normaliser}
-use Rattle.model.specs.Check.{Check, _>>=_, pure, getTerms}
+use Rattle.model.specs.Check.{Check, _>>=_, pure, getTerms, Room}
 use Rattle.model.specs.Evaluate.{validate}
 
 -- An application's head and children.
@@ -31,14 +31,15 @@ module _ {A : Type 0} where
   unwrapOr none d = d
   unwrapOr (some x) d = x
 
-abbrev pub normalizeBy : Program → ℕ → List ℕ → Option ℕ → Check ℕ
-normalizeBy prog t xs none = pure t
-normalizeBy prog t xs (some p) = validate prog p xs >>= λ o. pure (unwrapOr o t)
+module _ (room : Room) (prog : Program) where
+  abbrev pub normalizeBy : ℕ → List ℕ → Option ℕ → Check ℕ
+  normalizeBy t xs none = pure t
+  normalizeBy t xs (some p) = validate room prog p xs >>= λ o. pure (unwrapOr o t)
 
-abbrev pub normalizeApp : Program → ℕ → Option App → Check ℕ
-normalizeApp prog t none = pure t
-normalizeApp prog t (some a) = normalizeBy prog t (a .args) (normaliserOf (prog .normalisers) (a .head))
+  abbrev pub normalizeApp : ℕ → Option App → Check ℕ
+  normalizeApp t none = pure t
+  normalizeApp t (some a) = normalizeBy t (a .args) (normaliserOf (prog .normalisers) (a .head))
 
--- A container's normal form; no normaliser, or no value, gives the term itself.
-unfoldable pub normalizeContainer : Program → ℕ → Check ℕ
-normalizeContainer prog t = getTerms >>= λ s. normalizeApp prog t (asApp (getTerm s t))
+  -- A container's normal form; no normaliser, or no value, gives the term itself.
+  unfoldable pub normalizeContainer : ℕ → Check ℕ
+  normalizeContainer t = getTerms >>= λ s. normalizeApp t (asApp (getTerm s t))

@@ -1,8 +1,9 @@
 -- What a job says: the program (rules, functions, rows) and the proofs, as ast, proof_format.rs and document 01 have them.
 use Prim.Native.Nat.{ℕ}
 use mathlib.Core.List.{List, [], _∷_}
-use mathlib.Core.Bool.{Bool}
+use mathlib.Core.Bool.{Bool, not, _&&_}
 use mathlib.Core.Option.{Option}
+use lib.Dec.{ltb}
 use Rattle.model.specs.Term.{Term, Literal}
 
 -- The reserved names.
@@ -103,10 +104,19 @@ pub record Function : Type 0 where
 -- A primitive: whether it has a validator, and whether its output is a container sort.
 pub record Primitive : Type 0 where
   pub name : ℕ
+  pub kind : ℕ
   pub validator : Bool
   pub container : Bool
 
--- What a primitive's validator gives for these arguments.
+-- Its validator computes: kinds 4 to 8.
+abbrev pub computes : Primitive → Bool
+computes p = ltb 3 (p .kind)
+
+-- Its validator looks rows up.
+abbrev pub looksUp : Primitive → Bool
+looksUp p = p .validator && not (computes p)
+
+-- What a validator that looks rows up gives for these arguments.
 pub record Row : Type 0 where
   pub primitive : ℕ
   pub result : ℕ

@@ -4,12 +4,15 @@ use mathlib.Core.List.{List, [], _∷_, _++_}
 use mathlib.Core.Bool.{Bool, true, false, _&&_}
 use mathlib.Core.Option.{Option, none, some}
 use lib.Dec.{eqb}
+use lib.IntN.{ℤ}
 use Rattle.model.specs.Term.{Term, Literal, lit, var, app, sameLiteral, getTerm}
-use Rattle.model.specs.Program.{nameOld, nameNew, Head, literal, variable, constructor, custom, primitive, Expr, node, Exprs, nil, cons, Program, Row, Fact, equal, bare, Action, bind, union, run, idle}
+use Rattle.model.specs.Program.{nameOld, nameNew, Head, literal, variable, constructor, custom, primitive, Expr, node, Exprs, nil, cons, Program, Row, Fact, equal, bare, Action, bind, union, run, idle, computes}
+use Rattle.model.specs.Counts.{countOf, countValue}
 use Rattle.model.specs.Evaluate.{primitiveAt}
 use Rattle.model.specs.Fact.{headOf, argsOf, variableOf, FunctionFact, functionFact}
 use Rattle.model.specs.Action.{mergeOf}
 use Rattle.model.specs.Normalize.{normaliserOf, unwrapOr}
+use Rattle.model.specs.Check.{_>>?_}
 
 -- A term with its children in place.
 mutual
@@ -79,13 +82,6 @@ abbrev pub treeRows : List Term → List Row → List TreeRow
 treeRows s [] = []
 treeRows s (r ∷ rs) = record { primitive = r .primitive; result = treeOf s (r .result); arguments = treesBy (treeOf s) (r .arguments) } ∷ treeRows s rs
 
-infixl 10 _>>?_
-module _ {A B : Type 0} where
-  -- The second value, where the first has one.
-  abbrev pub _>>?_ : Option A → (A → Option B) → Option B
-  _>>?_ none f = none
-  _>>?_ (some a) f = f a
-
 abbrev pub treeLookup : List TreeBinding → ℕ → Option Tree
 treeLookup [] x = none
 treeLookup (b ∷ bs) x = elim (eqb (b .name) x) [ true ↦ some (b .tree) | false ↦ treeLookup bs x ]
@@ -94,6 +90,16 @@ abbrev pub treeRow : List TreeRow → ℕ → Trees → Option Tree
 treeRow [] p xs = none
 treeRow (r ∷ rs) p xs =
     elim (eqb (r .primitive) p && sameTrees (r .arguments) xs) [ true ↦ some (r .result) | false ↦ treeRow rs p xs ]
+
+-- The integers that trees stand for.
+abbrev pub treeCount : Tree → Option ℤ
+treeCount (leaf l) = countOf l
+treeCount (named x) = none
+treeCount (apply f ts) = none
+
+abbrev pub treeCounts : Trees → List (Option ℤ)
+treeCounts tnil = []
+treeCounts (tcons t ts) = treeCount t ∷ treeCounts ts
 
 -- A tree, related to itself.
 abbrev pub both : Tree → TreePair
@@ -148,9 +154,17 @@ abbrev pub treeMergeBindings : Tree → Tree → List TreeBinding
 treeMergeBindings old new = record { name = nameOld; tree = old } ∷ record { name = nameNew; tree = new } ∷ []
 
 module _ (prog : Program) (rows : List TreeRow) where
+  abbrev pub treeValidateBy : ℕ → Trees → Bool → Option Tree
+  treeValidateBy p ts false = treeRow rows p ts
+  treeValidateBy p ts true = countValue (primitiveAt (prog .primitives) p .kind) (treeCounts ts) >>? λ l. some (leaf l)
+
+  -- A primitive's validator: it computes, or looks rows up.
+  unfoldable pub treeValidate : ℕ → Trees → Option Tree
+  treeValidate p ts = treeValidateBy p ts (computes (primitiveAt (prog .primitives) p))
+
   abbrev pub treeValidatedBy : ℕ → Trees → Bool → Option Tree
   treeValidatedBy p ts false = none
-  treeValidatedBy p ts true = treeRow rows p ts
+  treeValidatedBy p ts true = treeValidate p ts
 
   abbrev pub treeValidated : ℕ → Trees → Option Tree
   treeValidated p ts = treeValidatedBy p ts (primitiveAt (prog .primitives) p .validator)
@@ -246,7 +260,7 @@ module _ (prog : Program) (rows : List TreeRow) where
 
   abbrev pub treeNormalBy : Trees → Tree → Option ℕ → Tree
   treeNormalBy ts t none = t
-  treeNormalBy ts t (some p) = unwrapOr (treeRow rows p ts) t
+  treeNormalBy ts t (some p) = unwrapOr (treeValidate p ts) t
 
   -- A container's normal form; no normaliser, or no value, gives the tree itself.
   abbrev pub treeNormal : Tree → Tree

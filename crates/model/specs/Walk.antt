@@ -135,7 +135,7 @@ module _ (room : Room) (prog : Program) (proofs : List Proof) (ctx : ActionConte
   checkContainerNormalize p q inner done =
       sub inner done >>= λ done₁.
       let a = claimAt proofs inner in
-      normalizeContainer prog (a .rhs) >>= λ n.
+      normalizeContainer room prog (a .rhs) >>= λ n.
       checkThat (eqb (q .lhs) (a .lhs) && eqb (q .rhs) n) 40 (p ∷ a .rhs ∷ n ∷ q .rhs ∷ cond (eqb (q .lhs) (a .lhs)) 1 0 ∷ []) >>= λ _.
       pure done₁
 

@@ -85,7 +85,7 @@ module _ (room : Room) (prog : Program) (rule : ℕ) (σ : List Binding) where
   head-pairs (variable x) vs s = post-bind (settled-or (lookup σ x) _ _ s tt) λ t s′ m. post-ok (m .grows, refl)
   head-pairs (constructor f) vs s = post-bind (added room (app f (vs .terms)) s) λ t s′ m. post-ok (m .0 .grows, refl)
   head-pairs (custom f) vs s = post-bind (added room (app f (vs .terms)) s) λ t s′ m. post-ok (m .0 .grows, refl)
-  head-pairs (primitive p) vs s = post-bind (validated-settled prog 51 p (vs .terms) s tt (primitiveAt (prog .primitives) p .validator)) λ t s′ m. post-ok (m .grows, refl)
+  head-pairs (primitive p) vs s = post-bind (validated-settled room prog 51 p (vs .terms) s tt (primitiveAt (prog .primitives) p .validator)) λ t s′ m. post-ok (m .grows, refl)
 
 -- expressions whose arguments have lower numbers
 module _ (cells : List Cell) (lower : (e : ℕ) → Below e (readArguments (getD cells e noCell))) (room : Room) (prog : Program) (rule : ℕ) (σ : List Binding) where

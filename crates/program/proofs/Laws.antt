@@ -13,10 +13,10 @@ use borrow.Author.Tests.{eq-eqb, ne-eqb, eqb-true, eqb-false}
 use Rattle.model.specs.Cell.{Cell, noCell, sameWords}
 use Rattle.model.specs.Term.{Term, getTerm}
 use Rattle.model.specs.Layout.{Tables, sizesOf, kindsOf, endsOf, poolOf, cellCount}
-use Rattle.model.specs.Program.{variable, Expr, node, nil, Fact, Action, Rule, Function, Row, Program}
+use Rattle.model.specs.Program.{variable, Expr, node, nil, Fact, Action, Rule, Function, Row, Program, computes}
 use Rattle.model.specs.Decode.{word, exprOf, readFact, readAction, readFunction, readPrimitive, readRow, readNormaliser, ruleActions, readRule, readBindings, readProgram}
-use Rattle.model.specs.Check.{Outcome, ok}
-use Rattle.model.specs.Evaluate.{lookup, primitiveAt, rowValue, validate, children}
+use Rattle.model.specs.Check.{Outcome, ok, _>>=_, pure, Room}
+use Rattle.model.specs.Evaluate.{lookup, primitiveAt, rowValue, validateBy, validate, children}
 use Rattle.model.specs.Action.{mergeOf}
 use Rattle.model.specs.Normalize.{asApp, normaliserOf, unwrapOr, normalizeBy, normalizeApp, normalizeContainer}
 use Rattle.model.specs.Load.{any, counts, below, rowFits, ruleFits, passed, fitTests}
@@ -33,7 +33,8 @@ use Rattle.decode.specs.declared.Merge.{Merge}
 use Rattle.load.specs.Held.{firstFound}
 use Rattle.cell_tests.proofs.Laws.{pair-at, pairs-end}
 use Rattle.load.proofs.TableLaws.{table-length}
-use Rattle.program.specs.Ready.{Ready, cellsFor, tablesFor, tableFor, countFor, firstNamed, ruleAt}
+use Rattle.model.proofs.Computing.{normaliser-looks as normaliser-no-count}
+use Rattle.program.specs.Ready.{Ready, programFor, cellsFor, tablesFor, tableFor, countFor, firstNamed, ruleAt}
 
 -- one pair after another
 module _ (ws : List ℕ) (k : ℕ) (p : 1 ≤ k) (x : ℕ) where
@@ -178,6 +179,16 @@ counted ns c e = (
 counted-least : (ns : List ℕ) (least : ℕ → ℕ) → ((k : ℕ) → k < length ns → least k ≤ getD ns k 0) → (c : Cell) → counts ns c ≡ true → least (c .kind) ≤ length (c .words)
 counted-least ns least h c e = let k = counted ns c e in omega (arith, h (c .kind) (k .0), k .1)
 
+-- each of a list is at least n
+abbrev each : ℕ → List ℕ → Bool
+each n [] = true
+each n (m ∷ ms) = leb n m && each n ms
+
+at-least : (n : ℕ) (ms : List ℕ) → each n ms ≡ true → (k : ℕ) → k < length ms → n ≤ getD ms k 0
+at-least n [] e k l = absurd (omega arith)
+at-least n (m ∷ ms) e zero l = le-of n m (and-left _ (each n ms) e)
+at-least n (m ∷ ms) e (suc k) l = at-least n ms (and-right (leb n m) _ e) k (omega arith)
+
 -- a table, and its first cells
 module _ (J : List ℕ) (k : ℕ) (h : k < 10) where
   pub table-long : length (tableFor J k) ≡ countFor J k
@@ -209,21 +220,12 @@ module _ {J : List ℕ} (R : Ready J) where
             omega arith
 
     pub normaliser-words : us ≡ getD (tablesFor J .normalisers) i noCell .words → i < sizesOf J .normalisers → 2 ≤ length us
-    normaliser-words w h = rw w (counted-least (2 ∷ []) (λ k. 2) two (getD (tablesFor J .normalisers) i noCell) (fits 7 (lit< tt) i h))
-      where
-        two : (k : ℕ) → k < 1 → 2 ≤ getD (2 ∷ []) k 0
-        two zero l = omega arith
-        two (suc k) l = absurd (omega arith)
+    normaliser-words w h = rw w (counted-least (2 ∷ []) (λ k. 2) (at-least 2 (2 ∷ []) refl) (getD (tablesFor J .normalisers) i noCell) (fits 7 (lit< tt) i h))
 
     pub primitive-words : us ≡ getD (tablesFor J .primitives) i noCell .words → i < sizesOf J .primitives → 1 ≤ length us
-    primitive-words w h = rw w (counted-least (1 ∷ 1 ∷ 1 ∷ 1 ∷ []) (λ k. 1) one (getD (tablesFor J .primitives) i noCell) (fits 5 (lit< tt) i h))
-      where
-        one : (k : ℕ) → k < 4 → 1 ≤ getD (1 ∷ 1 ∷ 1 ∷ 1 ∷ []) k 0
-        one zero l = omega arith
-        one (suc zero) l = omega arith
-        one (suc (suc zero)) l = omega arith
-        one (suc (suc (suc zero))) l = omega arith
-        one (suc (suc (suc (suc k)))) l = absurd (omega arith)
+    primitive-words w h =
+        let ones : List ℕ = 1 ∷ 1 ∷ 1 ∷ 1 ∷ 1 ∷ 1 ∷ 1 ∷ 1 ∷ 1 ∷ [] in
+        rw w (counted-least ones (λ k. 1) (at-least 1 ones refl) (getD (tablesFor J .primitives) i noCell) (fits 5 (lit< tt) i h))
 
   pub function-counts : (i : ℕ) → i < sizesOf J .functions → counts (1 ∷ 2 ∷ []) (getD (tablesFor J .functions) i noCell) ≡ true
   function-counts i h = fits 4 (lit< tt) i h
@@ -310,18 +312,28 @@ module _ (fact : ℕ → Fact) (action : ℕ → Action) (t : List Cell) (i : �
   pub duplicate-end : length t ≤ i → none ≡ duplicateRuleName (seen t i) (map (readRule fact action) (drop i t))
   duplicate-end h = rw (drop-of-length-le t h)
 
--- the normal form of a container
-module _ (prog : Program) (t f : ℕ) (xs : List ℕ) (s : List Term) where
-  pub normal-without : none ≡ normaliserOf (prog .normalisers) f → normalizeApp prog t (some (record { head = f; args = xs })) s ≡ ok t s
-  normal-without n = ap (λ (o : Option ℕ). normalizeBy prog t xs o s) (sym n)
+-- the normal form of a container: in an admitted job its primitive looks rows up
+module _ (room : Room) (prog : Program) (t f : ℕ) (xs : List ℕ) (s : List Term) where
+  pub normal-without : none ≡ normaliserOf (prog .normalisers) f → normalizeApp room prog t (some (record { head = f; args = xs })) s ≡ ok t s
+  normal-without n = ap (λ (o : Option ℕ). normalizeBy room prog t xs o s) (sym n)
 
-  pub normal-by : (p : ℕ) (o : Option ℕ) → some p ≡ normaliserOf (prog .normalisers) f → o ≡ rowValue (prog .rows) p xs
-      → normalizeApp prog t (some (record { head = f; args = xs })) s ≡ ok (unwrapOr o t) s
+  pub normal-by : (p : ℕ) (o : Option ℕ) → some p ≡ normaliserOf (prog .normalisers) f → computes (primitiveAt (prog .primitives) p) ≡ false → o ≡ rowValue (prog .rows) p xs
+      → normalizeApp room prog t (some (record { head = f; args = xs })) s ≡ ok (unwrapOr o t) s
   unfolding validate
-  normal-by p o n v = ap (λ (o : Option ℕ). normalizeBy prog t xs o s) (sym n) ∙ ap (λ (o : Option ℕ). ok (unwrapOr o t) s) (sym v)
+  normal-by p o n k v =
+      ap (λ (o : Option ℕ). normalizeBy room prog t xs o s) (sym n)
+      ∙ ap (λ (b : Bool). (validateBy room prog p xs b >>= λ q. pure (unwrapOr q t)) s) k
+      ∙ ap (λ (o : Option ℕ). ok (unwrapOr o t) s) (sym v)
 
-pub normal-view : (prog : Program) (t n : ℕ) (s : List Term) (r : TermView) (xs : List ℕ) (x : Outcome ℕ) → n ≡ t → getTerm s n ≡ some (termOf r (children (getTerm s n))) → xs ≡ children (getTerm s n)
-    → normalizeApp prog t (asApp (some (termOf r xs))) s ≡ x → normalizeContainer prog t s ≡ x
+pub normal-looks : {J : List ℕ} → Ready J → (f p : ℕ) → some p ≡ normaliserOf (programFor J .normalisers) f → computes (primitiveAt (programFor J .primitives) p) ≡ false
+normal-looks {J} R f p e =
+    let g = sizesOf J .globals in
+    let T = tablesFor J in
+    ap (λ ps. computes (primitiveAt ps p)) (primitives-read g T)
+    ∙ normaliser-no-count (sizesOf J) T (R .admitted) f p (ap (λ ns. normaliserOf ns f) (sym (normalisers-read g T)) ∙ sym e)
+
+pub normal-view : (room : Room) (prog : Program) (t n : ℕ) (s : List Term) (r : TermView) (xs : List ℕ) (x : Outcome ℕ) → n ≡ t → getTerm s n ≡ some (termOf r (children (getTerm s n))) → xs ≡ children (getTerm s n)
+    → normalizeApp room prog t (asApp (some (termOf r xs))) s ≡ x → normalizeContainer room prog t s ≡ x
 unfolding normalizeContainer
-normal-view prog t n s r xs x e g a h =
-    ap (λ (m : ℕ). normalizeApp prog t (asApp (getTerm s m)) s) (sym e) ∙ ap (λ (o : Option Term). normalizeApp prog t (asApp o) s) (g ∙ ap (λ (ys : List ℕ). some (termOf r ys)) (sym a)) ∙ h
+normal-view room prog t n s r xs x e g a h =
+    ap (λ (m : ℕ). normalizeApp room prog t (asApp (getTerm s m)) s) (sym e) ∙ ap (λ (o : Option Term). normalizeApp room prog t (asApp o) s) (g ∙ ap (λ (ys : List ℕ). some (termOf r ys)) (sym a)) ∙ h

@@ -34,7 +34,7 @@ ghost use lib.ListN.{take};
 ghost use Rattle.model.specs.Term as terms;
 ghost use Rattle.model.specs.Layout.{sizesOf};
 ghost use Rattle.model.specs.Decode.{exprOf, readBindings};
-ghost use Rattle.model.specs.Check.{ok};
+ghost use Rattle.model.specs.Check.{ok, Room};
 ghost use Rattle.model.specs.Evaluate.{lookup, primitiveAt, rowValue};
 ghost use Rattle.model.specs.Action.{mergeOf};
 ghost use Rattle.model.specs.Normalize.{normaliserOf, normalizeApp, normalizeContainer};
@@ -169,7 +169,7 @@ pub fn duplicate_rule_name(job: &[u32]) -> Looked
 // The normal form of an application t; no normaliser, or no value, gives t itself.
 fn normalize_app(job: &[u32], t: u32, head: u32, args: &[u32]) -> u32
     requires { ⌜ Ready (now job) ⌝ }
-    ensures { λ r. ⌜ ((s : List terms.Term) → normalizeApp (programFor (now (job .entry))) t (some (record { head = head; args = now (args .entry) })) s ≡ ok r s) ⌝ }
+    ensures { λ r. ⌜ ((room : Room) (s : List terms.Term) → normalizeApp room (programFor (now (job .entry))) t (some (record { head = head; args = now (args .entry) })) s ≡ ok r s) ⌝ }
 {
     let normaliser = normaliser_of(job, head);
     let Looked::Some(p) = normaliser else {
@@ -194,7 +194,7 @@ pub fn normalize_container(
     requires { ⌜ Ready (now job) ⌝ }
     requires { ⌜ Stored (now skinds) (now sends) (now spool) sfill ⌝ }
     requires { ⌜ t < sfill .cells ⌝ }
-    ensures { λ r. ⌜ normalizeContainer (programFor (now (job .entry))) t (termsIn (now (skinds .entry)) (now (sends .entry)) (now (spool .entry)) sfill) ≡ ok r (termsIn (now (skinds .entry)) (now (sends .entry)) (now (spool .entry)) sfill) ⌝ }
+    ensures { λ r. ⌜ ((room : Room) → normalizeContainer room (programFor (now (job .entry))) t (termsIn (now (skinds .entry)) (now (sends .entry)) (now (spool .entry)) sfill) ≡ ok r (termsIn (now (skinds .entry)) (now (sends .entry)) (now (spool .entry)) sfill)) ⌝ }
 {
     let n = wide(t);
     let term = termdag::get(skinds, sends, spool, sfill, n);

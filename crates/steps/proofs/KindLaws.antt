@@ -49,9 +49,9 @@ module _ (J : List ℕ) (U m : List ℕ) (s : List Term) (p : ℕ) (q : program.
   unfolding concludes
   step-sym {x} a e g h = by (Justification.Sym x) e (λ room ps w. h s ∙ ap (λ (c : program.Proposition). symStep p q c s) g)
 
-  pub step-normalize : {x : ℕ} (a : program.Proposition) → j ≡ Justification.ContainerNormalize x → a ≡ claimAt proofs x → outcomeOf r tt s ≡ normalizeStep prog p q a s → PlainStep J U m s p q j r
+  pub step-normalize : {x : ℕ} (a : program.Proposition) → j ≡ Justification.ContainerNormalize x → a ≡ claimAt proofs x → ((room : Room) → outcomeOf r tt s ≡ normalizeStep room prog p q a s) → PlainStep J U m s p q j r
   unfolding concludes
-  step-normalize {x} a e g h = by (Justification.ContainerNormalize x) e (λ room ps w. h ∙ ap (λ (c : program.Proposition). normalizeStep prog p q c s) g)
+  step-normalize {x} a e g h = by (Justification.ContainerNormalize x) e (λ room ps w. h room ∙ ap (λ (c : program.Proposition). normalizeStep room prog p q c s) g)
 
   -- the other arm: a rule's step or `Eval`, or a step that adds a term
   pub step-none : OneOf (1 ∷ 2 ∷ 5 ∷ 7 ∷ []) (tagOf the-type j) → r ≡ refusal 41 1 (p ∷ 0 ∷ 0 ∷ 0 ∷ 0 ∷ 0 ∷ []) → PlainStep J U m s p q j r

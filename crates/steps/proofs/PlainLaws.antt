@@ -9,7 +9,7 @@ use lib.ListN.{length, getD}
 use borrow.Author.Tests.{lt-ltb, le-ltb}
 use Rattle.model.specs.Term.{Term, getTerm}
 use Rattle.model.specs.Program.{Proposition, Program}
-use Rattle.model.specs.Check.{Outcome, ok, refused, Check, andThen, checkThat}
+use Rattle.model.specs.Check.{Outcome, ok, refused, Check, andThen, checkThat, Room}
 use Rattle.model.specs.Action.{among}
 use Rattle.model.specs.Normalize.{normalizeContainer}
 use Rattle.model.specs.Walk.{isLiteral}
@@ -52,10 +52,10 @@ fiat-tested ps p q s e d h =
     ∙ ap₂ (λ (x y : Bool). checkThat ((x && eqb (q .lhs) (q .rhs)) || y) 33 (p ∷ q .lhs ∷ q .rhs ∷ []) s) e d
 
 -- a normal form
-pub normal-tested : (prog : Program) (p : ℕ) (q a : Proposition) (s : List Term) {n f : ℕ} {r : Refusal} → normalizeContainer prog (a .rhs) s ≡ ok n s → f ≡ cond (eqb (q .lhs) (a .lhs)) 1 0
-    → r ≡ refusedUnless (eqb (q .lhs) (a .lhs) && eqb (q .rhs) n) (refusal 40 5 (p ∷ a .rhs ∷ n ∷ q .rhs ∷ f ∷ 0 ∷ [])) → outcomeOf r tt s ≡ normalizeStep prog p q a s
+pub normal-tested : (room : Room) (prog : Program) (p : ℕ) (q a : Proposition) (s : List Term) {n f : ℕ} {r : Refusal} → normalizeContainer room prog (a .rhs) s ≡ ok n s → f ≡ cond (eqb (q .lhs) (a .lhs)) 1 0
+    → r ≡ refusedUnless (eqb (q .lhs) (a .lhs) && eqb (q .rhs) n) (refusal 40 5 (p ∷ a .rhs ∷ n ∷ q .rhs ∷ f ∷ 0 ∷ [])) → outcomeOf r tt s ≡ normalizeStep room prog p q a s
 unfolding normalizeStep
-normal-tested prog p q a s {n} {f} e d h =
+normal-tested room prog p q a s {n} {f} e d h =
     that-is _ 40 5 _ h tt s
     ∙ ap (λ (x : ℕ). checkThat (eqb (q .lhs) (a .lhs) && eqb (q .rhs) n) 40 (p ∷ a .rhs ∷ n ∷ q .rhs ∷ x ∷ []) s) d
     ∙ ap (λ (o : Outcome ℕ). andThen o (λ m. checkThat (eqb (q .lhs) (a .lhs) && eqb (q .rhs) m) 40 (p ∷ a .rhs ∷ m ∷ q .rhs ∷ cond (eqb (q .lhs) (a .lhs)) 1 0 ∷ []))) (sym e)

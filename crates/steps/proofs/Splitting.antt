@@ -51,13 +51,13 @@ module _ (room : Room) (prog : Program) (proofs : List Proof) (ctx : ActionConte
 
   abbrev normalFull : Proposition → List ℕ → Check (List ℕ)
   normalFull a d =
-      normalizeContainer prog (a .rhs) >>= λ n.
+      normalizeContainer room prog (a .rhs) >>= λ n.
       checkThat (eqb (q .lhs) (a .lhs) && eqb (q .rhs) n) 40 (p ∷ a .rhs ∷ n ∷ q .rhs ∷ cond (eqb (q .lhs) (a .lhs)) 1 0 ∷ []) >>= λ _.
       pure d
 
-  normal-ends : (a : Proposition) (d : List ℕ) (u : List Term) → normalFull a d u ≡ ends (normalizeStep prog p q a) d u
+  normal-ends : (a : Proposition) (d : List ℕ) (u : List Term) → normalFull a d u ≡ ends (normalizeStep room prog p q a) d u
   unfolding normalizeStep
-  normal-ends a d u = sym (then-assoc (normalizeContainer prog (a .rhs) u) _ _)
+  normal-ends a d u = sym (then-assoc (normalizeContainer room prog (a .rhs) u) _ _)
 
   abbrev mergeFull : ℕ → Proposition → Proposition → List ℕ → Check (List ℕ)
   mergeFull f a b d =
@@ -113,5 +113,5 @@ module _ (room : Room) (prog : Program) (proofs : List Proof) (ctx : ActionConte
   justification-split (congr a i b) e done s =
       two-split a b done s (congrStep room p q (claimAt proofs a) i (claimAt proofs b))
       (λ d. getTerms >>= λ u. orRefuse (asApp (getTerm u (claimAt proofs a .rhs))) 22 (p ∷ []) >>= congrFull (claimAt proofs a) i (claimAt proofs b) d) (congr-ends (claimAt proofs a) i (claimAt proofs b))
-  justification-split (containerNormalize a) e done s = one-split a done s (normalizeStep prog p q (claimAt proofs a)) (normalFull (claimAt proofs a)) (normal-ends (claimAt proofs a))
+  justification-split (containerNormalize a) e done s = one-split a done s (normalizeStep room prog p q (claimAt proofs a)) (normalFull (claimAt proofs a)) (normal-ends (claimAt proofs a))
   justification-split eval e done s = refl

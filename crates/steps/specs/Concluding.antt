@@ -29,9 +29,9 @@ fiatStep ps p q =
     checkThat ((isLiteral (getTerm s (q .lhs)) && eqb (q .lhs) (q .rhs)) || among q ps) 33 (p ∷ q .lhs ∷ q .rhs ∷ [])
 
 -- `ContainerNormalize`
-unfoldable pub normalizeStep : Program → ℕ → Proposition → Proposition → Check (Unit {0})
-normalizeStep prog p q a =
-    normalizeContainer prog (a .rhs) >>= λ n.
+unfoldable pub normalizeStep : Room → Program → ℕ → Proposition → Proposition → Check (Unit {0})
+normalizeStep room prog p q a =
+    normalizeContainer room prog (a .rhs) >>= λ n.
     checkThat (eqb (q .lhs) (a .lhs) && eqb (q .rhs) n) 40 (p ∷ a .rhs ∷ n ∷ q .rhs ∷ cond (eqb (q .lhs) (a .lhs)) 1 0 ∷ [])
 
 -- The child that a congruence replaces: there is one, and it is the left side.
@@ -65,7 +65,7 @@ concludes room prog proofs ps p q (mergeFn f old new) = mergeStep room prog p q 
 concludes room prog proofs ps p q (trans l r) = transStep p q (claimAt proofs l) (claimAt proofs r)
 concludes room prog proofs ps p q (symm a) = symStep p q (claimAt proofs a)
 concludes room prog proofs ps p q (congr a i b) = congrStep room p q (claimAt proofs a) i (claimAt proofs b)
-concludes room prog proofs ps p q (containerNormalize a) = normalizeStep prog p q (claimAt proofs a)
+concludes room prog proofs ps p q (containerNormalize a) = normalizeStep room prog p q (claimAt proofs a)
 concludes room prog proofs ps p q eval = refuse 41 (p ∷ [])
 
 -- Each proof referred to, one after the other: the cache after them.

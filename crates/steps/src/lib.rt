@@ -23,6 +23,7 @@ ghost use mathlib.Core.Bool.{cond};
 ghost use Prim.Native.Nat.{_≤_, _<_};
 ghost use lib.ListN.{length};
 ghost use Rattle.model.specs.Layout.{sizesOf};
+ghost use Rattle.model.specs.Check.{Room};
 ghost use Rattle.model.specs.Term as terms;
 ghost use Rattle.model.specs.Program as program;
 ghost use Rattle.model.specs.Walk.{claimAt, isLiteral};
@@ -142,7 +143,7 @@ fn normalize_step(
     requires { ⌜ Ready (now job) ⌝ }
     requires { ⌜ Stored (now skinds) (now sends) (now spool) fill ⌝ }
     requires { ⌜ a .rhs < fill .cells ⌝ }
-    ensures { λ r. ⌜ outcomeOf r tt (termsIn (now (skinds .entry)) (now (sends .entry)) (now (spool .entry)) fill) ≡ normalizeStep (programFor (now (job .entry))) p (propositionOf q) (propositionOf a) (termsIn (now (skinds .entry)) (now (sends .entry)) (now (spool .entry)) fill) ⌝ }
+    ensures { λ r. ⌜ ((room : Room) → outcomeOf r tt (termsIn (now (skinds .entry)) (now (sends .entry)) (now (spool .entry)) fill) ≡ normalizeStep room (programFor (now (job .entry))) p (propositionOf q) (propositionOf a) (termsIn (now (skinds .entry)) (now (sends .entry)) (now (spool .entry)) fill)) ⌝ }
 {
     let n = normalize_container(job, skinds, sends, spool, fill, a.rhs);
     let same = q.lhs == a.lhs;

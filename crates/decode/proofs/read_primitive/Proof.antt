@@ -16,8 +16,11 @@ returns-3 : tie.Need-returns-3
 returns-3 c = rw (c .match .keys3)
 
 returns-4 : tie.Need-returns-4
-returns-4 c = rw (past 3 _ (c .match .rest))
+returns-4 c = rw (c .match .keys4)
+
+returns-5 : tie.Need-returns-5
+returns-5 c = rw (past 4 _ (c .match .rest))
 
 pub read-primitive-spec : {M : Type 1} → statement M
 read-primitive-spec =
-    tie.close (tie.spec shared-slice-read-name returns returns-2 returns-3 returns-4)
+    tie.close (tie.spec shared-slice-read-name returns returns-2 returns-3 returns-4 returns-5)

@@ -122,7 +122,7 @@ same-length-12 c = search needs
 
 -- src/lib.rt:149:1
 returns-5 : tie.Need-returns-5
-returns-5 c = let a = c .before .before .before .before .before .before .before .before .before .before .before .before .before .before .before .before .before .before .before .before .before .before .args in head-does (a .fact) _ _ (a .rule) _ (a .args .now) _ (a .head) _ (c .before .before .before .before .before .before .before .before .before .before .before .before .head5 .given .1) (by-number (programFor (a .job .now)) _ (a .args .now) _ (c .before .before .before .before .before .before .before .before .before .before .no-validator .ensures) (c .before .before .before .before .before .before .validated .ensures))
+returns-5 c = let a = c .before .before .before .before .before .before .before .before .before .before .before .before .before .before .before .before .before .before .before .before .before .before .args in head-does (a .fact) _ _ (a .rule) _ (a .args .now) _ (a .head) _ (c .before .before .before .before .before .before .before .before .before .before .before .before .head5 .given .1) (by-number _ (programFor (a .job .now)) _ (a .args .now) _ (c .before .before .before .before .before .before .before .before .before .before .no-validator .ensures) (c .before .before .before .before .before .before .validated .ensures))
 
 pub head-value-spec : {M : Type 1} → statement M
 head-value-spec =

@@ -2,7 +2,7 @@ use mathlib.Core.Path.{sym, ap, _∙_}
 use mathlib.Core.Option.{none, some}
 use borrow.Author.Needs.{needs}
 use Rattle.program.specs.Ready.{programFor, optionOf}
-use Rattle.program.proofs.Laws.{normal-without, normal-by}
+use Rattle.program.proofs.Laws.{normal-without, normal-by, normal-looks}
 use Rattle.program.proofs.normalize_app.Statement.{statement}
 use Rattle.program.proofs.normalize_app.Tie as tie
 
@@ -18,7 +18,7 @@ enum-told c = search needs
 returns : tie.Need-returns
 returns c = let a = c .before .before .before .before .before .args in
     let prog = programFor (a .job .now) in
-    λ s. normal-without prog (a .t) (a .head) (a .args .now) s (ap optionOf (sym (c .enum-told .given .1)) ∙ c .before .before .normaliser-of .ensures)
+    λ room s. normal-without room prog (a .t) (a .head) (a .args .now) s (ap optionOf (sym (c .enum-told .given .1)) ∙ c .before .before .normaliser-of .ensures)
 
 row-value-requires : tie.Need-row-value-requires
 row-value-requires c κs = search needs
@@ -32,14 +32,14 @@ enum-told-2 c = search needs
 returns-2 : tie.Need-returns-2
 returns-2 c = let a = c .before .before .before .before .before .before .before .before .before .args in
     let prog = programFor (a .job .now) in
-    λ s. normal-by prog (a .t) (a .head) (a .args .now) s (c .before .before .before .before .normaliser .given .0 .0) none
-    (ap optionOf (sym (c .before .before .before .before .normaliser .given .1)) ∙ c .before .before .before .before .before .before .normaliser-of .ensures) (ap optionOf (sym (c .enum-told2 .given .1)) ∙ c .before .before .row-value .ensures)
+    λ room s. normal-by room prog (a .t) (a .head) (a .args .now) s (c .before .before .before .before .normaliser .given .0 .0) none
+    (ap optionOf (sym (c .before .before .before .before .normaliser .given .1)) ∙ c .before .before .before .before .before .before .normaliser-of .ensures) (normal-looks (c .before .before .before .before .before .before .before .before .before .pre) (a .head) _ (ap optionOf (sym (c .before .before .before .before .normaliser .given .1)) ∙ c .before .before .before .before .before .before .normaliser-of .ensures)) (ap optionOf (sym (c .enum-told2 .given .1)) ∙ c .before .before .row-value .ensures)
 
 returns-3 : tie.Need-returns-3
 returns-3 c = let a = c .before .before .before .before .before .before .before .before .before .before .args in
     let prog = programFor (a .job .now) in
-    λ s. normal-by prog (a .t) (a .head) (a .args .now) s (c .before .before .before .before .before .normaliser .given .0 .0) (some (c .before .value .given .0 .0))
-    (ap optionOf (sym (c .before .before .before .before .before .normaliser .given .1)) ∙ c .before .before .before .before .before .before .before .normaliser-of .ensures) (ap optionOf (sym (c .before .value .given .1)) ∙ c .before .before .before .row-value .ensures)
+    λ room s. normal-by room prog (a .t) (a .head) (a .args .now) s (c .before .before .before .before .before .normaliser .given .0 .0) (some (c .before .value .given .0 .0))
+    (ap optionOf (sym (c .before .before .before .before .before .normaliser .given .1)) ∙ c .before .before .before .before .before .before .before .normaliser-of .ensures) (normal-looks (c .before .before .before .before .before .before .before .before .before .before .pre) (a .head) _ (ap optionOf (sym (c .before .before .before .before .before .normaliser .given .1)) ∙ c .before .before .before .before .before .before .before .normaliser-of .ensures)) (ap optionOf (sym (c .before .value .given .1)) ∙ c .before .before .before .row-value .ensures)
 
 pub normalize-app-spec : {M : Type 1} → statement M
 normalize-app-spec =

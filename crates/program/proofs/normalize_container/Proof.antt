@@ -37,24 +37,24 @@ returns c = let a = c .before .before .before .before .before .before .before .b
     let prog = programFor (a .job .now) in
     let s = termsIn (a .skinds .now) (a .sends .now) (a .spool .now) (a .sfill) in
     let xs = c .before .before .children .result .now in
-    normal-view prog (a .t) (c .before .before .before .before .wide .result) s (c .before .before .before .get .result) xs (ok (a .t) s) (c .before .before .before .before .wide .ensures) (c .before .before .before .get .ensures) (c .before .before .children .ensures)
-    (ap (λ (r : Term). normalizeApp prog (a .t) (asApp (some (termOf r xs))) s) (c .enum-told .given .1))
+    λ room. normal-view room prog (a .t) (c .before .before .before .before .wide .result) s (c .before .before .before .get .result) xs (ok (a .t) s) (c .before .before .before .before .wide .ensures) (c .before .before .before .get .ensures) (c .before .before .children .ensures)
+    (ap (λ (r : Term). normalizeApp room prog (a .t) (asApp (some (termOf r xs))) s) (c .enum-told .given .1))
 
 returns-2 : tie.Need-returns-2
 returns-2 c = let a = c .before .before .before .before .before .before .before .before .before .args in
     let prog = programFor (a .job .now) in
     let s = termsIn (a .skinds .now) (a .sends .now) (a .spool .now) (a .sfill) in
     let xs = c .before .before .children .result .now in
-    normal-view prog (a .t) (c .before .before .before .before .wide .result) s (c .before .before .before .get .result) xs (ok (a .t) s) (c .before .before .before .before .wide .ensures) (c .before .before .before .get .ensures) (c .before .before .children .ensures)
-    (ap (λ (r : Term). normalizeApp prog (a .t) (asApp (some (termOf r xs))) s) (c .enum-told2 .given .1))
+    λ room. normal-view room prog (a .t) (c .before .before .before .before .wide .result) s (c .before .before .before .get .result) xs (ok (a .t) s) (c .before .before .before .before .wide .ensures) (c .before .before .before .get .ensures) (c .before .before .children .ensures)
+    (ap (λ (r : Term). normalizeApp room prog (a .t) (asApp (some (termOf r xs))) s) (c .enum-told2 .given .1))
 
 returns-3 : tie.Need-returns-3
 returns-3 c = let a = c .before .before .before .before .before .before .before .before .before .before .before .args in
     let prog = programFor (a .job .now) in
     let s = termsIn (a .skinds .now) (a .sends .now) (a .spool .now) (a .sfill) in
     let xs = c .before .before .before .before .children .result .now in
-    normal-view prog (a .t) (c .before .before .before .before .before .before .wide .result) s (c .before .before .before .before .before .get .result) xs (ok (c .normalize-app .result) s) (c .before .before .before .before .before .before .wide .ensures) (c .before .before .before .before .before .get .ensures) (c .before .before .before .before .children .ensures)
-    (ap (λ (r : Term). normalizeApp prog (a .t) (asApp (some (termOf r xs))) s) (c .before .before .term .given .1) ∙ c .normalize-app .ensures s)
+    λ room. normal-view room prog (a .t) (c .before .before .before .before .before .before .wide .result) s (c .before .before .before .before .before .get .result) xs (ok (c .normalize-app .result) s) (c .before .before .before .before .before .before .wide .ensures) (c .before .before .before .before .before .get .ensures) (c .before .before .before .before .children .ensures)
+    (ap (λ (r : Term). normalizeApp room prog (a .t) (asApp (some (termOf r xs))) s) (c .before .before .term .given .1) ∙ c .normalize-app .ensures room s)
 
 pub normalize-container-spec : {M : Type 1} → statement M
 normalize-container-spec =

@@ -7,8 +7,8 @@ use Rattle.model.specs.Layout.{cellCount}
 use Rattle.cells.proofs.Laws.{cell-at}
 use Prim.Native.Nat.{_+_, _<_}
 use borrow.Author.Needs.{needs}
-use Rattle.load.proofs.tables.has_validator.Statement.{statement}
-use Rattle.load.proofs.tables.has_validator.Tie as tie
+use Rattle.load.proofs.tables.looks_up.Statement.{statement}
+use Rattle.load.proofs.tables.looks_up.Tie as tie
 
 returns : tie.Need-returns
 returns c = let a = c .before .before .args in primitive-out (sizesIn (a .z)) (cellsOf (a .kinds .now) (a .ends .now) (a .pool .now) (cellCount (sizesIn (a .z)))) (a .p) (omega arith)
@@ -42,8 +42,8 @@ returns-2 c = let a = c .before .before .before .before .before .before .before 
     let h : i < n = omega arith in
     primitive-held (sizesIn z) (cellsOf (a .kinds .now) (a .ends .now) (a .pool .now) n) (a .p) _ (omega arith) (sym (ap (λ (x : Cell). x .kind) (cell-at (a .kinds .now) (a .ends .now) (a .pool .now) n i h)))
 
-pub has-validator-spec : {M : Type 1} → statement M
-has-validator-spec =
+pub looks-up-spec : {M : Type 1} → statement M
+looks-up-spec =
     tie.close
     (tie.spec
     returns
