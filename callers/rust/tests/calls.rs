@@ -1,4 +1,4 @@
-//! Both entries, called as a host calls them: jobs A and B of document 01, and arrays of any length.
+//! Both entries, called as a host calls them: jobs A and B of document 01, the tilt counts, and arrays of any length.
 
 use std::fs;
 use std::path::Path;
@@ -137,6 +137,68 @@ fn job_b_as_words() {
     for (asked, expected) in ANSWERS_B.into_iter().enumerate() {
         let lent = words_give(&words("job_b.bin"), asked as u32, [9, 9, 30, 50], expected);
         lent.holds(TERMS_B);
+    }
+}
+
+/// The tilt counts' terms: 1, 3, -5, tilt(1, 3), tilt(1, -5), -2, tilt(1, -2), level(1); then 5, the product -10 and 4, which the check adds.
+const TERMS_TILT: [&[u32]; 3] = [
+    &[0, 0, 0, 2, 2, 0, 2, 2, 0, 0, 0],
+    &[3, 6, 9, 12, 15, 18, 21, 23, 26, 29, 32],
+    &[
+        2,
+        1,
+        0,
+        2,
+        3,
+        0,
+        2,
+        4_294_967_291,
+        4_294_967_295,
+        4,
+        0,
+        1,
+        4,
+        0,
+        2,
+        2,
+        4_294_967_294,
+        4_294_967_295,
+        4,
+        0,
+        5,
+        5,
+        0, //
+        2,
+        5,
+        0,
+        2,
+        4_294_967_286,
+        4_294_967_295,
+        2,
+        4,
+        0,
+    ],
+];
+
+#[test]
+fn tilt_counts() {
+    let accepted = [0, 11, 7, 5, 3, 0, 0, 0];
+    bytes_give(&bytes("tilt.bin"), 3, accepted);
+    let lent = words_give(&words("tilt.bin"), 3, [11, 11, 32, 30], accepted);
+    lent.holds(TERMS_TILT);
+}
+
+/// The product finds no cell, or too few pool words.
+#[test]
+fn tilt_counts_without_room() {
+    let store = [
+        &TERMS_TILT[0][..9],
+        &TERMS_TILT[1][..9],
+        &TERMS_TILT[2][..26],
+    ];
+    for lengths in [[9, 9, 32, 30], [11, 11, 28, 30]] {
+        let lent = words_give(&words("tilt.bin"), 3, lengths, [53, 9, 26, 0, 0, 0, 0, 0]);
+        lent.holds(store);
     }
 }
 

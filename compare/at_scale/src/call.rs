@@ -3,7 +3,7 @@
 use generator::Case;
 use oracle::TooManySteps;
 
-use crate::variants::Variant;
+use crate::variants::{Source, Variant};
 
 /// What an entry is handed to read, and the lengths of what is lent.
 #[derive(Clone, Debug)]
@@ -15,6 +15,7 @@ pub enum Input {
 /// A call of an entry.
 #[derive(Clone, Debug)]
 pub struct Call {
+    pub source: Source,
     pub variant: Variant,
     pub input: Input,
     /// The length of the answer's buffer.

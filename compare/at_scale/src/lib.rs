@@ -12,4 +12,4 @@ pub use difference::{Difference, Part, difference};
 pub use progress::with_progress;
 pub use run::{Report, compare_range, compare_range_counting};
 pub use tally::Tally;
-pub use variants::{Variant, calls};
+pub use variants::{Source, Variant, calls};

@@ -1,4 +1,4 @@
-//! Compares the calls of a seed, and of a range of seeds on all cores.
+//! Compares the calls of a seed, those of both its cases, and of a range of seeds on all cores.
 
 use std::fmt;
 use std::sync::atomic::{AtomicU64, Ordering};
@@ -7,7 +7,7 @@ use std::thread;
 use crate::call::{Call, Left};
 use crate::difference::{Difference, difference};
 use crate::tally::Tally;
-use crate::variants::{Variant, calls};
+use crate::variants::{Source, Variant, calls};
 
 /// Seeds that a thread takes at a time.
 const CHUNK: u64 = 64;
@@ -18,6 +18,7 @@ const STACK: usize = 32 << 20;
 #[derive(Clone, PartialEq, Eq, Debug)]
 pub struct Report {
     pub seed: u64,
+    pub source: Source,
     pub variant: Variant,
     /// What decided the contents of scratch.
     pub scratch: u32,
@@ -33,8 +34,8 @@ impl fmt::Display for Report {
         let Difference { part, place, .. } = self.difference;
         writeln!(
             out,
-            "seed {}, {:?}, scratch by {}",
-            self.seed, self.variant, self.scratch
+            "seed {}, {:?}, {:?}, scratch by {}",
+            self.seed, self.source, self.variant, self.scratch
         )?;
         let difference = &self.difference;
         let sides = [
@@ -143,6 +144,7 @@ fn compare_call(
             let said = |left: &Left| (left.number, left.answer.clone());
             return Err(Box::new(Report {
                 seed,
+                source: call.source,
                 variant: call.variant,
                 scratch,
                 difference,

@@ -1,4 +1,5 @@
-//! The calls that are made for a seed: the generator's case, and variants that the seed chooses.
+//! The calls that are made for a seed: for each of the generator's two cases, the case itself and
+//! variants that the seed chooses.
 
 use generator::{Case, Random, room};
 use job::limits::ANSWER;
@@ -10,6 +11,24 @@ use crate::call::{Call, Input};
 const OTHER_LENGTHS: [usize; 5] = [0, 1, 7, 9, 16];
 /// More than arrays are made longer by, so that scratch is not what is refused.
 const SPARE_SCRATCH: usize = 100;
+
+/// Which of a seed's two cases a call is made of.
+#[derive(Clone, Copy, PartialEq, Eq, Debug)]
+pub enum Source {
+    Job,
+    CountingJob,
+}
+
+impl Source {
+    pub const ALL: [Source; 2] = [Source::Job, Source::CountingJob];
+
+    fn case(self, seed: u64) -> Case {
+        match self {
+            Source::Job => generator::job(seed),
+            Source::CountingJob => generator::counting_job(seed),
+        }
+    }
+}
 
 /// Why a call is made.
 #[derive(Clone, Copy, PartialEq, Eq, PartialOrd, Ord, Debug)]
@@ -47,10 +66,17 @@ impl Variant {
 
 /// The calls of a seed; the same on every machine.
 pub fn calls(seed: u64) -> Vec<Call> {
-    let case = generator::job(seed);
     let mut random = Random::new(!seed);
-    let random = &mut random;
-    vec![
+    Source::ALL
+        .into_iter()
+        .flat_map(|source| calls_of(source, seed, &mut random))
+        .collect()
+}
+
+/// Seven calls, two of them with scratch of two contents.
+fn calls_of(source: Source, seed: u64, random: &mut Random) -> Vec<Call> {
+    let case = source.case(seed);
+    let mut calls = vec![
         with_other_scratch(lent(Variant::AsMade, case.clone(), random)),
         answer_length(case.clone(), random),
         with_other_scratch(tight(&case, random)),
@@ -61,12 +87,17 @@ pub fn calls(seed: u64) -> Vec<Call> {
         other_proof(case.clone(), random),
         host(&case, random),
         host_damaged(&case, random),
-    ]
+    ];
+    for call in &mut calls {
+        call.source = source;
+    }
+    calls
 }
 
-/// A call with a lent store.
+/// A call with a lent store; whose case it is, is said afterwards.
 fn lent(variant: Variant, case: Case, random: &mut Random) -> Call {
     Call {
+        source: Source::Job,
         variant,
         input: Input::Words(case),
         answer: ANSWER,
@@ -136,9 +167,10 @@ fn other_proof(mut case: Case, random: &mut Random) -> Call {
     lent(Variant::OtherProof, case, random)
 }
 
-/// A call of the host entry.
+/// A call of the host entry; whose case it is, is said afterwards.
 fn bytes(variant: Variant, job: Vec<u8>, asked: u32, random: &mut Random) -> Call {
     Call {
+        source: Source::Job,
         variant,
         input: Input::Bytes { job, asked },
         answer: ANSWER,

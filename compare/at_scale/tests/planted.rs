@@ -1,6 +1,8 @@
 //! A library with a planted mistake: each is found, in a call and a part where it shows.
 
-use at_scale::{Call, Input, Left, Part, Variant, compare_range};
+use at_scale::{Call, Input, Left, Part, Source, Variant, compare_range};
+use job::limits::SIZES;
+use job::{Job, Table, primitives};
 
 const SEEDS: u64 = 400;
 
@@ -140,12 +142,40 @@ fn left_over_bytes_that_are_dropped() {
     assert_eq!(dropped, (Variant::HostAdded, Part::Number));
 }
 
+/// A case may be tight as it is made.
 #[test]
 fn room_for_one_more_than_was_lent() {
-    let cell = found(|call, scratch| wider(call, scratch, 1, 0));
-    assert_eq!(cell, (Variant::Tight, Part::Number));
-    let word = found(|call, scratch| wider(call, scratch, 0, 1));
-    assert_eq!(word, (Variant::Tight, Part::Number));
+    for (cells, words) in [(1, 0), (0, 1)] {
+        let (variant, part) = found(|call, scratch| wider(call, scratch, cells, words));
+        assert!(matches!(variant, Variant::Tight | Variant::AsMade));
+        assert_eq!(part, Part::Number);
+    }
+}
+
+/// It shows in a seed's counting job.
+#[test]
+fn calls_that_compute_taken_for_calls_with_rows() {
+    let report = compare_range(0, SEEDS, |call, scratch| {
+        let mut rows = call.clone();
+        if let Input::Words(case) = &mut rows.input {
+            without_counts(&mut case.job);
+        }
+        rows.by_library(scratch)
+    });
+    let source = report.expect_err("the mistake is found").source;
+    assert_eq!(source, Source::CountingJob);
+}
+
+/// Primitives of kinds 4 to 8 become ones of kind 1.
+fn without_counts(words: &mut [u32]) {
+    let Some(job) = Job::read(words) else { return };
+    let first = SIZES + job.global_number(Table::Primitives, 0);
+    let count = job.count(Table::Primitives);
+    for kind in &mut words[first..first + count] {
+        if primitives::counts(*kind) {
+            *kind = 1;
+        }
+    }
 }
 
 /// A call with more room than was asked for, cut back to that afterwards.

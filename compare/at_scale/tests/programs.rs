@@ -4,7 +4,7 @@ use std::fs;
 use std::path::{Path, PathBuf};
 use std::process::{Command, Output};
 
-use generator::{holding_job, job};
+use generator::{counting_job, holding_job, job};
 use job::Tables;
 use job::limits::PROGRAM_BYTES;
 use tools::{print, program, to_bytes};
@@ -167,8 +167,8 @@ fn program_agrees(input: &[u8]) {
 }
 
 #[test]
-fn the_program_on_jobs_a_and_b_and_no_job() {
-    for file in ["job_a.bin", "job_b.bin"] {
+fn the_program_on_the_examples_and_no_job() {
+    for file in ["job_a.bin", "job_b.bin", "tilt.bin"] {
         program_agrees(&fs::read(root().join("examples").join(file)).expect("an example"));
     }
     program_agrees(&[]);
@@ -207,9 +207,11 @@ fn the_program_on_a_job_cut_off() {
 
 #[test]
 fn the_program_on_generated_jobs() {
-    let jobs = (0..).map(|seed| to_bytes(&job(seed).job));
-    let short = jobs.filter(|job| job.len() <= PROGRAM_BYTES);
-    for job in short.take(300) {
-        program_agrees(&job);
+    for made in [job, counting_job] {
+        let jobs = (0..).map(|seed| to_bytes(&made(seed).job));
+        let short = jobs.filter(|job| job.len() <= PROGRAM_BYTES);
+        for job in short.take(300) {
+            program_agrees(&job);
+        }
     }
 }

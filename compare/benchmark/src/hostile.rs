@@ -51,6 +51,12 @@ const TOWERS: &[Hostile] = &[
     hostile("head times 16, 4,095 times", STEPS, |steps| {
         towers::head(steps, 16)
     }),
+    hostile("4,094 sums in each head", STEPS, |steps| {
+        towers::sums(steps, 1)
+    }),
+    hostile("the same, of two integers in turn", STEPS, |steps| {
+        towers::sums(steps, 2)
+    }),
     hostile("fact 4,095 calls deep", STEPS, towers::fact),
     hostile(
         "16 function facts of 15 deep arguments",

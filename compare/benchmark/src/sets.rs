@@ -1,6 +1,7 @@
 //! The jobs of the benchmark, by sets.
 
 mod chains;
+mod counts;
 mod every_kind;
 mod names;
 mod terms;
@@ -61,6 +62,8 @@ pub fn all() -> Vec<Set> {
         one("names: 512 rows", names::rows(512)),
         one("names: 4,096 rows", names::rows(4_096)),
         one("names: 4,096 normalisers", names::normalisers(4_096)),
+        one("counts: 1,000 sums", counts::computed(1_000)),
+        one("counts: 1,000 sums by rows", counts::looked_up(1_000)),
         one("terms: 2,000", terms::flat(2_000)),
         one("terms: 10,000", terms::flat(10_000)),
         one("terms: rules 1,000 deep", extremes::deep_rules(1_000)),

@@ -5,8 +5,9 @@ use job::{Table, Tables};
 use crate::random::Random;
 use crate::roles::{Role, roles};
 
-/// Changes one word or kind of a cell, mostly so that the job still loads.
-pub fn damage_cell(tables: &mut Tables, random: &mut Random) {
+/// Changes one word or kind of a cell, mostly so that the job still loads. A primitive's kind becomes
+/// any up to the given one.
+pub fn damage_cell(tables: &mut Tables, primitive_kind: u32, random: &mut Random) {
     let table = random.pick(&[
         Table::Terms,
         Table::Expressions,
@@ -29,7 +30,7 @@ pub fn damage_cell(tables: &mut Tables, random: &mut Random) {
     }
     let number = random.below(count);
     if random.once_in(6) {
-        return change_kind(tables, table, number, random);
+        return change_kind(tables, (table, number), primitive_kind, random);
     }
     let cell = tables.of(table)[number].clone();
     let roles = roles(table, cell.kind, &cell.words);
@@ -80,12 +81,17 @@ fn any_name(tables: &Tables, random: &mut Random) -> u32 {
 }
 
 /// Another kind with the same number of words, where there is one.
-fn change_kind(tables: &mut Tables, table: Table, number: usize, random: &mut Random) {
+fn change_kind(
+    tables: &mut Tables,
+    (table, number): (Table, usize),
+    primitive_kind: u32,
+    random: &mut Random,
+) {
     let cell = &mut tables.of_mut(table)[number];
     cell.kind = match (table, cell.kind) {
         (Table::Expressions, 2) => 3,
         (Table::Expressions, 3) => 2,
-        (Table::Primitives, _) => random.below(4) as u32,
+        (Table::Primitives, _) => random.below(primitive_kind as usize + 1) as u32,
         (Table::Actions, 2) => 3,
         (Table::Actions, 0) => 1,
         (Table::Proofs, 0) => 7,

@@ -1,6 +1,6 @@
 //! Expressions, and what they evaluate to where everything has a value.
 
-use job::Table;
+use job::{Table, primitives};
 
 use crate::world::{Bindings, Pair, World};
 
@@ -34,8 +34,11 @@ impl World {
     }
 
     fn primitive_value(&mut self, primitive: u32, arguments: &[u32]) -> Option<u32> {
-        let kind = self.tables.of(Table::Primitives)[primitive as usize].kind;
-        if kind & 1 == 0 {
+        let kind = self.primitive_kind(primitive);
+        if primitives::counts(kind) {
+            return self.count(kind, arguments);
+        }
+        if !primitives::looks_rows_up(kind) {
             return None;
         }
         if let Some(result) = self.row(primitive, arguments) {
@@ -76,19 +79,22 @@ impl World {
         if depth == 0 || self.random.once_in(4) {
             return self.leaf(names);
         }
+        if self.counting && self.random.once_in(3) {
+            return self.count_expression(names, depth);
+        }
         let kind = match self.random.below(6) {
             0 => 3,
             1 => 4,
             _ => 2,
         };
-        let with_validator = self.primitives(&[1, 3]);
-        if kind == 4 && with_validator.is_empty() {
+        let with_rows = self.primitives(&[1, 3]);
+        if kind == 4 && with_rows.is_empty() {
             return self.leaf(names);
         }
         let count = self.argument_count();
         let arguments = self.head_arguments(names, depth, count);
         let name = match kind {
-            4 => self.random.pick(&with_validator),
+            4 => self.random.pick(&with_rows),
             _ => self.any_head(),
         };
         self.expression(kind, &[&[name], &arguments[..]].concat())
@@ -114,11 +120,14 @@ impl World {
 
     /// An argument that a primitive call in a fact may have.
     pub fn primitive_argument(&mut self, names: &[u32], depth: usize) -> u32 {
-        let with_validator = self.primitives(&[1, 3]);
-        if depth == 0 || with_validator.is_empty() || !self.random.once_in(4) {
+        if self.counting && self.random.once_in(3) {
+            return self.count_expression(names, depth);
+        }
+        let with_rows = self.primitives(&[1, 3]);
+        if depth == 0 || with_rows.is_empty() || !self.random.once_in(4) {
             return self.leaf(names);
         }
-        let primitive = self.random.pick(&with_validator);
+        let primitive = self.random.pick(&with_rows);
         let mut words = vec![primitive];
         for _ in 0..self.random.below(3) {
             words.push(self.primitive_argument(names, depth - 1));
@@ -142,7 +151,7 @@ impl World {
         }
         let kind = self.random.pick(&[2, 3, 4, 4]);
         let name = match kind {
-            4 => self.some_primitive(&[0, 1, 2, 3]),
+            4 => self.primitive_of_any_kind(),
             _ => self.any_head(),
         };
         let mut words = vec![name];

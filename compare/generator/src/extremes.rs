@@ -1,6 +1,7 @@
 //! Deep and wide jobs, and jobs with sizes at and one past their limits.
 
 use job::limits;
+use job::primitives::{COUNTING, DIFFERENCE, NEGATION, SUM};
 use job::{Table, Tables};
 
 use crate::random::Random;
@@ -87,6 +88,64 @@ pub fn deep_swaps(length: usize) -> Tables {
         (left, right) = (right, left);
         tables.rule_step((left, right), RULE, &[premise], &pairs);
     }
+    tables
+}
+
+/// Calls that compute, many in each other or in steps one under another.
+pub fn deep_counts(random: &mut Random) -> Tables {
+    match random.once_in(2) {
+        true => count_steps(SUM, random.between(20, 400)),
+        false => count_tower(random.between(50, 700), random),
+    }
+}
+
+/// X = Y gives X + 1 = Y + 1, over and over, by a primitive of this kind.
+pub fn count_steps(kind: u32, length: usize) -> Tables {
+    let mut tables = united();
+    let sum = tables.primitive(kind, F);
+    let x = tables.variable(X);
+    let y = tables.variable(Y);
+    let one = tables.integer(1);
+    let fact = tables.equality(x, y);
+    let x_more = tables.primitive_call(sum, &[x, one]);
+    let y_more = tables.primitive_call(sum, &[y, one]);
+    let head = tables.union_action(x_more, y_more);
+    tables.rule(RULE, &[fact], &[head]);
+    let (mut left, mut right) = (0, 1);
+    for premise in 0..length as u32 {
+        let pairs = [(X, left), (Y, right)];
+        left = right;
+        right = tables.term_integer(i64::from(premise) + 3);
+        tables.rule_step((left, right), RULE, &[premise], &pairs);
+    }
+    tables
+}
+
+/// A global (.. ((1 o 1) o 1) ..) o 1 by one of the five operations, and the fiat of what it gives.
+fn count_tower(length: usize, random: &mut Random) -> Tables {
+    let mut tables = united();
+    let kind = random.pick(&COUNTING);
+    let primitive = tables.primitive(kind, F);
+    let mut call = 0;
+    for _ in 0..length {
+        call = match kind {
+            NEGATION => tables.primitive_call(primitive, &[call]),
+            _ => tables.primitive_call(primitive, &[call, 0]),
+        };
+    }
+    tables.let_action(X, call);
+    tables.globals = 2;
+    let value = match kind {
+        SUM => length as i64 + 1,
+        DIFFERENCE => 1 - length as i64,
+        NEGATION if length % 2 == 1 => -1,
+        _ => 1,
+    };
+    let claimed = match value {
+        1 => 0,
+        _ => tables.term_integer(value),
+    };
+    tables.fiat((claimed, claimed));
     tables
 }
 

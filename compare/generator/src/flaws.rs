@@ -1,6 +1,7 @@
 //! Steps that are to be refused, each aimed at one number.
 
 mod bury;
+mod counts;
 mod fact_flaws;
 mod merges;
 mod rule_flaws;
@@ -16,7 +17,7 @@ pub struct Flawed {
 }
 
 /// The numbers that a step can be aimed at.
-pub const AIMED: [u32; 32] = [
+const AIMED: [u32; 32] = [
     20, 21, 22, 23, 24, 25, 26, 27, 28, 29, 30, 31, 32, 33, 34, 35, 36, 37, 38, 39, 40, 41, 42, 43,
     44, 45, 46, 47, 49, 50, 51, 52,
 ];
@@ -24,7 +25,18 @@ pub const AIMED: [u32; 32] = [
 /// The numbers that a global action can be aimed at.
 pub const AIMED_IN_GLOBALS: [u32; 3] = [45, 46, 51];
 
+/// The numbers that a step of a counting world is aimed at more often.
+const AIMED_BY_COUNTS: [u32; 6] = [29, 30, 42, 46, 46, 46];
+
 impl World {
+    /// A number that a step can be aimed at.
+    pub fn any_aim(&mut self) -> u32 {
+        match self.counting && self.random.once_in(4) {
+            true => self.random.pick(&AIMED_BY_COUNTS),
+            false => self.random.pick(&AIMED),
+        }
+    }
+
     /// Appends a step that is to be refused with this number.
     pub fn flawed_step(&mut self, number: u32) -> Flawed {
         match number {
@@ -59,6 +71,7 @@ impl World {
     pub fn flawed_expression(&mut self, number: u32, names: &[u32], unbound: u32) -> u32 {
         let flaw = match number {
             45 => self.expression(1, &[unbound]),
+            46 if self.counting && !self.random.once_in(3) => self.count_without_value(names, true),
             46 => self.call_without_row(names),
             _ => {
                 let primitive = self.some_primitive(&[0, 2]);

@@ -9,20 +9,23 @@ use crate::world::{Pair, World};
 
 impl World {
     /// A world with globals and the fiats that they give.
-    pub fn start(random: Random) -> World {
-        World::start_with(random, false)
+    pub fn start(random: Random, counting: bool) -> World {
+        World::start_with(random, counting, false)
     }
 
     /// A world whose globals have no value, aimed at one of their numbers.
-    pub fn start_with_flaw(random: Random) -> World {
-        World::start_with(random, true)
+    pub fn start_with_flaw(random: Random, counting: bool) -> World {
+        World::start_with(random, counting, true)
     }
 
-    fn start_with(random: Random, flawed: bool) -> World {
-        let mut world = World::empty(random);
+    fn start_with(random: Random, counting: bool, flawed: bool) -> World {
+        let mut world = World::empty(random, counting);
         for _ in 0..world.random.below(4) {
             let kind = world.random.pick(&[0, 1, 1, 2, 3, 3]);
             world.new_primitive(kind);
+        }
+        if counting {
+            world.counting_primitives();
         }
         if world.random.once_in(3) {
             world.variable_terms();
@@ -30,13 +33,13 @@ impl World {
         for _ in 0..world.random.below(6) {
             world.global_action();
         }
-        if world.random.once_in(2) {
+        if counting || world.random.once_in(2) {
             world.global_views();
         }
         if flawed {
             world.flawed_global();
         }
-        for _ in 0..world.random.below(3) {
+        for _ in 0..world.random.below(3) + usize::from(counting) {
             world.any_function();
         }
         for _ in 0..world.random.below(3) {
@@ -74,9 +77,13 @@ impl World {
 
     /// A global action that is to be refused, maybe followed by others.
     fn flawed_global(&mut self) {
-        let number = self.random.pick(&AIMED_IN_GLOBALS);
+        let number = match self.counting && self.random.once_in(2) {
+            true => 46,
+            false => self.random.pick(&AIMED_IN_GLOBALS),
+        };
         let names: Vec<u32> = self.globals.keys().copied().collect();
         let unbound = self.names.variable(7);
+        self.note_integers(&self.globals.clone());
         let expression = self.flawed_expression(number, &names, unbound);
         self.action_with(expression);
         self.tables.globals = self.tables.count(Table::Actions);
@@ -92,6 +99,7 @@ impl World {
         bindings: &mut crate::world::Bindings,
         pairs: &mut Vec<Pair>,
     ) -> Option<u32> {
+        self.note_integers(bindings);
         match self.random.below(12) {
             0 => Some(self.tables.panic_action()),
             1 => Some(self.tables.change_action()),
@@ -134,8 +142,11 @@ impl World {
 
     /// A call with at least one argument; seldom of a primitive.
     fn set_call(&mut self, names: &[u32]) -> u32 {
-        let with_validator = self.primitives(&[1, 3]);
-        let (kind, head) = match self.random.pick_any(&with_validator) {
+        if self.counting && self.random.once_in(4) {
+            return self.count_call(names, 2);
+        }
+        let with_rows = self.primitives(&[1, 3]);
+        let (kind, head) = match self.random.pick_any(&with_rows) {
             Some(primitive) if self.random.once_in(8) => (4, primitive),
             _ => (self.random.pick(&[2, 3, 3]), self.any_head()),
         };
@@ -153,7 +164,10 @@ impl World {
             .map(|_| self.literal_expression())
             .collect();
         for _ in 0..self.random.between(2, 3) {
-            let value = self.head_expression(&[], 1);
+            let value = match self.counting && !self.random.once_in(4) {
+                true => self.count_expression(&[], 1),
+                false => self.head_expression(&[], 1),
+            };
             let call = self.expression(3, &[&[head], &inputs[..], &[value]].concat());
             let mut pairs = Vec::new();
             let globals = self.globals.clone();
@@ -174,7 +188,10 @@ impl World {
     }
 
     pub fn function_with_merge(&mut self, name: u32) -> u32 {
-        let merge = self.head_expression(&[OLD, NEW], 2);
+        let merge = match self.counting && !self.random.once_in(4) {
+            true => self.count_merge(),
+            false => self.head_expression(&[OLD, NEW], 2),
+        };
         self.tables.function(name, merge)
     }
 

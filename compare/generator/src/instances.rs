@@ -1,6 +1,6 @@
 //! Another instance of a rule that is there: other terms for its variables.
 
-use job::Table;
+use job::{Table, primitives};
 
 use crate::rules::{Plan, PlannedFact};
 use crate::world::{Bindings, Pair, World};
@@ -9,8 +9,8 @@ impl World {
     /// The same rule with other terms, its premises assumed; `None` where that has no value.
     pub fn other_instance(&mut self, known: &Plan) -> Option<Plan> {
         let mut pairs = Bindings::new();
-        for &name in known.pairs.keys() {
-            pairs.insert(name, self.any_term());
+        for (&name, &term) in &known.pairs {
+            pairs.insert(name, self.term_in_place_of(term));
         }
         let mut working = self.globals.clone();
         working.extend(&pairs);
@@ -30,6 +30,17 @@ impl World {
         }
         plan.head_pairs = self.instance_head(&plan)?;
         (!plan.head_pairs.is_empty()).then_some(plan)
+    }
+
+    /// Any term; in a counting world an integer for an integer.
+    fn term_in_place_of(&mut self, term: u32) -> u32 {
+        match self.counting && self.integer(term).is_some() {
+            true => {
+                let value = self.any_integer();
+                self.integer_term(i128::from(value))
+            }
+            false => self.any_term(),
+        }
     }
 
     /// A proof that fits the fact under these bindings.
@@ -77,7 +88,7 @@ impl World {
 
     fn is_container_call(&self, expression: u32) -> bool {
         let cell = &self.tables.of(Table::Expressions)[expression as usize];
-        cell.kind == 4 && self.tables.of(Table::Primitives)[cell.words[0] as usize].kind & 2 != 0
+        cell.kind == 4 && primitives::gives_containers(self.primitive_kind(cell.words[0]))
     }
 
     fn is_function_fact(&self, left: u32, right: u32) -> bool {

@@ -1,5 +1,6 @@
 //! Jobs aimed at the numbers 1 to 9.
 
+use job::primitives::COUNTING;
 use job::{Table, Tables};
 
 use crate::random::Random;
@@ -8,17 +9,20 @@ use crate::roles::{Role, roles};
 /// The numbers that a job's form can be aimed at.
 pub const AIMED_BY_FORM: [u32; 8] = [1, 2, 3, 5, 6, 7, 8, 9];
 
-/// The words and the asked proof of a job that is to be refused with this number.
+/// The words and the asked proof of a job that is to be refused with this number; a counting one
+/// more often for its primitives.
 pub fn malformed(
     mut tables: Tables,
     asked: u32,
-    number: u32,
+    (number, counting): (u32, bool),
     random: &mut Random,
 ) -> (Vec<u32>, u32) {
     match number {
+        6 if counting && random.once_in(3) => unknown_primitive(&mut tables, random),
         6 => unformed_cell(&mut tables, random),
         7 => wrong_reference(&mut tables, random),
-        8 => missing_validator(&mut tables, random),
+        8 if counting && random.once_in(2) => counting_in_place(&mut tables, random),
+        8 => missing_validator(&mut tables, counting, random),
         9 => repeated(&mut tables, random),
         2 => tables.globals = tables.count(Table::Actions) + 1 + random.below(3) as u32,
         _ => {}
@@ -160,8 +164,43 @@ fn wrong_reference(tables: &mut Tables, random: &mut Random) {
     tables.fiat((terms, terms));
 }
 
-fn missing_validator(tables: &mut Tables, random: &mut Random) {
-    let kind = random.pick(&[0, 2]);
+/// A primitive of a kind past the last, or with another count of words.
+fn unknown_primitive(tables: &mut Tables, random: &mut Random) {
+    let number = match tables.count(Table::Primitives) {
+        0 => tables.primitive(1, 91),
+        count => random.below(count as usize) as u32,
+    };
+    let cell = &mut tables.of_mut(Table::Primitives)[number as usize];
+    match random.below(6) {
+        0 => cell.words.clear(),
+        1 => cell.words.push(0),
+        2 => cell.kind = u32::MAX,
+        3 => cell.kind = 10,
+        4 => cell.kind |= 1 << random.between(4, 31),
+        _ => cell.kind = 9,
+    }
+}
+
+/// The primitive of a row or a normaliser becomes one that computes.
+fn counting_in_place(tables: &mut Tables, random: &mut Random) {
+    let mut named: Vec<u32> = Vec::new();
+    named.extend(tables.of(Table::Rows).iter().map(|cell| cell.words[0]));
+    let normalisers = tables.of(Table::Normalisers).iter();
+    named.extend(normalisers.map(|cell| cell.words[1]));
+    match random.pick_any(&named) {
+        Some(primitive) => {
+            let kind = random.pick(&COUNTING);
+            tables.of_mut(Table::Primitives)[primitive as usize].kind = kind;
+        }
+        None => missing_validator(tables, true, random),
+    }
+}
+
+fn missing_validator(tables: &mut Tables, counting: bool, random: &mut Random) {
+    let kind = match counting {
+        true => random.pick(&[0, 2, 4, 5, 6, 7, 8]),
+        false => random.pick(&[0, 2]),
+    };
     let primitive = tables.primitive(kind, 91);
     match random.below(3) {
         0 => tables.row(primitive, 0, &[]),

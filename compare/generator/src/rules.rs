@@ -25,11 +25,11 @@ pub struct Plan {
 }
 
 impl Plan {
-    fn names(&self) -> Vec<u32> {
+    pub fn names(&self) -> Vec<u32> {
         self.working.keys().copied().collect()
     }
 
-    fn bind(&mut self, name: u32, term: u32) {
+    pub fn bind(&mut self, name: u32, term: u32) {
         self.pairs.insert(name, term);
         self.working.insert(name, term);
     }
@@ -80,6 +80,11 @@ impl World {
     }
 
     pub fn plan_fact(&mut self, plan: &mut Plan) {
+        self.note_integers(&plan.working);
+        if self.counting && self.random.once_in(4) {
+            let bare = self.random.once_in(3);
+            return self.plan_count(plan, bare);
+        }
         match self.random.below(8) {
             0..=2 => self.plan_equality(plan),
             3 => self.plan_bare(plan),
@@ -88,7 +93,7 @@ impl World {
         }
     }
 
-    fn push_fact(&mut self, plan: &mut Plan, fact: u32, premise: u32) {
+    pub fn push_fact(&mut self, plan: &mut Plan, fact: u32, premise: u32) {
         plan.facts.push(PlannedFact { fact, premise });
     }
 
@@ -161,6 +166,13 @@ impl World {
     /// An expression in normal form that evaluates to the term in an ordinary fact.
     pub fn abstracted(&mut self, term: u32, plan: &mut Plan, depth: usize) -> u32 {
         let full = plan.pairs.len() >= PAIRS_BY_CHOICE;
+        if self.counting
+            && depth > 0
+            && self.random.once_in(3)
+            && let Some(expression) = self.count_for(term, plan, depth)
+        {
+            return expression;
+        }
         let cell = self.tables.of(Table::Terms)[term as usize].clone();
         if cell.kind == 0 && (full || self.random.once_in(2)) {
             return self.expression(0, &cell.words);
@@ -190,7 +202,7 @@ impl World {
     }
 
     /// Makes the row that gives a primitive call this value; false where it has another.
-    fn give_value(&mut self, call: u32, bindings: &Bindings, term: u32) -> bool {
+    pub fn give_value(&mut self, call: u32, bindings: &Bindings, term: u32) -> bool {
         let words = self.tables.of(Table::Expressions)[call as usize]
             .words
             .clone();
@@ -221,7 +233,9 @@ impl World {
     }
 
     pub fn plan_side_condition(&mut self, plan: &mut Plan) {
+        let count = self.counting && self.random.once_in(3);
         let fact = match self.random.below(6) {
+            _ if count => self.condition_on_count(plan),
             0 => self.bare_condition(plan),
             1 => self.condition_on_known(plan),
             2 => self.condition_on_call(plan),
@@ -235,7 +249,7 @@ impl World {
     }
 
     /// The two sides of an equality in either order.
-    fn either_way(&mut self, left: u32, right: u32) -> u32 {
+    pub fn either_way(&mut self, left: u32, right: u32) -> u32 {
         match self.random.once_in(2) {
             true => self.tables.equality(left, right),
             false => self.tables.equality(right, left),
@@ -330,7 +344,10 @@ impl World {
         }
         if self.random.once_in(100) {
             let last = *plan.actions.last().expect("an action");
-            plan.actions.resize(job::limits::ACTIONS, last);
+            let is_let = self.tables.of(Table::Actions)[last as usize].kind == 0;
+            if !(self.counting && is_let) {
+                plan.actions.resize(job::limits::ACTIONS, last);
+            }
         }
         plan.head_pairs = pairs;
     }

@@ -19,6 +19,9 @@ pub struct Views {
 impl World {
     /// Appends a step that holds.
     pub fn any_step(&mut self) -> Proved {
+        if self.counting && self.random.once_in(8) {
+            return self.merge_step();
+        }
         match self.random.below(18) {
             0 => self.symmetry_step(),
             1..=3 => self.transitivity_step(),
@@ -150,8 +153,8 @@ impl World {
         self.note(proof, pair)
     }
 
-    /// Two proofs that can be merged.
-    pub fn views(&mut self) -> Option<Views> {
+    /// The terms that are known to equal themselves; of a counting world mostly views of integers.
+    fn reflexive_terms(&mut self) -> Vec<u32> {
         let terms: Vec<u32> = self
             .global_pairs
             .iter()
@@ -164,6 +167,15 @@ impl World {
                     .map(|proved| proved.right),
             )
             .collect();
+        match self.counting {
+            true => self.views_of_integers(terms),
+            false => terms,
+        }
+    }
+
+    /// Two proofs that can be merged.
+    pub fn views(&mut self) -> Option<Views> {
+        let terms = self.reflexive_terms();
         let old = self.random.pick_any(&terms)?;
         let (head, mut inputs) = self.as_application(old)?;
         let old_value = inputs.pop()?;

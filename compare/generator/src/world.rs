@@ -2,6 +2,7 @@
 
 use std::collections::{BTreeMap, HashMap, HashSet};
 
+use job::build::integer_words;
 use job::{Table, Tables};
 
 use crate::names::Names;
@@ -47,10 +48,14 @@ pub struct World {
     nodes: Vec<usize>,
     /// The name of the rule by which anything is assumed.
     assumption: Option<u32>,
+    /// There are primitives of kinds 4 to 8, and integers at their extremes.
+    pub counting: bool,
+    /// The names that were bound to integers when last looked at; of a counting world only.
+    pub integer_names: Vec<u32>,
 }
 
 impl World {
-    pub fn empty(mut random: Random) -> World {
+    pub fn empty(mut random: Random, counting: bool) -> World {
         let names = Names::any(&mut random);
         World {
             random,
@@ -65,6 +70,8 @@ impl World {
             absent_rows: HashSet::new(),
             nodes: Vec::new(),
             assumption: None,
+            counting,
+            integer_names: Vec::new(),
         }
     }
 
@@ -113,6 +120,9 @@ impl World {
 
     /// A term other than the given one.
     pub fn other_term(&mut self, than: u32) -> u32 {
+        if let Some(near) = self.near_integer(than) {
+            return near;
+        }
         loop {
             let term = match self.random.once_in(3) {
                 true => self.any_literal_term(),
@@ -127,6 +137,9 @@ impl World {
     }
 
     pub fn any_literal(&mut self) -> [u32; 3] {
+        if self.counting && !self.random.once_in(3) {
+            return integer_words(self.any_integer());
+        }
         match self.random.below(12) {
             0 => [0, 0, 0],
             1 => [1, self.random.below(2) as u32, 0],

@@ -108,15 +108,18 @@ impl Tables {
         self.push(Table::Functions, 1, &[name, merge])
     }
 
-    /// Kind: plus 1 with a validator, plus 2 with a container as output.
+    /// Kind: 0 to 3, plus 1 with a validator, plus 2 with a container as output; 4 to 8 compute
+    /// with integers.
     pub fn primitive(&mut self, kind: u32, name: u32) -> u32 {
         self.push(Table::Primitives, kind, &[name])
     }
 
+    /// Of a primitive of kind 1 or 3.
     pub fn row(&mut self, primitive: u32, result: u32, arguments: &[u32]) -> u32 {
         self.push(Table::Rows, 0, &joined(&[primitive, result], arguments))
     }
 
+    /// By a primitive of kind 1 or 3.
     pub fn normaliser(&mut self, head: u32, primitive: u32) -> u32 {
         self.push(Table::Normalisers, 0, &[head, primitive])
     }

@@ -4,6 +4,7 @@ pub mod build;
 pub mod layout;
 pub mod limits;
 pub mod load;
+pub mod primitives;
 pub mod tables;
 
 pub use layout::{Cell, Job, Sizes, Table};

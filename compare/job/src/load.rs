@@ -51,7 +51,7 @@ pub fn refusal(words: &[u32], asked: u32, lent: &Lent) -> Option<Refusal> {
 fn cell_refusal(job: &Job) -> Option<Refusal> {
     least_cell(job, 6, forms::malformed)
         .or_else(|| least_cell(job, 7, references::out_of_range))
-        .or_else(|| least_cell(job, 8, validators::without_validator))
+        .or_else(|| least_cell(job, 8, validators::looks_nothing_up))
         .or_else(|| {
             duplicates::least_cell(job).map(|cell| Refusal {
                 number: 9,

@@ -3,7 +3,7 @@
 use std::cell::Cell;
 use std::sync::Arc;
 
-use job::{Job, Table};
+use job::{Job, Table, primitives};
 
 use crate::ast::{FunctionSubtype, ResolvedExpr, ResolvedVar, Span};
 use crate::check::TooManySteps;
@@ -26,7 +26,7 @@ pub struct Expressions<'a> {
 
 impl<'a> Expressions<'a> {
     pub fn new(job: &'a Job<'a>, validators: &[PrimitiveValidator]) -> Expressions<'a> {
-        let primitives = primitives(job, validators);
+        let resolved = resolved_primitives(job, validators);
         let mut expressions = Expressions {
             job,
             heads: Vec::new(),
@@ -39,7 +39,7 @@ impl<'a> Expressions<'a> {
             let head = match cell.kind {
                 2 => Some(function(name, FunctionSubtype::Constructor)),
                 3 => Some(function(name, FunctionSubtype::Custom)),
-                4 => Some(ResolvedCall::Primitive(primitives[name as usize].clone())),
+                4 => Some(ResolvedCall::Primitive(resolved[name as usize].clone())),
                 _ => None,
             };
             let inside = match head {
@@ -101,16 +101,19 @@ pub fn function(name: u32, subtype: FunctionSubtype) -> ResolvedCall {
     }))
 }
 
-fn primitives(job: &Job, validators: &[PrimitiveValidator]) -> Vec<Arc<SpecializedPrimitive>> {
+fn resolved_primitives(
+    job: &Job,
+    validators: &[PrimitiveValidator],
+) -> Vec<Arc<SpecializedPrimitive>> {
     job.cells(Table::Primitives)
         .zip(validators)
         .map(|(cell, validator)| {
             Arc::new(SpecializedPrimitive {
                 name: names::text(cell.words[0]),
                 output: Sort {
-                    container: cell.kind & 2 != 0,
+                    container: primitives::gives_containers(cell.kind),
                 },
-                validator: (cell.kind & 1 != 0).then(|| validator.clone()),
+                validator: primitives::has_validator(cell.kind).then(|| validator.clone()),
             })
         })
         .collect()

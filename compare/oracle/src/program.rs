@@ -2,7 +2,7 @@
 
 use std::sync::Arc;
 
-use job::{Cell, Job, Table};
+use job::{Cell, Job, Table, primitives};
 
 use crate::NumericId;
 use crate::ast::{
@@ -11,6 +11,7 @@ use crate::ast::{
 };
 use crate::check::TooManySteps;
 use crate::core::ResolvedCall;
+use crate::counts;
 use crate::expressions::{Expressions, function};
 use crate::names;
 use crate::proofs::proof_format::{Justification, ProofId, ProofStore, Proposition};
@@ -19,7 +20,7 @@ use crate::termdag::{TermDag, TermId};
 use crate::typechecking::PrimitiveValidator;
 use crate::util::{HashMap, Room};
 
-/// For each primitive, a validator that looks the job's rows up.
+/// For each primitive, a validator: one that computes, or one that looks the job's rows up.
 pub fn validators(job: &Job) -> Vec<PrimitiveValidator> {
     let mut rows: Vec<HashMap<Vec<TermId>, TermId>> =
         vec![HashMap::default(); job.count(Table::Primitives)];
@@ -27,10 +28,16 @@ pub fn validators(job: &Job) -> Vec<PrimitiveValidator> {
         let arguments = cell.words[2..].iter().map(|&term| term as TermId).collect();
         rows[cell.words[0] as usize].insert(arguments, cell.words[1] as TermId);
     }
-    rows.into_iter().map(validator).collect()
+    job.cells(Table::Primitives)
+        .zip(rows)
+        .map(|(cell, rows)| match primitives::counts(cell.kind) {
+            true => counts::validator(cell.kind),
+            false => looks_up(rows),
+        })
+        .collect()
 }
 
-fn validator(rows: HashMap<Vec<TermId>, TermId>) -> PrimitiveValidator {
+fn looks_up(rows: HashMap<Vec<TermId>, TermId>) -> PrimitiveValidator {
     Arc::new(move |_: &mut TermDag, arguments: &[TermId]| rows.get(arguments).copied())
 }
 

@@ -246,7 +246,10 @@ fn number_6_other_tables() {
     cell_refused(6, Table::Functions, 0, &[F, 0]);
     cell_refused(6, Table::Functions, 1, &[F]);
     cell_refused(6, Table::Functions, 2, &[F]);
-    cell_refused(6, Table::Primitives, 4, &[F]);
+    cell_refused(6, Table::Primitives, 9, &[F]);
+    for kind in 0..=8 {
+        cell_passes(Table::Primitives, kind, &[F]);
+    }
     cell_refused(6, Table::Primitives, 0, &[]);
     cell_refused(6, Table::Primitives, 0, &[F, F]);
     cell_refused(6, Table::Rows, 1, &[0, 0]);

@@ -1,6 +1,8 @@
-//! Jobs A and B of document 01 as cases: the twelve marked ones and the unmarked ones.
+//! Jobs A and B of document 01 as cases: the twelve marked ones and the unmarked ones. A job whose
+//! primitives compute.
 
 use generator::Case;
+use job::primitives::{PRODUCT, QUOTIENT, SUM};
 use job::{Table, Tables};
 
 const F: u32 = 4;
@@ -114,4 +116,54 @@ pub fn cases() -> Vec<Case> {
         arguments(16),
         arguments(17),
     ]
+}
+
+const OLD: u32 = 0;
+const NEW: u32 = 1;
+const TILT: u32 = 4;
+const LEVEL: u32 = 5;
+const STATION: u32 = 6;
+const COUNT: u32 = 7;
+const LEVELLED: u32 = 8;
+
+/// Two tilt counts of station 1, 3 and -5, are merged by their sum; five times that by 4, rounded toward
+/// zero, is the station's level: -2. Only the sum's and the quotient's results are terms of the job.
+pub fn tilt() -> Tables {
+    let mut tables = Tables::default();
+    let station = tables.term_integer(1);
+    let counts = [3, -5].map(|count| tables.term_integer(count));
+    let views = counts.map(|count| tables.term_application(TILT, &[station, count]));
+    let sum = tables.term_integer(-2);
+    let merged = tables.term_application(TILT, &[station, sum]);
+    let level = tables.term_application(LEVEL, &[station]);
+    tilt_program(&mut tables);
+    let [old, new] = views.map(|view| tables.fiat((view, view)));
+    let merge = tables.merge_step((merged, merged), TILT, old, new);
+    let pairs = [(STATION, station), (COUNT, sum)];
+    tables.rule_step((level, sum), LEVELLED, &[merge], &pairs);
+    tables
+}
+
+/// The two counts as globals, the function with its merge, and the rule.
+fn tilt_program(tables: &mut Tables) {
+    let kinds = [SUM, PRODUCT, QUOTIENT];
+    let [sum, product, quotient] = kinds.map(|kind| tables.primitive(kind, kind + 10));
+    let [one, five, four] = [1, 5, 4].map(|value| tables.integer(value));
+    for count in [3, -5] {
+        let count = tables.integer(count);
+        let call = tables.custom(TILT, &[one, count]);
+        tables.set_action(call);
+    }
+    tables.globals = 2;
+    let [old, new] = [OLD, NEW].map(|name| tables.variable(name));
+    let merge = tables.primitive_call(sum, &[old, new]);
+    tables.function(TILT, merge);
+    let [station, count] = [STATION, COUNT].map(|name| tables.variable(name));
+    let tilt = tables.custom(TILT, &[station]);
+    let fact = tables.equality(tilt, count);
+    let times = tables.primitive_call(product, &[count, five]);
+    let by = tables.primitive_call(quotient, &[times, four]);
+    let level = tables.constructor(LEVEL, &[station]);
+    let head = tables.union_action(level, by);
+    tables.rule(LEVELLED, &[fact], &[head]);
 }

@@ -2,7 +2,7 @@
 
 use std::fmt::Write;
 
-use job::{Cell, Job, Table};
+use job::{Cell, Job, Table, primitives};
 
 /// All cells of a job, or why there are none.
 pub fn job(words: &[u32]) -> String {
@@ -64,11 +64,7 @@ fn shown(table: Table, cell: Cell) -> String {
         (Table::Actions, 5, []) => "change".to_string(),
         (Table::Functions, 0, [name]) => format!("{name} without merge"),
         (Table::Functions, 1, [name, merge]) => format!("{name} merge {merge}"),
-        (Table::Primitives, 0..=3, [name]) => format!(
-            "{name}{}{}",
-            if kind & 1 != 0 { " with validator" } else { "" },
-            if kind & 2 != 0 { " of containers" } else { "" },
-        ),
+        (Table::Primitives, 0..=8, [name]) => format!("{name}{}", primitive(kind)),
         (Table::Rows, 0, [primitive, result, rest @ ..]) => {
             format!("primitive {primitive} {rest:?} -> {result}")
         }
@@ -81,6 +77,21 @@ fn shown(table: Table, cell: Cell) -> String {
             format!("{left} = {right} by {}", justification(kind, rest))
         }
         _ => format!("kind {kind} words {words:?}"),
+    }
+}
+
+/// What a primitive of a known kind does.
+fn primitive(kind: u32) -> &'static str {
+    match kind {
+        0 => "",
+        1 => " with validator",
+        2 => " of containers",
+        3 => " with validator of containers",
+        primitives::SUM => " sum",
+        primitives::DIFFERENCE => " difference",
+        primitives::PRODUCT => " product",
+        primitives::NEGATION => " negation",
+        _ => " quotient",
     }
 }
 

@@ -17,6 +17,14 @@ fn checkproof_on_job_a() {
 }
 
 #[test]
+fn checkproof_on_tilt_counts() {
+    let job = to_bytes(&bench_jobs::tilt().words());
+    let example = Path::new(env!("CARGO_MANIFEST_DIR")).join("../../examples/tilt.bin");
+    assert!(fs::read(example).expect("the example") == job);
+    assert_eq!(printed(&job), "0 11 7 5 3 0 0 0\n");
+}
+
+#[test]
 fn checkproof_on_no_job() {
     assert_eq!(printed(&[]), "1 0 0 0 0 0 0 0\n");
     assert_eq!(printed(&[0; 48]), "3 0 0 0 0 0 0 0\n");

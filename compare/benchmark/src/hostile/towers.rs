@@ -1,8 +1,9 @@
 //! Rule steps and merges one under another, each evaluating an expression of up to 4,096 levels.
 
-use generator::extremes::{F, X};
+use generator::extremes::{F, RULE, X};
 use job::Tables;
 use job::limits::{ACTIONS, CELLS, FACTS, GLOBALS, OPERANDS};
+use job::primitives::SUM;
 
 use super::ground::{ONE, climb, climb_on_one, literal};
 
@@ -19,6 +20,27 @@ pub fn head(steps: usize, width: usize) -> Tables {
     let top = tables.tower(F, ONE, LEVELS, width);
     let head = tables.expression_action(top);
     climb_on_one(&mut tables, &[head], &[], steps);
+    tables
+}
+
+/// Each head adds 1 as often as it can, to the integers that the steps have in turn.
+pub fn sums(steps: usize, integers: u32) -> Tables {
+    let mut tables = literal();
+    for value in 2..=integers {
+        tables.term_integer(i64::from(value));
+    }
+    let sum = tables.primitive(SUM, F);
+    let mut top = tables.variable(X);
+    for _ in 1..LEVELS {
+        top = tables.primitive_call(sum, &[top, ONE]);
+    }
+    let head = tables.expression_action(top);
+    let fact = tables.bare(ONE);
+    tables.rule(RULE, &[fact], &[head]);
+    let mut below = tables.fiat((ONE, ONE));
+    for step in 0..steps as u32 {
+        below = tables.rule_step((ONE, ONE), RULE, &[below], &[(X, step % integers)]);
+    }
     tables
 }
 

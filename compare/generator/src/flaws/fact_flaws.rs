@@ -23,11 +23,17 @@ impl World {
     /// Puts a fact with this flaw somewhere among the facts that hold.
     pub(super) fn insert_flawed_fact(&mut self, plan: &mut Plan, number: u32) {
         let good = plan.facts.len();
+        self.note_integers(&plan.working);
+        let count = self.counting && !self.random.once_in(3);
         let (fact, premise) = match number {
             28 => self.function_fact_flaw(plan),
             29 | 30 => return self.swap_premise(plan, number),
             42 => self.condition_flaw(plan),
             45 => self.unbound_fact(plan),
+            46 if count && self.random.once_in(2) => self.condition_without_count(plan),
+            46 if count => {
+                self.ordinary(plan, |world, names| world.count_without_value(names, false))
+            }
             46 | 51 if self.random.once_in(2) => self.condition_without_value(plan, number),
             46 => self.ordinary(plan, |world, names| world.call_without_row(names)),
             51 => self.condition_without_value(plan, number),
@@ -45,6 +51,7 @@ impl World {
     /// A fact that fits, opposite a proof that does not.
     fn swap_premise(&mut self, plan: &mut Plan, number: u32) {
         match number {
+            _ if self.counting && self.random.once_in(2) => self.plan_count(plan, number == 30),
             29 => self.plan_equality(plan),
             _ => self.plan_bare(plan),
         }
@@ -83,7 +90,10 @@ impl World {
         let names: Vec<u32> = plan.pairs.keys().copied().collect();
         let mut words = vec![self.any_head()];
         for _ in 0..self.argument_count() {
-            words.push(self.leaf(&names));
+            words.push(match self.counting && self.random.once_in(3) {
+                true => self.count_expression(&names, 1),
+                false => self.leaf(&names),
+            });
         }
         let call = self.expression(3, &words);
         let name = self.fresh_name(plan);
@@ -133,8 +143,13 @@ impl World {
         plan.pairs.insert(name, other);
         plan.working.insert(name, other);
         let variable = self.expression(1, &[name]);
-        let side = match self.random.below(3) {
-            0 => {
+        let count = match self.counting && self.random.once_in(2) {
+            true => self.count_for(other, plan, 1),
+            false => None,
+        };
+        let side = match (count, self.random.below(3)) {
+            (Some(count), _) => count,
+            (None, 0) => {
                 let head = self.any_head();
                 let kind = self.random.pick(&[2, 3]);
                 self.expression(kind, &[head, variable])
@@ -271,7 +286,7 @@ impl World {
         let mut offender = match number {
             49 => {
                 let inner = self.expression(kind, &[head, leaf]);
-                let primitive = self.some_primitive(&[0, 1, 2, 3]);
+                let primitive = self.primitive_of_any_kind();
                 self.expression(4, &[primitive, leaf, inner])
             }
             _ => {

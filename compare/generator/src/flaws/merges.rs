@@ -126,6 +126,8 @@ impl World {
                 .find(|&name| name > 1)
                 .unwrap_or(2),
         };
+        let bound = [(OLD, views.old_value), (NEW, views.new_value)];
+        self.note_integers(&bound.into());
         let merge = self.flawed_expression(number, &[OLD, NEW], unbound);
         let name = 2_000_000;
         self.tables.function(name, merge);

@@ -15,6 +15,9 @@ impl World {
             let earlier = self.random.pick(&[28, 29, 30, 42, 45, 46, 47, 49, 50, 52]);
             self.insert_flawed_fact(&mut plan, earlier);
         }
+        if number == 46 && self.counting && self.random.once_in(2) {
+            self.bind_no_integer(&mut plan);
+        }
         match number {
             28..=30 | 42 | 47 | 49 | 50 | 52 => self.insert_flawed_fact(&mut plan, number),
             45 | 46 | 51 => match self.random.once_in(2) {
@@ -92,6 +95,7 @@ impl World {
     fn insert_flawed_action(&mut self, plan: &mut Plan, number: u32) {
         let names: Vec<u32> = plan.pairs.keys().copied().collect();
         let unbound = self.fresh_name(plan);
+        self.note_integers(&plan.pairs);
         let expression = self.flawed_expression(number, &names, unbound);
         let action = self.action_with(expression);
         let place = self.random.below(plan.actions.len() + 1);

@@ -2,6 +2,7 @@
 
 use crate::layout::{Job, Table};
 use crate::limits;
+use crate::primitives;
 
 /// The cell's own words are not of a form that its kind allows.
 pub fn malformed(job: &Job, table: Table, number: usize) -> bool {
@@ -13,7 +14,7 @@ pub fn malformed(job: &Job, table: Table, number: usize) -> bool {
         Table::Facts => fact(cell.kind, words),
         Table::Actions => action(job, cell.kind, words),
         Table::Functions => function(cell.kind, words),
-        Table::Primitives => cell.kind <= 3 && words.len() == 1,
+        Table::Primitives => primitives::known(cell.kind) && words.len() == 1,
         Table::Rows => cell.kind == 0 && operands(words, 2, limits::OPERANDS),
         Table::Normalisers => cell.kind == 0 && words.len() == 2,
         Table::Rules => cell.kind == 0 && rule(words),

@@ -1,8 +1,10 @@
-//! 8: a row or normaliser on a primitive without validator.
+//! 8: a row or normaliser on a primitive that looks nothing up.
 
 use crate::layout::{Job, Table};
+use crate::primitives;
 
-pub fn without_validator(job: &Job, table: Table, number: usize) -> bool {
+/// The cell names a primitive that has no validator, or whose validator computes.
+pub fn looks_nothing_up(job: &Job, table: Table, number: usize) -> bool {
     let words = job.cell(table, number).words;
     let primitive = match table {
         Table::Rows => words[0],
@@ -10,5 +12,5 @@ pub fn without_validator(job: &Job, table: Table, number: usize) -> bool {
         _ => return false,
     };
     let kind = job.cell(Table::Primitives, primitive as usize).kind;
-    kind.is_multiple_of(2)
+    !primitives::looks_rows_up(kind)
 }

@@ -1,9 +1,10 @@
-//! How often each number is the answer: histogram [seeds], 200,000 unless told otherwise.
+//! How often each number is the answer: histogram [seeds], 200,000 unless told otherwise; of the seeds'
+//! jobs, then of their counting jobs.
 
 use std::collections::BTreeMap;
 use std::time::Instant;
 
-use generator::job;
+use generator::{Case, counting_job, job};
 
 const SEEDS: u64 = 200_000;
 
@@ -12,12 +13,18 @@ fn main() {
         Some(text) => text.parse().expect("a number of seeds"),
         None => SEEDS,
     };
+    histogram("job", job, seeds);
+    histogram("counting job", counting_job, seeds);
+}
+
+/// Prints the numbers of the cases that the seeds make.
+fn histogram(name: &str, made: fn(u64) -> Case, seeds: u64) {
     let started = Instant::now();
     let mut counts: BTreeMap<u32, u64> = BTreeMap::new();
     let mut too_many_steps = 0;
     let (mut words, mut longest, mut grown) = (0, 0, 0);
     for seed in 0..seeds {
-        let case = job(seed);
+        let case = made(seed);
         words += case.job.len();
         longest = longest.max(case.job.len());
         match case.judge() {
@@ -28,7 +35,7 @@ fn main() {
             Err(_) => too_many_steps += 1,
         }
     }
-    println!("seeds {seeds}");
+    println!("{name}, seeds {seeds}");
     for (number, count) in &counts {
         println!("{number:>3} {count:>7}");
     }

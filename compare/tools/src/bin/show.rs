@@ -2,6 +2,7 @@
 //!
 //!     show FILE [ASKED]      a job as bytes, with the program's store
 //!     show --seed SEED       the generator's case of a seed
+//!     show --counting SEED   its counting case
 //!     show --fixed FILE N    the Nth job of a fixed list
 
 use std::fs;
@@ -16,6 +17,7 @@ fn main() {
     let number = |text: &str| text.parse::<u64>().expect("a number");
     let case = match arguments[..] {
         ["--seed", seed] => generator::job(number(seed)),
+        ["--counting", seed] => generator::counting_job(number(seed)),
         ["--fixed", file, place] => {
             let words = to_words(&fs::read(file).expect("a list"));
             fixed_list::read(&words)[number(place) as usize]
@@ -25,7 +27,7 @@ fn main() {
         [file] => from_file(file, None),
         [file, asked] => from_file(file, Some(number(asked) as u32)),
         _ => {
-            eprintln!("show FILE [ASKED] | --seed SEED | --fixed FILE N");
+            eprintln!("show FILE [ASKED] | --seed SEED | --counting SEED | --fixed FILE N");
             std::process::exit(2);
         }
     };
