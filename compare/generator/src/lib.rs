@@ -24,6 +24,7 @@ mod world;
 use job::{Table, Tables};
 
 pub use case::{Case, Outcome};
+pub use counts::EXTREMES;
 pub use random::Random;
 
 use world::World;
