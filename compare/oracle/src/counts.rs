@@ -27,8 +27,8 @@ fn integer(term: &Term) -> Option<i64> {
     }
 }
 
-/// `None` for another count of arguments, a result that does not fit, or a divisor 0.
-fn value(kind: u32, arguments: &[i64]) -> Option<i64> {
+/// What a kind gives: `None` for another count of arguments, a result that does not fit, or a divisor 0.
+pub fn value(kind: u32, arguments: &[i64]) -> Option<i64> {
     match (kind, arguments) {
         (SUM, [first, second]) => first.checked_add(*second),
         (DIFFERENCE, [first, second]) => first.checked_sub(*second),

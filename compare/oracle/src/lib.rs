@@ -19,7 +19,7 @@ pub mod util;
 
 mod answer;
 mod check;
-mod counts;
+pub mod counts;
 mod expressions;
 mod names;
 mod panics;

@@ -1,9 +1,10 @@
-//! The lines that the proved program `count_cases` writes, each by Rust's checked operations.
+//! The lines that the proved program `count_cases` writes, each by the harness's checked operations.
 
 use std::fs;
 use std::path::Path;
 
-use job::primitives::{DIFFERENCE, NEGATION, PRODUCT, QUOTIENT, SUM};
+use job::build::integer_words;
+use oracle::counts;
 
 /// The integer of a literal's three words, if it is one.
 fn integer(words: &[u32]) -> Option<i64> {
@@ -11,22 +12,17 @@ fn integer(words: &[u32]) -> Option<i64> {
     (words[0] == 2).then_some(bits as i64)
 }
 
-/// What a kind gives for so many arguments, of which these are the first.
-fn value(kind: u32, count: u32, first: Option<i64>, second: Option<i64>) -> Option<i64> {
-    match (kind, count) {
-        (SUM, 2) => first?.checked_add(second?),
-        (DIFFERENCE, 2) => first?.checked_sub(second?),
-        (PRODUCT, 2) => first?.checked_mul(second?),
-        (NEGATION, 1) => first?.checked_neg(),
-        (QUOTIENT, 2) => first?.checked_div(second?),
-        _ => None,
-    }
+/// What a kind gives for so many arguments, of which these are the first; no kind takes three.
+fn value(kind: u32, count: usize, first: [Option<i64>; 2]) -> Option<i64> {
+    let arguments: Option<Vec<i64>> = first.get(..count)?.iter().copied().collect();
+    counts::value(kind, &arguments?)
 }
 
 /// One and the value's two words, or zeros.
 fn words_of(value: Option<i64>) -> [u32; 3] {
     value.map_or([0; 3], |value| {
-        [1, value as u32, (value as u64 >> 32) as u32]
+        let [_, low, high] = integer_words(value);
+        [1, low, high]
     })
 }
 
@@ -40,8 +36,8 @@ fn each_line_is_what_the_checked_operations_give() {
             .split(' ')
             .map(|word| word.parse().expect("a word"))
             .collect();
-        let [first, second] = [&words[2..5], &words[5..8]].map(integer);
-        let expected = words_of(value(words[0], words[1], first, second));
+        let first = [&words[2..5], &words[5..8]].map(integer);
+        let expected = words_of(value(words[0], words[1] as usize, first));
         assert_eq!(words[8..], expected, "{line}");
         values += expected[0];
     }
