@@ -1,5 +1,6 @@
 -- The global actions, then the walk from no proof checked.
 use mathlib.Core.Path.{_≡_, refl, sym, ap, subst, subst⁻¹, _∙_}
+use mathlib.Core.Bool.{Bool}
 use mathlib.Core.List.{List, [], _++_, append-nil}
 use Prim.Native.Nat.{ℕ, suc, _+_, _-_, _<_, _≤_}
 use native.Mathlib.Omega.{arith}
@@ -54,7 +55,7 @@ pub marks-kept : (M R Z : List ℕ) (c k : ℕ) → length M ≡ c → c + c ≤
 marks-kept M R Z c k l h =
     sym (take-take c (c + c) (putMid (c + c) k (M ++ R) Z) (omega arith)) ∙ ap (take c) (take-put (c + c) k (M ++ R) Z h) ∙ take-take c (c + c) (M ++ R) (omega arith) ∙ take-at M R c l
 
-module _ {J : List ℕ} {k e p : List ℕ} {f : Fill} {W : List ℕ} (g : Given J k e p f W) (asked : ℕ) (h : asked < sizesOf J .proofs)
+module _ {J : List ℕ} {k e p : List ℕ} {f : Fill} {W : List ℕ} (g : Given J k e p f W) (strict : Bool) (asked : ℕ) (h : asked < sizesOf J .proofs)
     {k₁ e₁ p₁ : List ℕ} {r : Globals} {memo₁ m₁ T U : List ℕ} (C : Context (programFor J) k e p f k₁ e₁ p₁ r memo₁ m₁ T U) where
   abbrev prog : Program
   prog = programFor J
@@ -63,13 +64,13 @@ module _ {J : List ℕ} {k e p : List ℕ} {f : Fill} {W : List ℕ} (g : Given 
   proofs = proofsFor J
 
   abbrev next : Room → ActionContext → Check program.Proposition
-  next room ctx = checkProofWithContext room prog proofs ctx (suc (length proofs)) asked [] >>= λ _. pure (claimAt proofs asked)
+  next room ctx = checkProofWithContext room prog proofs ctx strict (suc (length proofs)) asked [] >>= λ _. pure (claimAt proofs asked)
 
-  is-check : (room : Room) (s : List Term) → andThen (newContext room prog s) (next room) ≡ checkProof room prog proofs asked s
+  is-check : (room : Room) (s : List Term) → andThen (newContext room prog s) (next room) ≡ checkProof room prog proofs strict asked s
   unfolding checkProof
   is-check room s = refl
 
-  pub check-stops : (r .refusal .number ≡ 0 → ⊥) → Does k e p f k₁ e₁ p₁ (r .fill) (r .refusal) (claimAt proofs asked) (checkProof (roomOf k p) prog proofs asked (termsIn k e p f))
+  pub check-stops : (r .refusal .number ≡ 0 → ⊥) → Does k e p f k₁ e₁ p₁ (r .fill) (r .refusal) (claimAt proofs asked) (checkProof (roomOf k p) prog proofs strict asked (termsIn k e p f))
   check-stops n = subst (Does k e p f k₁ e₁ p₁ (r .fill) (r .refusal) (claimAt proofs asked)) (is-check (roomOf k p) (termsIn k e p f)) (does-stop (claimAt proofs asked) (next (roomOf k p)) (C .does) n)
 
   module _ (n : r .refusal .number ≡ 0) {G : List ℕ} (gq : G ≡ drop (r .bindings) T) where
@@ -89,21 +90,21 @@ module _ {J : List ℕ} {k e p : List ℕ} {f : Fill} {W : List ℕ} (g : Given 
     }
 
     pub check-walks : {F W₁ k₂ e₂ p₂ : List ℕ} {f₂ : Fill} {c : Refusal} {memo₂ W₂ : List ℕ} → take (length k₁) W₁ ≡ m₁ → Flags (length k₁) W₁ (sizesOf J .proofs) []
-        → Walks J F G (take (r .unions) U) k₁ e₁ p₁ (r .fill) W₁ k₂ e₂ p₂ f₂ c memo₂ W₂ (λ d. d) (λ room ps done. checkProofWithContext room prog proofs (contextOf G ps) (suc asked) asked done)
-        → Does k e p f k₂ e₂ p₂ f₂ c (claimAt proofs asked) (checkProof (roomOf k p) prog proofs asked (termsIn k e p f))
+        → Walks J F G (take (r .unions) U) k₁ e₁ p₁ (r .fill) W₁ k₂ e₂ p₂ f₂ c memo₂ W₂ (λ d. d) (λ room ps done. checkProofWithContext room prog proofs (contextOf G ps) strict (suc asked) asked done)
+        → Does k e p f k₂ e₂ p₂ f₂ c (claimAt proofs asked) (checkProof (roomOf k p) prog proofs strict asked (termsIn k e p f))
     check-walks {W₁ = W₁} {k₂ = k₂} {e₂ = e₂} {p₂ = p₂} {f₂ = f₂} {c = c} mq fl w =
         let x = w .walked (C .context .pairs) [] (subst⁻¹ (GlobalPairs (C .context .pairs) (take (r .unions) U)) mq (C .pairs n)) fl in
         subst (Does k e p f k₂ e₂ p₂ f₂ c (claimAt proofs asked)) (is-check (roomOf k p) (termsIn k e p f))
         (does-then next (C .does) n (does-map (λ _. claimAt proofs asked) (claimAt proofs asked)
-        (subst (Does k₁ e₁ p₁ (r .fill) k₂ e₂ p₂ f₂ c (x .done)) (fuel ∙ ap (λ (ctx : ActionContext). checkProofWithContext (roomOf k₁ p₁) prog proofs ctx (suc (length proofs)) asked [] (termsIn k₁ e₁ p₁ (r .fill))) same-context) (x .does))
+        (subst (Does k₁ e₁ p₁ (r .fill) k₂ e₂ p₂ f₂ c (x .done)) (fuel ∙ ap (λ (ctx : ActionContext). checkProofWithContext (roomOf k₁ p₁) prog proofs ctx strict (suc (length proofs)) asked [] (termsIn k₁ e₁ p₁ (r .fill))) same-context) (x .does))
         (λ _. refl)))
       where
         many : length proofs ≡ sizesOf J .proofs
         many = length-map (tablesFor J .proofs) readProof ∙ table-long J 9 (lit< tt)
 
-        fuel : checkProofWithContext (roomOf k₁ p₁) prog proofs (contextOf G (C .context .pairs)) (suc asked) asked [] (termsIn k₁ e₁ p₁ (r .fill))
-            ≡ checkProofWithContext (roomOf k₁ p₁) prog proofs (contextOf G (C .context .pairs)) (suc (length proofs)) asked [] (termsIn k₁ e₁ p₁ (r .fill))
-        fuel = fuel-for (g .ready) (contextOf G (C .context .pairs)) (roomOf k₁ p₁) asked (suc (length proofs)) (omega (arith, many)) [] (termsIn k₁ e₁ p₁ (r .fill))
+        fuel : checkProofWithContext (roomOf k₁ p₁) prog proofs (contextOf G (C .context .pairs)) strict (suc asked) asked [] (termsIn k₁ e₁ p₁ (r .fill))
+            ≡ checkProofWithContext (roomOf k₁ p₁) prog proofs (contextOf G (C .context .pairs)) strict (suc (length proofs)) asked [] (termsIn k₁ e₁ p₁ (r .fill))
+        fuel = fuel-for (g .ready) (contextOf G (C .context .pairs)) strict (roomOf k₁ p₁) asked (suc (length proofs)) (omega (arith, many)) [] (termsIn k₁ e₁ p₁ (r .fill))
 
 -- a memo that is cleared
 pub past-cleared : (n : ℕ) → Past (zeros n)

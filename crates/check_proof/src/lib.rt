@@ -13,9 +13,10 @@ ghost use Rattle.program.specs.Ready.{programFor};
 ghost use Rattle.program.specs.Read.{proofsFor};
 ghost use Rattle.check_proof.specs.Checking.{Given};
 
-// The outcome of the asked proof: passed, or a refusal. Whatever scratch held makes no difference.
+// The outcome of the asked proof, in strict mode or not: passed, or a refusal. Whatever scratch held makes no difference.
 pub fn check_proof(
     job: &[u32],
+    strict: bool,
     skinds: &mut [u32],
     sends: &mut [u32],
     spool: &mut [u32],
@@ -25,7 +26,7 @@ pub fn check_proof(
 ) -> Checked
     requires { ⌜ Given (now job) (now skinds) (now sends) (now spool) fill (now scratch) ⌝ }
     requires { ⌜ asked < sizesOf (now job) .proofs ⌝ }
-    ensures { λ r. ⌜ Does (now (skinds .entry)) (now (sends .entry)) (now (spool .entry)) fill (now (skinds .exit)) (now (sends .exit)) (now (spool .exit)) (r .fill) (r .refusal) (claimAt (proofsFor (now (job .entry))) asked) (checkProof (roomOf (now (skinds .entry)) (now (spool .entry))) (programFor (now (job .entry))) (proofsFor (now (job .entry))) asked (termsIn (now (skinds .entry)) (now (sends .entry)) (now (spool .entry)) fill)) ⌝ }
+    ensures { λ r. ⌜ Does (now (skinds .entry)) (now (sends .entry)) (now (spool .entry)) fill (now (skinds .exit)) (now (sends .exit)) (now (spool .exit)) (r .fill) (r .refusal) (claimAt (proofsFor (now (job .entry))) asked) (checkProof (roomOf (now (skinds .entry)) (now (spool .entry))) (programFor (now (job .entry))) (proofsFor (now (job .entry))) strict asked (termsIn (now (skinds .entry)) (now (sends .entry)) (now (spool .entry)) fill)) ⌝ }
 {
     let mut memo = [0u32; 8193];
     let mut found = [0u32; 4096];
@@ -59,6 +60,7 @@ pub fn check_proof(
     let n = g.unions;
     walk(
         job,
+        strict,
         &found,
         &table[b..],
         &unions[..n],

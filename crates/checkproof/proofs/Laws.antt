@@ -30,7 +30,7 @@ proofs-word n bytes q =
 
 -- the answer for the last proof, and, where the bytes are too many, for any
 pub last-answer : {x p : ℕ} {A₁ : List ℕ} (bytes A : List ℕ) → length A ≡ 8 → p ≡ sizesOf (wordsOf bytes) .proofs - 1 → record { number = x; answer = A₁ } ≡ hostEntry bytes p A → A₁ ≡ programAnswer bytes
-last-answer {p = p} bytes A eight e q = entry-answer bytes p A eight q ∙ ap (hostAnswer bytes) e
+last-answer {p = p} bytes A eight e q = entry-answer bytes p 0 A eight q ∙ ap (λ (n : ℕ). hostAnswer bytes n 0) e
 
 pub long-answer : {x : ℕ} {A₁ : List ℕ} (bytes A : List ℕ) → length A ≡ 8 → 65536 < length bytes → record { number = x; answer = A₁ } ≡ hostEntry bytes 0 A → A₁ ≡ programAnswer bytes
-long-answer bytes A eight l q = entry-answer bytes 0 A eight q ∙ too-long bytes 0 l ∙ sym (too-long bytes (sizesOf (wordsOf bytes) .proofs - 1) l)
+long-answer bytes A eight l q = entry-answer bytes 0 0 A eight q ∙ too-long bytes 0 0 l ∙ sym (too-long bytes (sizesOf (wordsOf bytes) .proofs - 1) 0 l)

@@ -1,6 +1,6 @@
 -- A condition keeps the store sane: it grows, and what bindings and rows name lies in it, the new binding's term too.
 use mathlib.Core.Path.{_≡_, refl, sym, ap, subst, _∙_}
-use mathlib.Core.Bool.{false}
+use mathlib.Core.Bool.{Bool, true, false}
 use mathlib.Core.List.{List, [], _∷_}
 use mathlib.Core.Option.{Option, none, some, Option·some-injective}
 use Prim.Native.Nat.{ℕ, _<_}
@@ -52,10 +52,11 @@ module _ (room : Room) (prog : Program) (rule : ℕ) (σ : List Binding) where
   compare-sane i lv (some x) rv none h k w = output-sane i rv x (h x refl) w
   compare-sane i lv (some x) rv (some y) {s} h k w = that-bind (eqb x y) 42 _ s _ tt (λ _. post-ok (extends-same, w))
 
-  pub condition-sane : (f : Fact) {s : List Term} → Sane prog σ s → Post (checkSideCondition room prog rule σ f s) (λ σ′ s′. Extends s s′ × Sane prog σ′ s′)
+  pub condition-sane : (strict : Bool) (f : Fact) {s : List Term} → Sane prog σ s → Post (checkSideCondition room prog rule σ strict f s) (λ σ′ s′. Extends s s′ × Sane prog σ′ s′)
   unfolding checkSideCondition
-  condition-sane (bare i e) w = post-ok (extends-same, w)
-  condition-sane (equal i l r) w =
+  condition-sane false (bare i e) w = post-ok (extends-same, w)
+  condition-sane true (bare i e) w = post-bind (side-sane e (variableOf (headOf e)) w) λ a s₁ m. post-ok (m .0, m .1)
+  condition-sane strict (equal i l r) w =
       post-bind (side-sane l (variableOf (headOf l)) w) λ a s₁ m.
       post-bind (side-sane r (variableOf (headOf r)) (m .1)) λ b s₂ n.
       post-map (compare-sane i (variableOf (headOf l)) a (variableOf (headOf r)) b (λ t e. let h = m .2 t e in let g = extends-length (n .0) in omega arith) (n .2) (n .1)) λ σ′ s′ k.

@@ -85,10 +85,10 @@ module _ {v : Looked} (e : Expr) (is : optionOf v ≡ variableOf (headOf e)) (ro
       → Checks K E P f K₁ E₁ P₁ f₁ r t m (valueOf false room prog rule σ e (termsIn K E P f)) → Checks K E P f K₁ E₁ P₁ f₁ r (some t) m (evalSide room prog rule σ e (termsIn K E P f))
   side-checks {K} {E} {P} {f} {t = t} d c = checks-as (side-value (termsIn K E P f) d) (record { does = does-map some (some t) (c .does) (λ _. refl); past = c .past })
 
--- a condition: its left side refused, its right side refused, both compared
-module _ (prog : Program) (rule i : ℕ) (σ : List Binding) (l r : Expr) where
+-- an equality, in either mode: its left side refused, its right side refused, both compared
+module _ (prog : Program) (rule i : ℕ) (σ : List Binding) (strict : Bool) (l r : Expr) where
   abbrev whole : List ℕ → List ℕ → List ℕ → Fill → Outcome (List Binding)
-  whole K E P f = checkSideCondition (roomOf K P) prog rule σ (equal i l r) (termsIn K E P f)
+  whole K E P f = checkSideCondition (roomOf K P) prog rule σ strict (equal i l r) (termsIn K E P f)
 
   abbrev both : Option ℕ → Option ℕ → Check (List Binding)
   both a b = compareSides rule i σ (variableOf (headOf l)) a (variableOf (headOf r)) b
@@ -124,13 +124,22 @@ module _ (prog : Program) (rule i : ℕ) (σ : List Binding) (l r : Expr) where
             (g .1 σ (termsIn K₂ E₂ P₂ (b .fill)) ∙ ap₂ (λ (j k : Option ℕ). compareSides rule i σ j (optionOf (a .value)) k (optionOf (b .value)) (termsIn K₂ E₂ P₂ (b .fill))) x y))))
 
 -- the condition that was read
-module _ (prog : Program) (rule : ℕ) (σ : List Binding) {K E P : List ℕ} {f : Fill} {m : List ℕ} {g h : Fact} (is : g ≡ h) where
-  pub condition-as : {K′ E′ P′ : List ℕ} {f′ : Fill} {r : Refusal} {β : List Binding} → Checks K E P f K′ E′ P′ f′ r β m (checkSideCondition (roomOf K P) prog rule σ g (termsIn K E P f))
-      → Checks K E P f K′ E′ P′ f′ r β m (checkSideCondition (roomOf K P) prog rule σ h (termsIn K E P f))
-  condition-as d = checks-as (ap (λ (x : Fact). checkSideCondition (roomOf K P) prog rule σ x (termsIn K E P f)) is) d
+module _ (prog : Program) (rule : ℕ) (σ : List Binding) (strict : Bool) {K E P : List ℕ} {f : Fill} {m : List ℕ} {g h : Fact} (is : g ≡ h) where
+  pub condition-as : {K′ E′ P′ : List ℕ} {f′ : Fill} {r : Refusal} {β : List Binding} → Checks K E P f K′ E′ P′ f′ r β m (checkSideCondition (roomOf K P) prog rule σ strict g (termsIn K E P f))
+      → Checks K E P f K′ E′ P′ f′ r β m (checkSideCondition (roomOf K P) prog rule σ strict h (termsIn K E P f))
+  condition-as d = checks-as (ap (λ (x : Fact). checkSideCondition (roomOf K P) prog rule σ strict x (termsIn K E P f)) is) d
 
--- a bare one passes
-pub condition-bare : (prog : Program) (rule : ℕ) (σ : List Binding) {K E P : List ℕ} {f : Fill} {m : List ℕ} (i : ℕ) (e : Expr) → Stored K E P f → Past m
-    → Checks K E P f K E P f passed σ m (checkSideCondition (roomOf K P) prog rule σ (bare i e) (termsIn K E P f))
-unfolding checkSideCondition
-condition-bare prog rule σ i e S p = checks-here S p refl
+-- a bare condition: it passes unevaluated
+module _ (prog : Program) (rule : ℕ) (σ : List Binding) (i : ℕ) (e : Expr) {K E P : List ℕ} {f : Fill} where
+  pub bare-passes : {m : List ℕ} {strict : Bool} → strict ≡ false → Stored K E P f → Past m
+      → Checks K E P f K E P f passed σ m (checkSideCondition (roomOf K P) prog rule σ strict (bare i e) (termsIn K E P f))
+  unfolding checkSideCondition
+  bare-passes {strict = strict} is S p = rw is (checks-here S p refl)
+
+  -- in strict mode it is evaluated as a side is, and binds nothing
+  pub bare-evaluated : {K₁ E₁ P₁ m₁ : List ℕ} {strict : Bool} (a : Side) {c : Condition} → strict ≡ true
+      → Checks K E P f K₁ E₁ P₁ (a .fill) (a .refusal) (optionOf (a .value)) m₁ (evalSide (roomOf K P) prog rule σ e (termsIn K E P f))
+      → c ≡ record { refusal = a .refusal; binds = Binds.Nothing; fill = a .fill }
+      → Checks K E P f K₁ E₁ P₁ (c .fill) (c .refusal) (boundOver (c .binds) σ) m₁ (checkSideCondition (roomOf K P) prog rule σ strict (bare i e) (termsIn K E P f))
+  unfolding checkSideCondition
+  bare-evaluated {K₁} {E₁} {P₁} {m₁} a is A h = rw (is, h) (record { does = does-map (λ _. σ) σ (A .does) (λ _. refl); past = A .past })

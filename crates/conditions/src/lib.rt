@@ -9,13 +9,14 @@ use outcome::Refusal;
 use program::Looked;
 use program::read::fact_at;
 ghost use mathlib.Core.Path.{_≡_};
+ghost use mathlib.Core.Bool.{Bool};
 ghost use mathlib.Core.List.{List};
 ghost use mathlib.Core.Option.{Option, none, some};
 ghost use Prim.Native.Nat.{ℕ, _+_, _<_};
 ghost use lib.ListN.{length};
 ghost use Rattle.model.specs.Layout.{sizesOf};
 ghost use Rattle.model.specs.Term.{Term};
-ghost use Rattle.model.specs.Program.{equal, Binding};
+ghost use Rattle.model.specs.Program.{equal, bare, Binding};
 ghost use Rattle.model.specs.Fact as model;
 ghost use Rattle.termdag.specs.Store.{termsIn, Stored, roomOf};
 ghost use Rattle.memo.specs.Memo.{Past};
@@ -199,20 +200,21 @@ fn compare_sides(
     compare_values(rule, i, x, y, fill)
 }
 
-// A condition whose side is refused.
-fn refused_side(s: Side) -> Condition
+// A condition that binds nothing, after its side.
+fn binds_nothing(s: Side) -> Condition
     ensures { λ r. ⌜ r ≡ record { refusal = s .refusal; binds = binds.Binds.Nothing; fill = s .fill } ⌝ }
 {
     let refusal = s.refusal;
+    let binds = Binds::Nothing;
     let fill = s.fill;
     Condition {
         refusal,
-        binds: Binds::Nothing,
+        binds,
         fill,
     }
 }
 
-// A side condition that is an equality: the left side, then the right one, then both.
+// A side condition that is an equality, in either mode: the left side, then the right one, then both.
 fn check_equality_condition(
     job: &[u32],
     bound: &[u32],
@@ -234,7 +236,7 @@ fn check_equality_condition(
     requires { ⌜ Past (now memo) ⌝ }
     requires { ⌜ left < sizesOf (now job) .expressions ⌝ }
     requires { ⌜ right < sizesOf (now job) .expressions ⌝ }
-    ensures { λ r. ⌜ Checks (now (skinds .entry)) (now (sends .entry)) (now (spool .entry)) fill (now (skinds .exit)) (now (sends .exit)) (now (spool .exit)) (r .fill) (r .refusal) (boundOver (r .binds) (bindingsIn (now (bound .entry)) (now (pairs .entry)) (now (globals .entry)))) (now (memo .exit)) (model.checkSideCondition (roomOf (now (skinds .entry)) (now (spool .entry))) (programFor (now (job .entry))) rule (bindingsIn (now (bound .entry)) (now (pairs .entry)) (now (globals .entry))) (equal i (exprFor (now (job .entry)) left) (exprFor (now (job .entry)) right)) (termsIn (now (skinds .entry)) (now (sends .entry)) (now (spool .entry)) fill)) ⌝ }
+    ensures { λ r. ⌜ ((strict : Bool) → Checks (now (skinds .entry)) (now (sends .entry)) (now (spool .entry)) fill (now (skinds .exit)) (now (sends .exit)) (now (spool .exit)) (r .fill) (r .refusal) (boundOver (r .binds) (bindingsIn (now (bound .entry)) (now (pairs .entry)) (now (globals .entry)))) (now (memo .exit)) (model.checkSideCondition (roomOf (now (skinds .entry)) (now (spool .entry))) (programFor (now (job .entry))) rule (bindingsIn (now (bound .entry)) (now (pairs .entry)) (now (globals .entry))) strict (equal i (exprFor (now (job .entry)) left) (exprFor (now (job .entry)) right)) (termsIn (now (skinds .entry)) (now (sends .entry)) (now (spool .entry)) fill))) ⌝ }
 {
     let a = eval_side(
         job,
@@ -250,7 +252,7 @@ fn check_equality_condition(
         left,
     );
     if a.refusal.number != 0 {
-        return refused_side(a);
+        return binds_nothing(a);
     }
     let b = eval_side(
         job,
@@ -266,7 +268,7 @@ fn check_equality_condition(
         right,
     );
     if b.refusal.number != 0 {
-        return refused_side(b);
+        return binds_nothing(b);
     }
     let lv = variable_of(job, left);
     let rv = variable_of(job, right);
@@ -275,9 +277,59 @@ fn check_equality_condition(
     compare_sides(rule, i, lv, x, rv, y, b.fill)
 }
 
-// `check_side_condition`: what it binds. A bare one passes unevaluated.
+// A side condition that is a bare call: it passes unevaluated; in strict mode it is evaluated as a side is. It binds nothing.
+fn check_bare_condition(
+    job: &[u32],
+    strict: bool,
+    bound: &[u32],
+    pairs: &[u32],
+    globals: &[u32],
+    rule: u32,
+    skinds: &mut [u32],
+    sends: &mut [u32],
+    spool: &mut [u32],
+    fill: Fill,
+    memo: &mut [u32],
+    i: u32,
+    e: u32,
+) -> Condition
+    requires { ⌜ Ready (now job) ⌝ }
+    requires { ⌜ Stored (now skinds) (now sends) (now spool) fill ⌝ }
+    requires { ⌜ sizesOf (now job) .expressions + sizesOf (now job) .expressions < length (now memo) ⌝ }
+    requires { ⌜ Past (now memo) ⌝ }
+    requires { ⌜ e < sizesOf (now job) .expressions ⌝ }
+    ensures { λ r. ⌜ Checks (now (skinds .entry)) (now (sends .entry)) (now (spool .entry)) fill (now (skinds .exit)) (now (sends .exit)) (now (spool .exit)) (r .fill) (r .refusal) (boundOver (r .binds) (bindingsIn (now (bound .entry)) (now (pairs .entry)) (now (globals .entry)))) (now (memo .exit)) (model.checkSideCondition (roomOf (now (skinds .entry)) (now (spool .entry))) (programFor (now (job .entry))) rule (bindingsIn (now (bound .entry)) (now (pairs .entry)) (now (globals .entry))) strict (bare i (exprFor (now (job .entry)) e)) (termsIn (now (skinds .entry)) (now (sends .entry)) (now (spool .entry)) fill)) ⌝ }
+{
+    if strict {
+        return binds_nothing(eval_side(
+            job,
+            bound,
+            pairs,
+            globals,
+            rule,
+            skinds,
+            sends,
+            spool,
+            fill,
+            memo,
+            e,
+        ));
+    }
+    Condition {
+        refusal: Refusal {
+            number: 0,
+            count: 0,
+            fields: [0; 6],
+        },
+        binds: Binds::Nothing,
+        fill,
+    }
+}
+
+// `check_side_condition`: what it binds.
 pub fn check_side_condition(
     job: &[u32],
+    strict: bool,
     bound: &[u32],
     pairs: &[u32],
     globals: &[u32],
@@ -294,7 +346,7 @@ pub fn check_side_condition(
     requires { ⌜ sizesOf (now job) .expressions + sizesOf (now job) .expressions < length (now memo) ⌝ }
     requires { ⌜ Past (now memo) ⌝ }
     requires { ⌜ i < sizesOf (now job) .facts ⌝ }
-    ensures { λ r. ⌜ Checks (now (skinds .entry)) (now (sends .entry)) (now (spool .entry)) fill (now (skinds .exit)) (now (sends .exit)) (now (spool .exit)) (r .fill) (r .refusal) (boundOver (r .binds) (bindingsIn (now (bound .entry)) (now (pairs .entry)) (now (globals .entry)))) (now (memo .exit)) (model.checkSideCondition (roomOf (now (skinds .entry)) (now (spool .entry))) (programFor (now (job .entry))) rule (bindingsIn (now (bound .entry)) (now (pairs .entry)) (now (globals .entry))) (factFor (now (job .entry)) i) (termsIn (now (skinds .entry)) (now (sends .entry)) (now (spool .entry)) fill)) ⌝ }
+    ensures { λ r. ⌜ Checks (now (skinds .entry)) (now (sends .entry)) (now (spool .entry)) fill (now (skinds .exit)) (now (sends .exit)) (now (spool .exit)) (r .fill) (r .refusal) (boundOver (r .binds) (bindingsIn (now (bound .entry)) (now (pairs .entry)) (now (globals .entry)))) (now (memo .exit)) (model.checkSideCondition (roomOf (now (skinds .entry)) (now (spool .entry))) (programFor (now (job .entry))) rule (bindingsIn (now (bound .entry)) (now (pairs .entry)) (now (globals .entry))) strict (factFor (now (job .entry)) i) (termsIn (now (skinds .entry)) (now (sends .entry)) (now (spool .entry)) fill)) ⌝ }
 {
     let fact = fact_at(job, wide(i));
     match fact {
@@ -313,14 +365,20 @@ pub fn check_side_condition(
             l,
             r,
         ),
-        Fact::Bare(_) => Condition {
-            refusal: Refusal {
-                number: 0,
-                count: 0,
-                fields: [0; 6],
-            },
-            binds: Binds::Nothing,
+        Fact::Bare(e) => check_bare_condition(
+            job,
+            strict,
+            bound,
+            pairs,
+            globals,
+            rule,
+            skinds,
+            sends,
+            spool,
             fill,
-        },
+            memo,
+            i,
+            e,
+        ),
     }
 }

@@ -10,7 +10,7 @@ use lib.IntN.{ℤ, pos, negsuc, natAbs, negℤ, subℕ, _*ℤ_}
 use lib.Signed.{quotZ, mag}
 use borrow.Author.Tests.{lt-ltb, le-ltb, ne-eqb}
 use Rattle.model.specs.Term as terms
-use Rattle.model.specs.Counts.{intOf, fits, bitsOf, literalOfInt, countOf, allOf, quotient, ofOne, ofTwo, exact, fitting, countValue}
+use Rattle.model.specs.Counts.{intOf, bitsOf, literalOfInt, countOf, allOf, quotient, ofOne, ofTwo, exact, fitting, countValue}
 use Rattle.model.specs.Check.{_>>?_}
 use Rattle.model.proofs.Counting.{int-low, int-high, fits-yes, fits-no}
 use Rattle.counts.specs.declared.Integer.{Integer}

@@ -17,6 +17,7 @@ fn check_job(words: &[u32], asked: u32) {
     check(
         words,
         asked,
+        0,
         &mut kinds,
         &mut ends,
         &mut pool,

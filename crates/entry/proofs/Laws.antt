@@ -8,6 +8,7 @@ use Rattle.model.specs.Term.{readTerm, Extends}
 use Rattle.model.specs.Program.{Proof}
 use Rattle.model.specs.Layout.{sizesOf, tablesOf}
 use Rattle.model.specs.Decode.{readJob}
+use Rattle.model.specs.Load.{isStrict}
 use Rattle.model.specs.Walk.{claimAt, checkProof}
 use Rattle.model.specs.Answer.{height, refusalWords, left, entry}
 use Rattle.model.proofs.Store.{extends-same}
@@ -40,10 +41,10 @@ unfolding toldWords
 told-passed {J = J} {p = p} r terms h n C e w =
     w ∙ (λ i. passedWords terms (C .is i .lhs) (C .is i .rhs) (e i)) ∙ ap (λ (m : ℕ). toldBy m r terms (proofsFor J) p) (sym n)
 
-module _ {ws : List ℕ} {asked : ℕ} {K E P : List ℕ} {scratch : ℕ} {K₁ E₁ P₁ : List ℕ} {p : Prepared} (S : Prepares ws asked K E P scratch K₁ E₁ P₁ p) where
+module _ {ws : List ℕ} {asked mode : ℕ} {K E P : List ℕ} {scratch : ℕ} {K₁ E₁ P₁ : List ℕ} {p : Prepared} (S : Prepares ws asked mode K E P scratch K₁ E₁ P₁ p) where
   -- below 20
   pub refuses : {x : ℕ} {A : List ℕ} (answer : List ℕ) → length answer ≡ 8 → (p .refusal .number ≡ 0 → ⊥) → A ≡ refusalWords (refusalOf (p .refusal)) 0 → x ≡ getD A 0 0
-      → record { number = x; answer = A; arrays = arraysOf K₁ E₁ P₁ } ≡ entry ws asked (arraysOf K E P) scratch answer
+      → record { number = x; answer = A; arrays = arraysOf K₁ E₁ P₁ } ≡ entry ws asked mode (arraysOf K E P) scratch answer
   refuses answer eight h w f = left-by (arraysOf K₁ E₁ P₁) w f ∙ entry-refused S answer eight h
 
   module _ (n : p .refusal .number ≡ 0) where
@@ -71,20 +72,20 @@ module _ {ws : List ℕ} {asked : ℕ} {K E P : List ℕ} {scratch : ℕ} {K₁ 
     job-ready = S .started n .ready
 
     module _ {K₂ E₂ P₂ : List ℕ} {g : Fill} {r : Refusal}
-        (D : Does K₁ E₁ P₁ (p .fill) K₂ E₂ P₂ g r (claimAt (proofsFor ws) asked) (checkProof (roomOf K₁ P₁) (programFor ws) (proofsFor ws) asked (termsIn K₁ E₁ P₁ (p .fill)))) where
+        (D : Does K₁ E₁ P₁ (p .fill) K₂ E₂ P₂ g r (claimAt (proofsFor ws) asked) (checkProof (roomOf K₁ P₁) (programFor ws) (proofsFor ws) (isStrict mode) asked (termsIn K₁ E₁ P₁ (p .fill)))) where
       -- the terms at the end are few
       pub terms-word : g .cells < 2 ^ 32
       terms-word = let F = D .grown .stored .formed in let a = F .kinds in let b = F .few in omega arith
 
       -- from 20 on, and what passes
-      told : (answer : List ℕ) → length answer ≡ 8 → left (toldWords r (g .cells) (proofsFor ws) asked) (arraysOf K₂ E₂ P₂) ≡ entry ws asked (arraysOf K E P) scratch answer
+      told : (answer : List ℕ) → length answer ≡ 8 → left (toldWords r (g .cells) (proofsFor ws) asked) (arraysOf K₂ E₂ P₂) ≡ entry ws asked mode (arraysOf K E P) scratch answer
       unfolding toldWords
       told answer eight = go (r .number) refl
         where
-          go : (m : ℕ) → r .number ≡ m → left (toldBy m r (g .cells) (proofsFor ws) asked) (arraysOf K₂ E₂ P₂) ≡ entry ws asked (arraysOf K E P) scratch answer
+          go : (m : ℕ) → r .number ≡ m → left (toldBy m r (g .cells) (proofsFor ws) asked) (arraysOf K₂ E₂ P₂) ≡ entry ws asked mode (arraysOf K E P) scratch answer
           go zero h = entry-passed S answer eight n D h
           go (suc m) h = entry-stopped S answer eight n D (λ o. let q : suc m ≡ 0 = sym h ∙ o in omega arith)
 
       pub tells : {x d : ℕ} {A : List ℕ} (answer : List ℕ) → length answer ≡ 8 → d ≡ asked → A ≡ toldWords r (g .cells) (proofsFor ws) d → x ≡ getD A 0 0
-          → record { number = x; answer = A; arrays = arraysOf K₂ E₂ P₂ } ≡ entry ws asked (arraysOf K E P) scratch answer
+          → record { number = x; answer = A; arrays = arraysOf K₂ E₂ P₂ } ≡ entry ws asked mode (arraysOf K E P) scratch answer
       tells answer eight q w f = left-by (arraysOf K₂ E₂ P₂) (w ∙ ap (toldWords r (g .cells) (proofsFor ws)) q) f ∙ told answer eight

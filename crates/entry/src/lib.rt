@@ -35,28 +35,29 @@ fn tell(job: &[u32], asked: usize, r: Checked, answer: &mut [u32]) -> u32
     write_passed(answer, terms, q.lhs, q.rhs, h)
 }
 
-// The check of a job's words for an asked proof: the number returned, the answer and the lent arrays are as the definition says, for all inputs.
+// The check of a job's words for an asked proof in a mode, 0 as the Rust checks or 1 strict: the number returned, the answer and the lent arrays are as the definition says, for all inputs.
 // What a returned 0 means, demand 3, is stated and proved in proofs/Sound.
 pub fn check(
     job: &[u32],
     asked: u32,
+    mode: u32,
     kinds: &mut [u32],
     ends: &mut [u32],
     pool: &mut [u32],
     scratch: &mut [u32],
     answer: &mut [u32],
 ) -> u32
-    ensures { λ r. ⌜ record { number = r; answer = now (answer .exit); arrays = record { kinds = now (kinds .exit); ends = now (ends .exit); pool = now (pool .exit) } } ≡ entry (now (job .entry)) asked (record { kinds = now (kinds .entry); ends = now (ends .entry); pool = now (pool .entry) }) (length (now (scratch .entry))) (now (answer .entry)) ⌝ }
+    ensures { λ r. ⌜ record { number = r; answer = now (answer .exit); arrays = record { kinds = now (kinds .exit); ends = now (ends .exit); pool = now (pool .exit) } } ≡ entry (now (job .entry)) asked mode (record { kinds = now (kinds .entry); ends = now (ends .entry); pool = now (pool .entry) }) (length (now (scratch .entry))) (now (answer .entry)) ⌝ }
 {
     if answer.len() != 8 {
         return 10;
     }
-    let p = prepare(job, asked, kinds, ends, pool, scratch.len());
+    let p = prepare(job, asked, mode, kinds, ends, pool, scratch.len());
     if p.refusal.number != 0 {
         let refusal = p.refusal;
         return write_refusal(answer, refusal, 0);
     }
     let fill = p.fill;
-    let r = check_proof(job, kinds, ends, pool, fill, scratch, asked);
+    let r = check_proof(job, mode == 1, kinds, ends, pool, fill, scratch, asked);
     tell(job, wide(asked), r, answer)
 }

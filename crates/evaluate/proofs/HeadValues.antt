@@ -9,7 +9,7 @@ use borrow.Author.Tests.{lt-ltb, le-ltb}
 use Rattle.model.specs.Term.{Term, lit, app}
 use Rattle.model.specs.Program.{Binding, Program, Primitive}
 use Rattle.model.specs.Decode.{readBindings}
-use Rattle.model.specs.Check.{Outcome, ok, refused, Check, andThen, _>>=_, firstOf, orRefuse, Room, addNode}
+use Rattle.model.specs.Check.{Outcome, refused, Check, andThen, _>>=_, firstOf, orRefuse, Room, addNode}
 use Rattle.model.specs.Counts.{countValue}
 use Rattle.model.specs.Evaluate.{lookup, primitiveAt, rowValue, countsIn, addCount, validateBy, validate, validatedBy, validated}
 use Rattle.cells.specs.declared.Fill.{Fill}
@@ -20,7 +20,7 @@ use Rattle.outcome.specs.Does.{passed, refusal, outcomeOf, Does}
 use Rattle.outcome.specs.declared.Checked.{Checked}
 use Rattle.outcome.specs.declared.Refusal.{Refusal}
 use native.Mathlib.Omega.{arith}
-use Rattle.outcome.proofs.Laws.{refused-of, does-here, does-then}
+use Rattle.outcome.proofs.Laws.{refused-of, does-here}
 use Rattle.evaluate.specs.Value.{bindingsIn, customTerm, headTerm}
 
 -- look-ups

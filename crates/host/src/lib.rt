@@ -9,7 +9,7 @@ ghost use Prim.Native.Nat.{_≤_};
 ghost use lib.ListN.{length, getD};
 ghost use Rattle.model.specs.Answer.{entry, refusalWords};
 ghost use Rattle.model.specs.Answer.{check as Answer·check};
-ghost use Rattle.model.specs.Host.{wordsOf, ownArrays, ownScratch, hostEntry};
+ghost use Rattle.model.specs.Host.{wordsOf, ownArrays, ownScratch, hostEntry, hostEntryMode};
 
 // Writes the refusal of bytes that are too many or no whole words, and gives its number.
 fn refuse_bytes(answer: &mut [u32]) -> u32
@@ -26,9 +26,9 @@ fn refuse_bytes(answer: &mut [u32]) -> u32
 }
 
 // Checks a job's words with the host's own store and scratch.
-fn check_words(words: &[u32], asked: u32, answer: &mut [u32]) -> u32
+fn check_words(words: &[u32], asked: u32, mode: u32, answer: &mut [u32]) -> u32
     requires { ⌜ length (now answer) ≡ 8 ⌝ }
-    ensures is { λ r. ⌜ now (answer .exit) ≡ Answer·check (now (words .entry)) asked ownArrays ownScratch .answer ⌝ }
+    ensures is { λ r. ⌜ now (answer .exit) ≡ Answer·check (now (words .entry)) asked mode ownArrays ownScratch .answer ⌝ }
     ensures number { λ r. ⌜ r ≡ getD (now (answer .exit)) 0 0 ⌝ }
 {
     let mut kinds = [0u32; 4096];
@@ -38,6 +38,7 @@ fn check_words(words: &[u32], asked: u32, answer: &mut [u32]) -> u32
     check(
         words,
         asked,
+        mode,
         &mut kinds,
         &mut ends,
         &mut pool,
@@ -47,21 +48,26 @@ fn check_words(words: &[u32], asked: u32, answer: &mut [u32]) -> u32
 }
 
 // Checks the words of a job's bytes.
-fn check_whole(job: &[u8], asked: u32, answer: &mut [u32]) -> u32
+fn check_whole(job: &[u8], asked: u32, mode: u32, answer: &mut [u32]) -> u32
     requires { ⌜ length (now job) ≤ 65536 ⌝ }
     requires { ⌜ length (now answer) ≡ 8 ⌝ }
-    ensures is { λ r. ⌜ now (answer .exit) ≡ Answer·check (wordsOf (now (job .entry))) asked ownArrays ownScratch .answer ⌝ }
+    ensures is { λ r. ⌜ now (answer .exit) ≡ Answer·check (wordsOf (now (job .entry))) asked mode ownArrays ownScratch .answer ⌝ }
     ensures number { λ r. ⌜ r ≡ getD (now (answer .exit)) 0 0 ⌝ }
 {
     let mut words = [0u32; 16384];
     let count = words_of_bytes(job, &mut words);
-    check_words(&words[..count], asked, answer)
+    check_words(&words[..count], asked, mode, answer)
 }
 
-// THE HOST ENTRY: the check of a job's bytes for an asked proof, with a store of its own. What a returned 0 means is in proofs/Sound.
+// THE HOST ENTRY WITH A MODE: the check of a job's bytes for an asked proof, with a store of its own. What a returned 0 means is in proofs/Sound.
 #[no_mangle]
-pub extern "C" fn sizercobalt_check_bytes(job: &[u8], asked: u32, answer: &mut [u32]) -> u32
-    ensures { λ r. ⌜ record { number = r; answer = now (answer .exit) } ≡ hostEntry (now (job .entry)) asked (now (answer .entry)) ⌝ }
+pub extern "C" fn sizercobalt_check_bytes_mode(
+    job: &[u8],
+    asked: u32,
+    mode: u32,
+    answer: &mut [u32],
+) -> u32
+    ensures { λ r. ⌜ record { number = r; answer = now (answer .exit) } ≡ hostEntryMode (now (job .entry)) asked mode (now (answer .entry)) ⌝ }
 {
     if answer.len() != 8 {
         return 10;
@@ -72,7 +78,15 @@ pub extern "C" fn sizercobalt_check_bytes(job: &[u8], asked: u32, answer: &mut [
     if job.len() % 4 != 0 {
         return refuse_bytes(answer);
     }
-    check_whole(job, asked, answer)
+    check_whole(job, asked, mode, answer)
+}
+
+// THE HOST ENTRY, at mode 0.
+#[no_mangle]
+pub extern "C" fn sizercobalt_check_bytes(job: &[u8], asked: u32, answer: &mut [u32]) -> u32
+    ensures { λ r. ⌜ record { number = r; answer = now (answer .exit) } ≡ hostEntry (now (job .entry)) asked (now (answer .entry)) ⌝ }
+{
+    sizercobalt_check_bytes_mode(job, asked, 0, answer)
 }
 
 // `entry::check`, for hosts that lend their own store. What a returned 0 means is in entry/proofs/Sound.
@@ -80,13 +94,14 @@ pub extern "C" fn sizercobalt_check_bytes(job: &[u8], asked: u32, answer: &mut [
 pub extern "C" fn sizercobalt_check(
     job: &[u32],
     asked: u32,
+    mode: u32,
     kinds: &mut [u32],
     ends: &mut [u32],
     pool: &mut [u32],
     scratch: &mut [u32],
     answer: &mut [u32],
 ) -> u32
-    ensures { λ r. ⌜ record { number = r; answer = now (answer .exit); arrays = record { kinds = now (kinds .exit); ends = now (ends .exit); pool = now (pool .exit) } } ≡ entry (now (job .entry)) asked (record { kinds = now (kinds .entry); ends = now (ends .entry); pool = now (pool .entry) }) (length (now (scratch .entry))) (now (answer .entry)) ⌝ }
+    ensures { λ r. ⌜ record { number = r; answer = now (answer .exit); arrays = record { kinds = now (kinds .exit); ends = now (ends .exit); pool = now (pool .exit) } } ≡ entry (now (job .entry)) asked mode (record { kinds = now (kinds .entry); ends = now (ends .entry); pool = now (pool .entry) }) (length (now (scratch .entry))) (now (answer .entry)) ⌝ }
 {
-    check(job, asked, kinds, ends, pool, scratch, answer)
+    check(job, asked, mode, kinds, ends, pool, scratch, answer)
 }

@@ -15,7 +15,7 @@ use Rattle.model.specs.Cell.{Cell, noCell, tabulate, startOf, cellAt, cellsOf}
 use Rattle.model.specs.Term.{readTerm, termWords, widths}
 use Rattle.model.specs.Layout.{Sizes, sizesOf, cellCount, kindsOf, endsOf, poolOf, Tables, tablesIn, tablesOf}
 use Rattle.model.specs.Check.{Refusal}
-use Rattle.model.specs.Load.{Lent, wrongLength, tooLarge, endsRise, noRoom, refusedIf, termFits, fitTests, firstRefusal, Admitted, loadTests, loadRefusal}
+use Rattle.model.specs.Load.{Lent, wrongLength, tooLarge, unknownMode, endsRise, noRoom, refusedIf, termFits, fitTests, firstRefusal, loadTests, loadRefusal}
 use Rattle.model.proofs.Tests.{eq-of, le-of, and-left, and-right, or-left, or-right, not-false}
 use Rattle.model.proofs.Valid.{term-cell, pass, table-passes, length-tabulate}
 use Rattle.cells.specs.Table.{total}
@@ -190,23 +190,27 @@ limits-of z h =
       pool = ltb-false 131072 (z .pool) (a1 .1);
     }
 
-module _ (ws : List ℕ) (asked : ℕ) (l : Lent) where
-  pub refuses-1 : wrongLength ws ≡ true → some (record { number = 1; fields = [] }) ≡ loadRefusal ws asked l
+module _ (ws : List ℕ) (asked mode : ℕ) (l : Lent) where
+  pub refuses-1 : wrongLength ws ≡ true → some (record { number = 1; fields = [] }) ≡ loadRefusal ws asked mode l
   unfolding loadRefusal refusedIf
   refuses-1 h = rw h
 
   module _ (w : wrongLength ws ≡ false) where
-    pub refuses-2 : tooLarge (sizesOf ws) ≡ true → some (record { number = 2; fields = [] }) ≡ loadRefusal ws asked l
+    pub refuses-2 : tooLarge (sizesOf ws) ≡ true → some (record { number = 2; fields = [] }) ≡ loadRefusal ws asked mode l
     unfolding loadRefusal refusedIf
     refuses-2 h = rw (w, h)
 
-    pub refuses-3 : tooLarge (sizesOf ws) ≡ false → leb (sizesOf ws .proofs) asked ≡ true → some (record { number = 3; fields = [] }) ≡ loadRefusal ws asked l
+    pub refuses-3 : tooLarge (sizesOf ws) ≡ false → leb (sizesOf ws .proofs) asked ≡ true → some (record { number = 3; fields = [] }) ≡ loadRefusal ws asked mode l
     unfolding loadRefusal refusedIf
     refuses-3 h p = rw (w, h, p)
 
-    pub behind-3 : tooLarge (sizesOf ws) ≡ false → leb (sizesOf ws .proofs) asked ≡ false → cellRefusal (endsOf ws) (sizesOf ws) (tablesOf ws) l ≡ loadRefusal ws asked l
+    pub refuses-11 : tooLarge (sizesOf ws) ≡ false → leb (sizesOf ws .proofs) asked ≡ false → unknownMode mode ≡ true → some (record { number = 11; fields = [] }) ≡ loadRefusal ws asked mode l
+    unfolding loadRefusal refusedIf
+    refuses-11 h p m = rw (w, h, p, m)
+
+    pub behind-11 : tooLarge (sizesOf ws) ≡ false → leb (sizesOf ws .proofs) asked ≡ false → unknownMode mode ≡ false → cellRefusal (endsOf ws) (sizesOf ws) (tablesOf ws) l ≡ loadRefusal ws asked mode l
     unfolding loadRefusal refusedIf cellRefusal
-    behind-3 h p = rw (w, h, p)
+    behind-11 h p m = rw (w, h, p, m)
 
 pub sizes-words : (ws : List ℕ) → wrongLength ws ≡ false → 12 ≤ length ws
 sizes-words ws w = ltb-false (length ws) 12 (or-no (ltb (length ws) 12) _ w .0)
@@ -280,9 +284,9 @@ unfolding refusedIf
 refused-no false n h = refl
 refused-no true n h = absurd (Option·none-ne-some _ (sym h))
 
-module _ (ws : List ℕ) (asked : ℕ) (l : Lent) (a : loadRefusal ws asked l ≡ none) where
+module _ (ws : List ℕ) (asked mode : ℕ) (l : Lent) (a : loadRefusal ws asked mode l ≡ none) where
   abbrev tests : List (Unit {0} → Option Refusal)
-  tests = loadTests ws (sizesOf ws) (tablesOf ws) asked l
+  tests = loadTests ws (sizesOf ws) (tablesOf ws) asked mode l
 
   pub test-passes : (t : Unit {0} → Option Refusal) → List·Memᴰ t tests → t tt ≡ none
   unfolding loadRefusal
@@ -298,4 +302,4 @@ module _ (ws : List ℕ) (asked : ℕ) (l : Lent) (a : loadRefusal ws asked l �
       let cut = cut-of ws z n refl refl right-length (limits-of (sizesOf ws) (refused-no _ 2 (test-passes _ (List·Memᴰ·tail (List·Memᴰ·head refl))))) in
       held-of
       (subst (λ (x : List ℕ × List ℕ × List ℕ). Cut (x .0) (x .1) (x .2) z) (λ i. (kinds-cut ws n refl i, ends-cut ws n refl i, pool-cut ws n refl i)) cut)
-      (not-false _ (refused-no _ 5 (test-passes _ (List·Memᴰ·tail (List·Memᴰ·tail (List·Memᴰ·tail (List·Memᴰ·head refl)))))))
+      (not-false _ (refused-no _ 5 (test-passes _ (List·Memᴰ·tail (List·Memᴰ·tail (List·Memᴰ·tail (List·Memᴰ·tail (List·Memᴰ·head refl))))))))

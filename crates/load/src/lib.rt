@@ -112,16 +112,17 @@ pub fn load_cells(
     }
 }
 
-// The refusal below 20 of a job's words, for an asked proof and the lengths that are lent.
+// The refusal below 20 of a job's words, for an asked proof in a mode and the lengths that are lent.
 pub fn load(
     job: &[u32],
     asked: u32,
+    mode: u32,
     kinds: usize,
     ends: usize,
     pool: usize,
     scratch: usize,
 ) -> Loaded
-    ensures { λ r. ⌜ refusalOf r ≡ loadRefusal (now (job .entry)) asked (record { kinds = kinds; ends = ends; pool = pool; scratch = scratch }) ⌝ }
+    ensures { λ r. ⌜ refusalOf r ≡ loadRefusal (now (job .entry)) asked mode (record { kinds = kinds; ends = ends; pool = pool; scratch = scratch }) ⌝ }
 {
     if wrong_length(job) {
         return Loaded::Host(1);
@@ -132,6 +133,9 @@ pub fn load(
     }
     if z.proofs <= wide(asked) {
         return Loaded::Host(3);
+    }
+    if 1 < mode {
+        return Loaded::Host(11);
     }
     let n = cell_count(z);
     let a = 12 + n;

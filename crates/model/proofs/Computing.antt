@@ -5,7 +5,7 @@ use native.Mathlib.Omega.{arith}
 use mathlib.Core.Path.{_≡_, refl, subst}
 use mathlib.Core.List.{List, [], _∷_, map}
 use mathlib.Core.Bool.{Bool, true, false}
-use mathlib.Core.Option.{none, some, Option·none-ne-some, Option·some-injective}
+use mathlib.Core.Option.{some, Option·none-ne-some, Option·some-injective}
 use lib.ListN.{length, getD}
 use lib.Dec.{eqb}
 use Rattle.model.specs.Cell.{Cell, noCell}
@@ -17,7 +17,7 @@ use Rattle.model.specs.Normalize.{normaliserOf}
 use Rattle.model.specs.Check.{ok, refused, orRefuse, addNode}
 use Rattle.model.specs.Counts.{intOf, fits, literalOfInt, countOf, exact, fitting, countValue}
 use Rattle.model.specs.Evaluate.{primitiveAt, validate, validated}
-use Rattle.model.specs.Tree.{leaf, named, tnil, tcons, treeValidate}
+use Rattle.model.specs.Tree.{leaf, tnil, tcons, treeValidate}
 use Rattle.model.specs.Load.{primitiveLooksUp, Admitted}
 use Rattle.model.proofs.Tests.{and-right, not-true}
 

@@ -2,20 +2,22 @@
 use Prim.Native.Nat.{ℕ}
 use mathlib.Core.Path.{_≡_}
 use mathlib.Core.List.{List}
+use mathlib.Core.Bool.{Bool}
 use Rattle.model.specs.Program.{Program, Fact}
 use Rattle.model.specs.Decode.{jobOf}
+use Rattle.model.specs.Load.{isStrict}
 use Rattle.model.specs.Answer.{Arrays, entry}
 use Rattle.model.specs.Tree.{Tree, TreeBinding, TreeRow, treeRows}
 use Rattle.model.specs.Relation.{FactsHold, Closed, Derived, FactsDerived}
 use Rattle.model.proofs.Sound.{ClaimRelated, accepted}
 
-module _ (prog : Program) (rows : List TreeRow) where
-  facts-derived : {fs : List Fact} {σ τ : List TreeBinding} → FactsHold prog rows (Derived prog rows) fs σ τ → FactsDerived prog rows fs σ τ
+module _ (prog : Program) (rows : List TreeRow) (strict : Bool) where
+  facts-derived : {fs : List Fact} {σ τ : List TreeBinding} → FactsHold prog rows strict (Derived prog rows strict) fs σ τ → FactsDerived prog rows strict fs σ τ
   facts-derived FactsHold.done = FactsDerived.done
   facts-derived (FactsHold.side c e h) = FactsDerived.side c e (facts-derived h)
   facts-derived (FactsHold.premise c e r h) = FactsDerived.premise c e r (facts-derived h)
 
-  pub derived-closed : Closed prog rows (Derived prog rows)
+  pub derived-closed : Closed prog rows strict (Derived prog rows strict)
   derived-closed = record {
     symmetric = Derived.symmetric;
     transitive = Derived.transitive;
@@ -28,8 +30,8 @@ module _ (prog : Program) (rows : List TreeRow) where
   }
 
   -- the least of the closed relations
-  pub derived-least {ℓ} : (R : Tree → Tree → Type ℓ) → Closed prog rows R → (a b : Tree) → Derived prog rows a b → R a b
-  derived-least R c a b h = elim h as (λ x y _. R x y) (λ fs σ τ _. FactsHold prog rows R fs σ τ) [
+  pub derived-least {ℓ} : (R : Tree → Tree → Type ℓ) → Closed prog rows strict R → (a b : Tree) → Derived prog rows strict a b → R a b
+  derived-least R c a b h = elim h as (λ x y _. R x y) (λ fs σ τ _. FactsHold prog rows strict R fs σ τ) [
     | Derived.symmetric (h → k) ↦ c .symmetric k
     | Derived.transitive (h → k) (i → l) ↦ c .transitive k l
     | Derived.literals l ↦ c .literals l
@@ -44,6 +46,6 @@ module _ (prog : Program) (rows : List TreeRow) where
   ]
 
 -- what the entry accepts is derived
-pub accepted-derived : (ws : List ℕ) (p : ℕ) (a : Arrays) (scratch : ℕ) (answer : List ℕ) → entry ws p a scratch answer .number ≡ 0
-    → ClaimRelated (jobOf ws) (Derived (jobOf ws .program) (treeRows (jobOf ws .terms) (jobOf ws .program .rows))) p
-accepted-derived ws p a scratch answer e = accepted _ ws p a scratch answer e (derived-closed (jobOf ws .program) (treeRows (jobOf ws .terms) (jobOf ws .program .rows)))
+pub accepted-derived : (ws : List ℕ) (p mode : ℕ) (a : Arrays) (scratch : ℕ) (answer : List ℕ) → entry ws p mode a scratch answer .number ≡ 0
+    → ClaimRelated (jobOf ws) (Derived (jobOf ws .program) (treeRows (jobOf ws .terms) (jobOf ws .program .rows)) (isStrict mode)) p
+accepted-derived ws p mode a scratch answer e = accepted _ ws p mode a scratch answer e (derived-closed (jobOf ws .program) (treeRows (jobOf ws .terms) (jobOf ws .program .rows)) (isStrict mode))

@@ -3,6 +3,7 @@
 use Prim.Native.Nat.{ℕ}
 use mathlib.Core.Path.{_≡_}
 use mathlib.Core.List.{List}
+use mathlib.Core.Bool.{Bool}
 use mathlib.Core.Option.{Option, none, some}
 use Rattle.model.specs.Term.{Term}
 use Rattle.model.specs.Program.{Expr, Proposition, Binding, Program, Fact, Action}
@@ -34,8 +35,8 @@ module _ (room : Room) (prog : Program) (rows : List TreeRow) (rule : ℕ) (s : 
     pub fact-evaluation-exact : (e : Expr) → Exact (evalFactExpr room prog rule σ e s) (treeFactEval prog rows e Σ′)
     fact-evaluation-exact e = exact (fact-eval-agrees prog rows room rule e Σ′ σ s w b)
 
-    pub condition-exact : (f : Fact) → Exact (checkSideCondition room prog rule σ f s) (treeCondition prog rows Σ′ f)
-    condition-exact f = exact (condition-agrees prog rows room rule Σ′ σ f s w b)
+    pub condition-exact : (strict : Bool) (f : Fact) → Exact (checkSideCondition room prog rule σ strict f s) (treeCondition prog rows strict Σ′ f)
+    condition-exact strict f = exact (condition-agrees prog rows room rule strict Σ′ σ f s w b)
 
     -- against a premise that proves q, whose trees are Q: the pair wanted, where Q is that one
     pub fact-exact : (f : Fact) (q : Proposition) (Q : TreePair) → Stands Q s q

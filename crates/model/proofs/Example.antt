@@ -4,7 +4,7 @@ use native.Mathlib.Omega.{arith}
 use mathlib.Core.Path.{_≡_, refl, sym, subst, _∙_}
 use mathlib.Core.Logic.{_⊎_, inl, inr}
 use mathlib.Core.List.{List, [], _∷_, List·Memᴰ, List·Memᴰ·not-nil, List·Memᴰ·cases-cons}
-use mathlib.Core.Bool.{Bool, true, not, _&&_}
+use mathlib.Core.Bool.{Bool, true, false, not, _&&_}
 use mathlib.Core.Option.{some, Option·none-ne-some, Option·some-injective}
 use lib.ListN.{replicate}
 use lib.Dec.{eqb}
@@ -30,16 +30,16 @@ unfoldable pub four : ℕ → Tree
 four n = apply 4 (tcons (leaf (record { kind = 2; low = n; high = 0 })) tnil)
 
 -- the congruence of job B is accepted, so every closed relation relates name 4 of 7 to name 4 of 8
-pub related {ℓ} : (R : Tree → Tree → Type ℓ) → ClosedFor (jobOf jobB) R → R (four 7) (four 8)
+pub related {ℓ} : (R : Tree → Tree → Type ℓ) → ClosedFor false (jobOf jobB) R → R (four 7) (four 8)
 unfolding four jobB exactly entry check checked loadRefusal refusedIf firstMarked tablesOf sizesOf kindsOf endsOf poolOf cellsOf tabulate startOf wordsAt readTerm readJob readProgram exprIn checkProof newContext checkProofWithContext checkFiat checkCongr processActions evalExpr evalExprs headValue orRefuse checkThat addNode findTerm getTerm reflexive subtermsIn treeIn
-related R closed = accepted R jobB 8 exactly 34 (replicate 8 0) refl closed .related
+related R closed = accepted R jobB 8 0 exactly 34 (replicate 8 0) refl closed .related
 
 -- what holds of each pair of a list, by a test that computes
-abbrev allPairs : (TreePair → Bool) → List TreePair → Bool
+abbrev pub allPairs : (TreePair → Bool) → List TreePair → Bool
 allPairs f [] = true
 allPairs f (q ∷ qs) = f q && allPairs f qs
 
-all-member : (f : TreePair → Bool) (qs : List TreePair) → allPairs f qs ≡ true → (q : TreePair) → List·Memᴰ q qs → f q ≡ true
+pub all-member : (f : TreePair → Bool) (qs : List TreePair) → allPairs f qs ≡ true → (q : TreePair) → List·Memᴰ q qs → f q ≡ true
 all-member f [] e q m = absurd (List·Memᴰ·not-nil m)
 all-member f (p ∷ ps) e q m = go (List·Memᴰ·cases-cons m) (all-member f ps (and-right (f p) _ e) q)
   where
@@ -105,9 +105,9 @@ normal-shape (named x) = refl
 normal-shape (apply f ts) = refl
 
 -- a closed relation of job B's program that does not relate all
-pub shape-closed : ClosedFor (jobOf jobB) SameShape
+pub shape-closed : (strict : Bool) → ClosedFor strict (jobOf jobB) SameShape
 unfolding globalsB seven eight four jobB tablesOf sizesOf kindsOf endsOf poolOf cellsOf tabulate startOf wordsAt readJob readProgram treeMerge mergeOf
-shape-closed = record {
+shape-closed strict = record {
   symmetric = λ h. sym h;
   transitive = λ h k. h ∙ k;
   literals = λ l. refl;

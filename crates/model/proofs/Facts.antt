@@ -8,16 +8,16 @@ use lib.Dec.{eqb}
 use Rattle.model.specs.Term.{Term, getTerm}
 use Rattle.model.specs.Program.{nameMergeFunction, Expr, Proposition, Binding, Program, Fact, equal, bare, Action, bind, union, run, idle}
 use Rattle.model.specs.Check.{ok, andThen, pure, orRefuse, checkThat, Room, _>>?_}
-use Rattle.model.specs.Evaluate.{lookup, rowValue, validate, evalExpr}
+use Rattle.model.specs.Evaluate.{lookup, evalExpr}
 use Rattle.model.specs.Fact.{headOf, argsOf, variableOf, FunctionFact, functionFact, bindOutput, compareSides, evalSideBy, checkSideCondition, wantedEquality, wanted, matchesEquality, matches}
 use Rattle.model.specs.Action.{ActionContext, processAction, processActions, mergeOf, mergeBindings, runMerge}
 use Rattle.model.specs.Normalize.{asApp, normaliserOf, unwrapOr, normalizeBy, normalizeApp, normalizeContainer}
-use Rattle.model.specs.Tree.{treeValidate, Tree, leaf, named, apply, Trees, tnil, tcons, sameTree, TreePair, TreeBinding, TreeRow, treeLookup, treeRow, both, snoc, treeBindOutput, treeCompareSides, TreeContext, treeMergeBindings, treeEval, treeWantedEquality, treeWanted, treeSideBy, treeCondition, treeAction, treeActions, treeMerge, treeNormalBy, treeNormal}
+use Rattle.model.specs.Tree.{treeValidate, Tree, leaf, named, apply, Trees, tnil, tcons, sameTree, TreePair, TreeBinding, TreeRow, treeLookup, both, snoc, treeBindOutput, treeCompareSides, TreeContext, treeMergeBindings, treeEval, treeWantedEquality, treeWanted, treeSideBy, treeCondition, treeAction, treeActions, treeMerge, treeNormalBy, treeNormal}
 use Rattle.model.proofs.Tests.{eq-of, eqb-same, tree-eq, tree-same}
 use Rattle.model.proofs.Represent.{Rep, Reps, Keeps, Distinct, rep-keeps, rep-tree, rep-one}
 use Rattle.model.proofs.Post.{Nonzero}
 use Rattle.model.proofs.Agree.{Agree, agree-ok, agree-none, agree-map, agree-bind}
-use Rattle.model.proofs.Evaluation.{valid-agrees, Binds, bnil, bcons, binds-keeps, Maybe, lookup-same, row-same, Stands, Covers, covers-keeps, covers-append, covers-cons, covers-none, stands-same, World, After, keeps, stay, then, Made, Valued, add-apply, made-or, eval-agrees, fact-eval-agrees, fact-evals-agree}
+use Rattle.model.proofs.Evaluation.{valid-agrees, Binds, bnil, bcons, binds-keeps, Maybe, lookup-same, Stands, Covers, covers-keeps, covers-append, covers-cons, covers-none, stands-same, World, After, keeps, stay, then, Made, Valued, add-apply, made-or, eval-agrees, fact-eval-agrees, fact-evals-agree}
 
 -- two numbers are equal just when their trees are
 pub same-test : {s : List Term} → Distinct s → (A B : Tree) (a b : ℕ) → Rep A s a → Rep B s b → eqb a b ≡ sameTree A B
@@ -115,11 +115,13 @@ module _ (prog : Program) (rows : List TreeRow) where
     side-agrees Σ′ σ e none s w b =
         agree-bind (eval-agrees prog rows room rule e Σ′ σ s w b) λ v s′ V′ m. agree-ok (record { after = m .after; maybe = m .rep })
 
-    pub condition-agrees : (Σ′ : List TreeBinding) (σ : List Binding) (f : Fact) (s : List Term) → World prog rows s → Binds s Σ′ σ
-        → Agree (checkSideCondition room prog rule σ f s) (treeCondition prog rows Σ′ f) (Bound s)
+    pub condition-agrees : (strict : Bool) (Σ′ : List TreeBinding) (σ : List Binding) (f : Fact) (s : List Term) → World prog rows s → Binds s Σ′ σ
+        → Agree (checkSideCondition room prog rule σ strict f s) (treeCondition prog rows strict Σ′ f) (Bound s)
     unfolding checkSideCondition treeCondition
-    condition-agrees Σ′ σ (bare i e) s w b = agree-ok (record { after = stay prog rows w; binds = b })
-    condition-agrees Σ′ σ (equal i l r) s w b =
+    condition-agrees false Σ′ σ (bare i e) s w b = agree-ok (record { after = stay prog rows w; binds = b })
+    condition-agrees true Σ′ σ (bare i e) s w b =
+        agree-bind (side-agrees Σ′ σ e (variableOf (headOf e)) s w b) λ x s₁ X m. agree-ok (record { after = m .after; binds = binds-keeps (keeps prog rows (m .after)) b })
+    condition-agrees strict Σ′ σ (equal i l r) s w b =
         agree-bind (side-agrees Σ′ σ l (variableOf (headOf l)) s w b) λ x s₁ X m.
         agree-bind (side-agrees Σ′ σ r (variableOf (headOf r)) s₁ (m .after .world) (binds-keeps (keeps prog rows (m .after)) b)) λ y s₂ Y n.
         agree-map (sides-agree rule i Σ′ σ s₂ (n .after .world) (binds-keeps (keeps prog rows (then prog rows (m .after) (n .after))) b)

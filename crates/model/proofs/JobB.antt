@@ -28,7 +28,7 @@ exactly = record { kinds = replicate 4 0; ends = replicate 4 0; pool = replicate
 
 -- The answer for each asked proof.
 unfoldable pub answers : List ℕ → List (List ℕ)
-answers ps = map (λ p. check jobB p exactly 34 .answer) ps
+answers ps = map (λ p. check jobB p 0 exactly 34 .answer) ps
 
 -- The marked cases, in document 01's order.
 unfoldable pub markedProofs : List ℕ

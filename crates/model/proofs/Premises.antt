@@ -1,17 +1,17 @@
 -- The premises of the closings count. Of a program with a rule out of normal form, a merge and a normaliser, some closed relation relates no application at all and not
--- the pair of that rule's head, though the rule's facts hold in it and the merge has a value.
+-- the pair of that rule's head, though the rule's facts hold in it and the merge has a value, in either mode.
 use Prim.Native.Nat.{ℕ}
 use native.Mathlib.Omega.{arith}
 use mathlib.Core.Path.{_≡_, refl, sym, subst, _∙_}
 use mathlib.Core.Logic.{_⊎_, inl, inr}
 use mathlib.Core.List.{List, [], _∷_, List·Memᴰ, List·Memᴰ·head, List·Memᴰ·not-nil, List·Memᴰ·cases-cons}
-use mathlib.Core.Bool.{true, false}
+use mathlib.Core.Bool.{Bool, true, false}
 use mathlib.Core.Option.{Option, none, some, Option·none-ne-some, Option·some-injective}
 use Rattle.model.specs.Term.{Literal}
 use Rattle.model.specs.Program.{literal, variable, constructor, primitive, node, nil, cons, Fact, bare, union, Rule, Program}
 use Rattle.model.specs.Fact.{primitiveNonNormalArg, offence, offences, factOffence}
 use Rattle.model.specs.Action.{mergeOf}
-use Rattle.model.specs.Tree.{treeValidate, Tree, leaf, named, apply, Trees, tnil, tcons, sameTree, TreePair, both, TreeRow, TreeContext, treeStart, reflexiveTree, snoc, treeEval, treeEvals, treeFactEval, treeFactEvals, treeWanted, treeActions, treeGlobals, treeMerge, treeNormal}
+use Rattle.model.specs.Tree.{treeValidate, Tree, leaf, named, apply, Trees, tnil, tcons, TreePair, both, TreeRow, TreeContext, treeStart, reflexiveTree, snoc, treeEval, treeEvals, treeFactEval, treeFactEvals, treeWanted, treeActions, treeGlobals, treeMerge, treeNormal}
 use Rattle.model.specs.Relation.{Normal, FactsHold, Closed}
 
 abbrev integer : ℕ → Literal
@@ -70,8 +70,8 @@ normal-low (leaf l) h = h
 normal-low (named x) (n, h, k) = absurd (Option·none-ne-some n h)
 normal-low (apply f ts) h = no-application f ts h
 
-pub low-closed : Closed program rows SameLow
-low-closed = record {
+pub low-closed : (strict : Bool) → Closed program rows strict SameLow
+low-closed strict = record {
   symmetric = λ (n, h, k). (n, k, h);
   transitive = λ (n, h, k) (m, i, j). (n, h, j ∙ sym i ∙ k);
   literals = λ l. (l .low, refl, refl);
@@ -83,9 +83,9 @@ low-closed = record {
 }
 
 -- all but the normal form holds of the rule
-pub facts-hold : FactsHold program rows SameLow (unites .facts) [] []
+pub facts-hold : (strict : Bool) → FactsHold program rows strict SameLow (unites .facts) [] []
 unfolding treeWanted treeFactEval treeFactEvals treeValidate
-facts-hold = FactsHold.premise refl refl (1, refl, refl) FactsHold.done
+facts-hold strict = FactsHold.premise refl refl (1, refl, refl) FactsHold.done
 
 pub head-pairs : treeActions program rows (unites .actions) (treeStart [])
     ≡ some (record { bindings = []; pairs = both (leaf (integer 1)) ∷ both (leaf (integer 2)) ∷ record { left = leaf (integer 1); right = leaf (integer 2) } ∷ record { left = leaf (integer 2); right = leaf (integer 1) } ∷ [] })

@@ -1,4 +1,4 @@
--- THE THIRD DEMAND on the definitions: what the entry accepts is related by every closed relation of the job.
+-- THE THIRD DEMAND on the definitions: what the entry accepts in a mode is related by every relation of the job that is closed in that mode.
 use Prim.Native.Nat.{ℕ, zero, suc, _≤_}
 use mathlib.Core.Path.{_≡_, refl}
 use mathlib.Core.List.{List, [], _∷_, List·Memᴰ·not-nil}
@@ -12,7 +12,7 @@ use Rattle.model.specs.Program.{nameGlobalActions, Proposition, Job}
 use Rattle.model.specs.Layout.{sizesOf, tablesOf}
 use Rattle.model.specs.Decode.{jobOf}
 use Rattle.model.specs.Check.{Refusal, Outcome, ok, refused, Room}
-use Rattle.model.specs.Load.{Lent, refusedIf, firstMarked, firstRefusal, loadTests, loadRefusal}
+use Rattle.model.specs.Load.{Lent, isStrict, refusedIf, firstMarked, firstRefusal, loadTests, loadRefusal}
 use Rattle.model.specs.Action.{startContext}
 use Rattle.model.specs.Walk.{claimAt, duplicateRuleName, noDuplicate, newContext, checkProof}
 use Rattle.model.specs.Answer.{Arrays, Left, checkedBy, checked, loaded, lentBy, check, entry}
@@ -33,14 +33,14 @@ no-duplicate (some n) s = record { holds = tt }
 pub record ClaimRelated {ℓ} (job : Job) (R : Tree → Tree → Type ℓ) (p : ℕ) : Type ℓ where
   pub related : R (treeOf (job .terms) (claimAt (job .proofs) p .lhs)) (treeOf (job .terms) (claimAt (job .proofs) p .rhs))
 
-check-sound {ℓ} : (room : Room) (job : Job) (p : ℕ) → Valid job → (R : Tree → Tree → Type ℓ) → ClosedFor job R
-    → Post (checkProof room (job .program) (job .proofs) p (job .terms)) (λ _ _. ClaimRelated job R p)
+check-sound {ℓ} : (room : Room) (job : Job) (p : ℕ) → Valid job → (strict : Bool) (R : Tree → Tree → Type ℓ) → ClosedFor strict job R
+    → Post (checkProof room (job .program) (job .proofs) strict p (job .terms)) (λ _ _. ClaimRelated job R p)
 unfolding checkProof newContext
-check-sound room job p valid R closed =
+check-sound room job p valid strict R closed =
     post-bind (same-bind _ (no-duplicate (duplicateRuleName [] (job .program .rules)) (job .terms)) λ _ _.
     agree-post (actions-agree (job .program) (treeRows (job .terms) (job .program .rows)) room nameGlobalActions (job .program .globals) (treeStart []) (startContext []) (job .terms)
     (valid-world job valid) bnil covers-none)) λ ctx s₁ g.
-    post-bind (walk-sound room job valid R closed ctx (g .0) (g .1) (suc (length (job .proofs))) .call p [] s₁
+    post-bind (walk-sound room job valid strict R closed ctx (g .0) (g .1) (suc (length (job .proofs))) .call p [] s₁
     (record { after = g .2 .after; binds = g .2 .binds; pairs = g .2 .pairs }) (record { each = λ m. absurd (List·Memᴰ·not-nil m) })) λ _ s₂ m.
     post-ok (record { related = m .this .related })
 
@@ -75,42 +75,42 @@ first-numbered (next {t = t} {ts = ts} h k) = go (t tt) (h tt) (first-numbered k
     go none h k = k
     go (some r) h k = h
 
-load-numbered : (ws : List ℕ) (p : ℕ) (lent : Lent) → Numbered (loadRefusal ws p lent)
+load-numbered : (ws : List ℕ) (p mode : ℕ) (lent : Lent) → Numbered (loadRefusal ws p mode lent)
 unfolding loadRefusal
-load-numbered ws p lent = first-numbered {ts = loadTests ws (sizesOf ws) (tablesOf ws) p lent}
-    (next (λ _. if-numbered _ 1 tt) (next (λ _. if-numbered _ 2 tt) (next (λ _. if-numbered _ 3 tt) (next (λ _. if-numbered _ 5 tt)
+load-numbered ws p mode lent = first-numbered {ts = loadTests ws (sizesOf ws) (tablesOf ws) p mode lent}
+    (next (λ _. if-numbered _ 1 tt) (next (λ _. if-numbered _ 2 tt) (next (λ _. if-numbered _ 3 tt) (next (λ _. if-numbered _ 11 tt) (next (λ _. if-numbered _ 5 tt)
     (next (λ _. marked-numbered 6 0 _ tt) (next (λ _. marked-numbered 7 0 _ tt) (next (λ _. marked-numbered 8 _ _ tt)
-    (next (λ _. marked-numbered 9 0 _ tt) (next (λ _. if-numbered _ 10 tt) end)))))))))
+    (next (λ _. marked-numbered 9 0 _ tt) (next (λ _. if-numbered _ 10 tt) end))))))))))
 
 not-zero : (n : ℕ) → Nonzero {0} n → ¬ (n ≡ 0)
 not-zero zero z e = z .lower
 not-zero (suc n) z e = absurd (let h : 1 ≤ suc n = omega arith in omega arith)
 
 module _ {ℓ} (R : Tree → Tree → Type ℓ) where
-  checked-sound : (job : Job) (p : ℕ) (a : Arrays) → Valid job → ClosedFor job R → checked job p a .number ≡ 0 → ClaimRelated job R p
+  checked-sound : (job : Job) (p : ℕ) (strict : Bool) (a : Arrays) → Valid job → ClosedFor strict job R → checked job p strict a .number ≡ 0 → ClaimRelated job R p
   unfolding checked
-  checked-sound job p a valid closed e =
-      go (checkProof (record { cells = length (a .kinds); words = length (a .pool) }) (job .program) (job .proofs) p (job .terms)) (check-sound _ job p valid R closed) e
+  checked-sound job p strict a valid closed e =
+      go (checkProof (record { cells = length (a .kinds); words = length (a .pool) }) (job .program) (job .proofs) strict p (job .terms)) (check-sound _ job p valid strict R closed) e
     where
       go : (o : Outcome Proposition) → Post o (λ _ _. ClaimRelated job R p) → checkedBy (job .proofs) p a o .number ≡ 0 → ClaimRelated job R p
       go (ok q s) h e = h .holds
       go (refused r s) h e = absurd (not-zero (r .number) (nonzero-at (r .number) (h .holds)) e)
 
-  check-accepts : (ws : List ℕ) (p : ℕ) (a : Arrays) (scratch : ℕ) → check ws p a scratch .number ≡ 0 → ClosedFor (jobOf ws) R → ClaimRelated (jobOf ws) R p
+  check-accepts : (ws : List ℕ) (p mode : ℕ) (a : Arrays) (scratch : ℕ) → check ws p mode a scratch .number ≡ 0 → ClosedFor (isStrict mode) (jobOf ws) R → ClaimRelated (jobOf ws) R p
   unfolding check
-  check-accepts ws p a scratch e closed = go (loadRefusal ws p (lentBy a scratch)) refl (load-numbered ws p (lentBy a scratch)) e
+  check-accepts ws p mode a scratch e closed = go (loadRefusal ws p mode (lentBy a scratch)) refl (load-numbered ws p mode (lentBy a scratch)) e
     where
-      go : (o : Option Refusal) → loadRefusal ws p (lentBy a scratch) ≡ o → Numbered o → loaded (jobOf ws) p a o .number ≡ 0 → ClaimRelated (jobOf ws) R p
-      go none h n e = checked-sound (jobOf ws) p a (loads-valid ws p (lentBy a scratch) h) closed e
+      go : (o : Option Refusal) → loadRefusal ws p mode (lentBy a scratch) ≡ o → Numbered o → loaded (jobOf ws) p (isStrict mode) a o .number ≡ 0 → ClaimRelated (jobOf ws) R p
+      go none h n e = checked-sound (jobOf ws) p (isStrict mode) a (loads-valid ws p mode (lentBy a scratch) h) closed e
       go (some r) h n e = absurd (not-zero (r .number) (n .number) e)
 
-  -- DEMAND 3: whatever words, asked proof, arrays, scratch and answer's buffer are handed in, if the entry's number is 0, every closed relation of the job
-  -- relates the trees of the two sides that the asked proof claims.
-  pub accepted : (ws : List ℕ) (p : ℕ) (a : Arrays) (scratch : ℕ) (answer : List ℕ)
-      → entry ws p a scratch answer .number ≡ 0 → ClosedFor (jobOf ws) R → ClaimRelated (jobOf ws) R p
+  -- DEMAND 3: whatever words, asked proof, mode, arrays, scratch and answer's buffer are handed in, if the entry's number is 0, every relation of the job that
+  -- is closed in that mode relates the trees of the two sides that the asked proof claims.
+  pub accepted : (ws : List ℕ) (p mode : ℕ) (a : Arrays) (scratch : ℕ) (answer : List ℕ)
+      → entry ws p mode a scratch answer .number ≡ 0 → ClosedFor (isStrict mode) (jobOf ws) R → ClaimRelated (jobOf ws) R p
   unfolding entry
-  accepted ws p a scratch answer e closed = go (eqb (length answer) 8) e
+  accepted ws p mode a scratch answer e closed = go (eqb (length answer) 8) e
     where
-      go : (b : Bool) → (elim b as (λ _. Left) [ true ↦ check ws p a scratch | false ↦ record { number = 10; answer = answer; arrays = a } ]) .number ≡ 0 → ClaimRelated (jobOf ws) R p
-      go true e = check-accepts ws p a scratch e closed
+      go : (b : Bool) → (elim b as (λ _. Left) [ true ↦ check ws p mode a scratch | false ↦ record { number = 10; answer = answer; arrays = a } ]) .number ≡ 0 → ClaimRelated (jobOf ws) R p
+      go true e = check-accepts ws p mode a scratch e closed
       go false e = absurd (not-zero 10 tt e)

@@ -1,5 +1,5 @@
 -- Each step of the walk relates what it accepts, in every closed relation.
-use Prim.Native.Nat.{ℕ, zero, suc, _+_, _<_}
+use Prim.Native.Nat.{ℕ, zero, suc, _<_}
 use native.Mathlib.Omega.{arith}
 use native.Mathlib.Nat.{not-suc-le-zero, le-of-suc-le-suc}
 use native.Mathlib.Decide.{decLt}
@@ -14,7 +14,7 @@ use Rattle.model.specs.Term.{Term, Literal, lit, var, app, getTerm}
 use Rattle.model.specs.Program.{Proposition, Binding, Program, Fact, equal, bare, Rule, Proof, Justification, fiat, rule, mergeFn, trans, symm, congr, containerNormalize, eval, substitution, Job}
 use Rattle.model.specs.Check.{Check, andThen, pure, Room, addNode}
 use Rattle.model.specs.Evaluate.{same}
-use Rattle.model.specs.Fact.{Offence, primitiveNonNormalArg, containerPrimitiveNotSideCondition, factOffence, noOffence, assertBodyProofNormalForm, isContainerSideCondition, wanted, matches, checkFactMatchesProposition}
+use Rattle.model.specs.Fact.{Offence, primitiveNonNormalArg, containerPrimitiveNotSideCondition, factOffence, noOffence, assertBodyProofNormalForm, isContainerSideCondition, checkFactMatchesProposition}
 use Rattle.model.specs.Action.{ActionContext, startContext, sameProposition, among, checkRuleProducesEquality}
 use Rattle.model.specs.Normalize.{App, asApp}
 use Rattle.model.specs.Walk.{noProof, claimAt, member, ruleOf, isLiteral, last, front, checkPremises, checkRule, checkViews, checkBothApps, checkMergeFn, checkTrans, checkSym, checkCongr, checkContainerNormalize, checkFiat, checkJustification, checkProofWithContext}
@@ -26,6 +26,7 @@ use Rattle.model.proofs.Post.{Post, post-ok, post-map, post-bind, or-bi
 use Rattle.model.proofs.Agree.{agree-post}
 use Rattle.model.proofs.Evaluation.{Binds, binds-keeps, binds-append, Stands, Found, Covers, covers-keeps, covers-none, covers-cons, stands-same, World, After, keeps, stay, then, Made, add-apply}
 use Rattle.model.proofs.Facts.{Form, treeMatches, onlyIf, wanted-agrees, matches-agrees, condition-agrees, actions-agree, merge-agrees, normal-agrees, reps-snoc}
+use Rattle.model.proofs.Fuel.{rule-of}
 use Rattle.model.proofs.Valid.{Valid, tree-rep, treeBindings, tree-binds}
 
 pub among-member : (q : Proposition) (qs : List Proposition) → among q qs ≡ true → List·Memᴰ q qs
@@ -112,14 +113,6 @@ view-of (tcons T (tcons U TS)) s (y ∷ z ∷ zs) x r e =
     let v = view-of (tcons U TS) s (z ∷ zs) x (r .1) e in
     record { inputs = tcons T (v .inputs); value = v .value; is = ap (tcons T) (v .is); reps = (r .0, v .reps); rep = v .rep }
 
-rule-of : (rs : List Rule) (n : ℕ) (r : Rule) → ruleOf rs n ≡ some r → List·Memᴰ r rs
-rule-of [] n r e = absurd (Option·none-ne-some r e)
-rule-of (q ∷ qs) n r e = go (eqb (q .name) n) e (rule-of qs n r)
-  where
-    go : (b : Bool) → elim b [ true ↦ some q | false ↦ ruleOf qs n ] ≡ some r → (ruleOf qs n ≡ some r → List·Memᴰ r qs) → List·Memᴰ r (q ∷ qs)
-    go true e k = List·Memᴰ·head (sym (Option·some-injective q r e))
-    go false e k = List·Memᴰ·tail (k e)
-
 -- the normal form leaves the store as it was
 no-offence : (name : ℕ) (o : Option Offence) (s : List Term) → Post (noOffence name o s) (λ _ s′. (s′ ≡ s) × (o ≡ none))
 no-offence name none s = post-ok (refl, refl)
@@ -131,7 +124,7 @@ only-if : (b : Bool) (W X : TreePair) → onlyIf b W ≡ some X → b ≡ true
 only-if true W X e = refl
 only-if false W X e = absurd (Option·none-ne-some X e)
 
-module _ {ℓ} (room : Room) (job : Job) (valid : Valid job) (R : Tree → Tree → Type ℓ) (closed : ClosedFor job R) (ctx : ActionContext) (G : TreeContext)
+module _ {ℓ} (room : Room) (job : Job) (valid : Valid job) (strict : Bool) (R : Tree → Tree → Type ℓ) (closed : ClosedFor strict job R) (ctx : ActionContext) (G : TreeContext)
     (made : treeGlobals (job .program) (treeRows (job .terms) (job .program .rows)) ≡ some G) where
   abbrev prog : Program
   prog = job .program
@@ -363,7 +356,7 @@ module _ {ℓ} (room : Room) (job : Job) (valid : Valid job) (R : Tree → Tree 
     record Premised (s s′ : List Term) (fs : List Fact) (Σ′ : List TreeBinding) (b : List Binding × List ℕ) : Type ℓ where
       pub after : After prog rows s s′
       pub bindings : List TreeBinding
-      pub hold : FactsHold prog rows R fs Σ′ bindings
+      pub hold : FactsHold prog rows strict R fs Σ′ bindings
       pub binds : Binds s′ bindings (b .0)
       pub finished : Done (b .1)
       pub normal : (f : Fact) → List·Memᴰ f fs → factOffence prog f ≡ none
@@ -399,7 +392,7 @@ module _ {ℓ} (room : Room) (job : Job) (valid : Valid job) (R : Tree → Tree 
 
     premises-sound : (name : ℕ) (fs : List Fact) (ps : List ℕ) (Σ′ : List TreeBinding) (σ : List Binding) (qs : List ℕ) (s : List Term)
         → State s → Binds s Σ′ σ → Done qs
-        → Post (checkPremises room prog proofs ctx sub name fs ps σ qs s) (λ b s′. Premised s s′ fs Σ′ b)
+        → Post (checkPremises room prog proofs ctx sub strict name fs ps σ qs s) (λ b s′. Premised s s′ fs Σ′ b)
     unfolding checkPremises assertBodyProofNormalForm
     premises-sound name [] ps Σ′ σ qs s w b d =
         post-ok (record { after = stay prog rows (w .after .world); bindings = Σ′; hold = done; binds = b; finished = d; normal = λ f m. absurd (List·Memᴰ·not-nil m) })
@@ -408,7 +401,7 @@ module _ {ℓ} (room : Room) (job : Job) (valid : Valid job) (R : Tree → Tree 
         same-bind _ (no-offence name _ s) λ _ fine.
         post-choose (isContainerSideCondition prog f) _ _ _
         (λ h.
-        post-bind (agree-post (condition-agrees prog rows room name Σ′ σ f s (w .after .world) b)) λ σ′ s₁ c.
+        post-bind (agree-post (condition-agrees prog rows room name strict Σ′ σ f s (w .after .world) b)) λ σ′ s₁ c.
         post-map (premises-sound name fs ps (c .0) σ′ qs s₁ (next w (c .2 .after)) (c .2 .binds) d) λ r s₂ m.
         record {
           after = then prog rows (c .2 .after) (m .after);
@@ -447,7 +440,7 @@ module _ {ℓ} (room : Room) (job : Job) (valid : Valid job) (R : Tree → Tree 
 
     rule-sound : (p : ℕ) (q : Proposition) → Named q → (name : ℕ) (ps : List ℕ) (σ : List Binding) → ((b : Binding) → List·Memᴰ b σ → b .term < length terms)
         → (qs : List ℕ) (s : List Term) → State s → Done qs
-        → Post (checkRule room prog proofs ctx sub p q name ps σ qs s) (λ ps′ s′. Stepped s s′ ps′ q)
+        → Post (checkRule room prog proofs ctx sub strict p q name ps σ qs s) (λ ps′ s′. Stepped s s′ ps′ q)
     unfolding checkRule
     rule-sound p q n name ps σ inside qs s w d =
         or-bind (ruleOf (prog .rules) name) _ _ _ _ tt λ r e.
@@ -459,7 +452,7 @@ module _ {ℓ} (room : Room) (job : Job) (valid : Valid job) (R : Tree → Tree 
 
     step-sound : (p : ℕ) (q : Proposition) → Named q → (j : Justification) → ((b : Binding) → List·Memᴰ b (substitution j) → b .term < length terms)
         → (ps : List ℕ) (s : List Term) → State s → Done ps
-        → Post (checkJustification room prog proofs ctx sub p q j ps s) (λ ps′ s′. Stepped s s′ ps′ q)
+        → Post (checkJustification room prog proofs ctx sub strict p q j ps s) (λ ps′ s′. Stepped s s′ ps′ q)
     step-sound p q n fiat i ps s w d = fiat-sound p q n ps s w d
     step-sound p q n (rule f rs σ) i ps s w d = rule-sound p q n f rs σ i ps s w d
     step-sound p q n (mergeFn g old new) i ps s w d = merge-sound p q n g old new ps s w d
@@ -469,7 +462,7 @@ module _ {ℓ} (room : Room) (job : Job) (valid : Valid job) (R : Tree → Tree 
     step-sound p q n (containerNormalize r) i ps s w d = normalize-sound p q n r ps s w d
     step-sound p q n eval i ps s w d = record { holds = tt }
 
-  pub walk-sound : (f : ℕ) → Walks (checkProofWithContext room prog proofs ctx f)
+  pub walk-sound : (f : ℕ) → Walks (checkProofWithContext room prog proofs ctx strict f)
   unfolding checkProofWithContext
   walk-sound zero = record { call = λ p ps s w d. record { holds = tt } }
   walk-sound (suc f) = record {
@@ -479,12 +472,12 @@ module _ {ℓ} (room : Room) (job : Job) (valid : Valid job) (R : Tree → Tree 
         (λ h. go p ps s w d (walk-sound f) (decLt p (length proofs)));
   }
     where
-      go : (p : ℕ) (ps : List ℕ) (s : List Term) → State s → Done ps → Walks (checkProofWithContext room prog proofs ctx f) → Dec (p < length proofs)
-          → Post (andThen (checkJustification room prog proofs ctx (checkProofWithContext room prog proofs ctx f) p (claimAt proofs p) (getD proofs p noProof .justification) ps s) (λ d. pure (p ∷ d)))
+      go : (p : ℕ) (ps : List ℕ) (s : List Term) → State s → Done ps → Walks (checkProofWithContext room prog proofs ctx strict f) → Dec (p < length proofs)
+          → Post (andThen (checkJustification room prog proofs ctx (checkProofWithContext room prog proofs ctx strict f) strict p (claimAt proofs p) (getD proofs p noProof .justification) ps s) (λ d. pure (p ∷ d)))
           (λ ps′ s′. Walked s s′ ps′ p)
       go p ps s w d k (yes h) =
           let n : Named (claimAt proofs p) = record { lhs = tree-rep terms (valid .ordered) (claimAt proofs p .lhs) (valid .claims p h .0); rhs = tree-rep terms (valid .ordered) (claimAt proofs p .rhs) (valid .claims p h .1) } in
-          post-bind (step-sound (checkProofWithContext room prog proofs ctx f) k p (claimAt proofs p) n (getD proofs p noProof .justification) (valid .substitutions p h) ps s w d) λ ps′ s′ m.
+          post-bind (step-sound (checkProofWithContext room prog proofs ctx strict f) k p (claimAt proofs p) n (getD proofs p noProof .justification) (valid .substitutions p h) ps s w d) λ ps′ s′ m.
           let r : Related p = record { claim = n; related = m .related } in
           post-ok (record { after = m .after; done = record { each = λ {p = x} y. here-or x r (m .done) (List·Memᴰ·cases-cons y) }; this = r })
         where
@@ -493,5 +486,5 @@ module _ {ℓ} (room : Room) (job : Job) (valid : Valid job) (R : Tree → Tree 
           here-or x r d (inr y) = d .each y
       go p ps s w d k (no h) =
           let e : getD proofs p noProof ≡ noProof = List·getD-eq-default proofs noProof {n = p} (omega arith) in
-          subst (λ (x : Proof). Post (andThen (checkJustification room prog proofs ctx (checkProofWithContext room prog proofs ctx f) p (x .claim) (x .justification) ps s) (λ d. pure (p ∷ d))) (λ ps′ s′. Walked s s′ ps′ p))
+          subst (λ (x : Proof). Post (andThen (checkJustification room prog proofs ctx (checkProofWithContext room prog proofs ctx strict f) strict p (x .claim) (x .justification) ps s) (λ d. pure (p ∷ d))) (λ ps′ s′. Walked s s′ ps′ p))
           (sym e) (record { holds = tt })

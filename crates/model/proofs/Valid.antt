@@ -197,13 +197,13 @@ pub table-passes : (t : Tables) (n : ℕ) (fs : List (ℕ → Cell → Bool)) (k
     → getD fs k passed i (getD (getD (tableList t) k []) i noCell) ≡ true
 table-passes t n fs k h l i m q = passes (getD fs k passed) (getD (tableList t) k []) (marked-table fs (tableList t) (unmarked n 0 _ q) k (omega arith) h) i m
 
-pub loads-admitted : (ws : List ℕ) (p : ℕ) (lent : Lent) → loadRefusal ws p lent ≡ none → Admitted (sizesOf ws) (tablesOf ws)
+pub loads-admitted : (ws : List ℕ) (p mode : ℕ) (lent : Lent) → loadRefusal ws p mode lent ≡ none → Admitted (sizesOf ws) (tablesOf ws)
 unfolding loadRefusal
-loads-admitted ws p lent e = record {
-  fits = λ k h i l. table-passes t 6 (fitTests t) k h refl i l (pass tests e _ (List·Memᴰ·tail (List·Memᴰ·tail (List·Memᴰ·tail (List·Memᴰ·tail (List·Memᴰ·head refl))))));
-  refers = λ k h i l. table-passes t 7 (referTests z) k h refl i l (pass tests e _ (List·Memᴰ·tail (List·Memᴰ·tail (List·Memᴰ·tail (List·Memᴰ·tail (List·Memᴰ·tail (List·Memᴰ·head refl)))))));
-  validated = λ k h i l. table-passes t 8 (validTests t) k h refl i l (pass tests e _ (List·Memᴰ·tail (List·Memᴰ·tail (List·Memᴰ·tail (List·Memᴰ·tail (List·Memᴰ·tail (List·Memᴰ·tail (List·Memᴰ·head refl))))))));
-  once = λ k h i l. table-passes t 9 (onceTests t) k h refl i l (pass tests e _ (List·Memᴰ·tail (List·Memᴰ·tail (List·Memᴰ·tail (List·Memᴰ·tail (List·Memᴰ·tail (List·Memᴰ·tail (List·Memᴰ·tail (List·Memᴰ·head refl)))))))));
+loads-admitted ws p mode lent e = record {
+  fits = λ k h i l. table-passes t 6 (fitTests t) k h refl i l (pass tests e _ (List·Memᴰ·tail (List·Memᴰ·tail (List·Memᴰ·tail (List·Memᴰ·tail (List·Memᴰ·tail (List·Memᴰ·head refl)))))));
+  refers = λ k h i l. table-passes t 7 (referTests z) k h refl i l (pass tests e _ (List·Memᴰ·tail (List·Memᴰ·tail (List·Memᴰ·tail (List·Memᴰ·tail (List·Memᴰ·tail (List·Memᴰ·tail (List·Memᴰ·head refl))))))));
+  validated = λ k h i l. table-passes t 8 (validTests t) k h refl i l (pass tests e _ (List·Memᴰ·tail (List·Memᴰ·tail (List·Memᴰ·tail (List·Memᴰ·tail (List·Memᴰ·tail (List·Memᴰ·tail (List·Memᴰ·tail (List·Memᴰ·head refl)))))))));
+  once = λ k h i l. table-passes t 9 (onceTests t) k h refl i l (pass tests e _ (List·Memᴰ·tail (List·Memᴰ·tail (List·Memᴰ·tail (List·Memᴰ·tail (List·Memᴰ·tail (List·Memᴰ·tail (List·Memᴰ·tail (List·Memᴰ·tail (List·Memᴰ·head refl))))))))));
 }
   where
     z : Sizes
@@ -213,7 +213,7 @@ loads-admitted ws p lent e = record {
     t = tablesOf ws
 
     tests : List (Unit {0} → Option Refusal)
-    tests = loadTests ws (sizesOf ws) (tablesOf ws) p lent
+    tests = loadTests ws (sizesOf ws) (tablesOf ws) p mode lent
 
 -- an admitted job is valid
 admitted-valid : (z : Sizes) (t : Tables) → z .terms ≤ length (t .terms) → Admitted z t → Valid (readJob z t)
@@ -265,8 +265,8 @@ admitted-valid z t size a = record {
         && below p (references (getD (map readProof (t .proofs)) p noProof .justification))) _ (proof-at p h)) (b .term) (Memᴰ·map (λ (c : Binding). c .term) m) in
         omega (arith, terms)
 
-pub loads-valid : (ws : List ℕ) (p : ℕ) (lent : Lent) → loadRefusal ws p lent ≡ none → Valid (jobOf ws)
-loads-valid ws p lent e = admitted-valid (sizesOf ws) (tablesOf ws) (terms-length ws) (loads-admitted ws p lent e)
+pub loads-valid : (ws : List ℕ) (p mode : ℕ) (lent : Lent) → loadRefusal ws p mode lent ≡ none → Valid (jobOf ws)
+loads-valid ws p mode lent e = admitted-valid (sizesOf ws) (tablesOf ws) (terms-length ws) (loads-admitted ws p mode lent e)
 
 -- an argument of an admitted job's expression has a lower number
 pub expressions-lower : (z : Sizes) (t : Tables) → Admitted z t → (e : ℕ) → Below e (readArguments (getD (t .expressions) e noCell))

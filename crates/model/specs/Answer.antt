@@ -1,7 +1,7 @@
 -- The answer's eight words and the words of the lent store, for every input: what the entry returns and leaves.
-use Prim.Native.Nat.{ℕ, zero, suc, _+_, _-_, max}
+use Prim.Native.Nat.{ℕ, zero, suc, _+_, max}
 use mathlib.Core.List.{List, [], _∷_, _++_, map}
-use mathlib.Core.Bool.{true, false}
+use mathlib.Core.Bool.{Bool, true, false}
 use mathlib.Core.Option.{Option, none, some}
 use lib.ListN.{length, getD, drop}
 use lib.Dec.{eqb}
@@ -9,7 +9,7 @@ use Rattle.model.specs.Term.{Term, termKind, termWords, width}
 use Rattle.model.specs.Program.{Proposition, Proof, references, Job}
 use Rattle.model.specs.Check.{Refusal, Outcome, ok, refused}
 use Rattle.model.specs.Decode.{jobOf}
-use Rattle.model.specs.Load.{Lent, loadRefusal}
+use Rattle.model.specs.Load.{Lent, isStrict, loadRefusal}
 use Rattle.model.specs.Walk.{checkProof}
 
 abbrev pub maximum : List ℕ → ℕ
@@ -75,23 +75,23 @@ checkedBy proofs p a (ok q s) = left (0 ∷ length s ∷ q .lhs ∷ q .rhs ∷ h
 checkedBy proofs p a (refused r s) = left (refusalWords r (length s)) (stored s a)
 
 -- An admitted job, checked in the room that the arrays give.
-unfoldable pub checked : Job → ℕ → Arrays → Left
-checked job p a =
-    checkedBy (job .proofs) p a (checkProof (record { cells = length (a .kinds); words = length (a .pool) }) (job .program) (job .proofs) p (job .terms))
+unfoldable pub checked : Job → ℕ → Bool → Arrays → Left
+checked job p strict a =
+    checkedBy (job .proofs) p a (checkProof (record { cells = length (a .kinds); words = length (a .pool) }) (job .program) (job .proofs) strict p (job .terms))
 
 -- Below 20 the terms are 0 and the store stays as it was lent.
-abbrev pub loaded : Job → ℕ → Arrays → Option Refusal → Left
-loaded job p a none = checked job p a
-loaded job p a (some r) = left (refusalWords r 0) a
+abbrev pub loaded : Job → ℕ → Bool → Arrays → Option Refusal → Left
+loaded job p strict a none = checked job p strict a
+loaded job p strict a (some r) = left (refusalWords r 0) a
 
 abbrev pub lentBy : Arrays → ℕ → Lent
 lentBy a scratch = record { kinds = length (a .kinds); ends = length (a .ends); pool = length (a .pool); scratch = scratch }
 
--- The check of a job's words for an asked proof, with the lent arrays and so many words of scratch.
-unfoldable pub check : List ℕ → ℕ → Arrays → ℕ → Left
-check ws p a scratch = loaded (jobOf ws) p a (loadRefusal ws p (lentBy a scratch))
+-- The check of a job's words for an asked proof in a mode, with the lent arrays and so many words of scratch.
+unfoldable pub check : List ℕ → ℕ → ℕ → Arrays → ℕ → Left
+check ws p mode a scratch = loaded (jobOf ws) p (isStrict mode) a (loadRefusal ws p mode (lentBy a scratch))
 
 -- THE ENTRY: an answer's buffer of another length than 8 gives 10 at once, unwritten.
-unfoldable pub entry : List ℕ → ℕ → Arrays → ℕ → List ℕ → Left
-entry ws p a scratch answer =
-    elim (eqb (length answer) 8) [ true ↦ check ws p a scratch | false ↦ record { number = 10; answer = answer; arrays = a } ]
+unfoldable pub entry : List ℕ → ℕ → ℕ → Arrays → ℕ → List ℕ → Left
+entry ws p mode a scratch answer =
+    elim (eqb (length answer) 8) [ true ↦ check ws p mode a scratch | false ↦ record { number = 10; answer = answer; arrays = a } ]

@@ -6,7 +6,7 @@ use mathlib.Core.Option.{Option, none, some}
 use lib.Dec.{eqb}
 use Rattle.model.specs.Term.{app}
 use Rattle.model.specs.Program.{Head, literal, variable, constructor, custom, primitive, Expr, node, Exprs, nil, cons, Proposition, Binding, Program, Fact, equal, bare}
-use Rattle.model.specs.Check.{Check, _>>=_, pure, refuse, firstOf, orRefuse, checkThat, Room, addNode}
+use Rattle.model.specs.Check.{Check, _>>=_, pure, refuse, choose, firstOf, orRefuse, checkThat, Room, addNode}
 use Rattle.model.specs.Evaluate.{lookup, primitiveAt, same, evalExpr, evalFactExpr, evalFactExprs}
 
 -- The Rust's `ResolvedCall::Func`: a constructor or custom call.
@@ -127,10 +127,10 @@ module _ (room : Room) (prog : Program) (rule : ℕ) (σ : List Binding) where
   abbrev pub evalSide : Expr → Check (Option ℕ)
   evalSide e = evalSideBy e (variableOf (headOf e))
 
-  -- `check_side_condition`: the bindings after it. A bare one passes unevaluated.
-  unfoldable pub checkSideCondition : Fact → Check (List Binding)
-  checkSideCondition (bare i e) = pure σ
-  checkSideCondition (equal i l r) =
+  -- `check_side_condition`: the bindings after it. A bare one passes unevaluated; in strict mode it is evaluated as a side is, and passes where it has a value.
+  unfoldable pub checkSideCondition : Bool → Fact → Check (List Binding)
+  checkSideCondition strict (bare i e) = choose strict (evalSide e >>= λ _. pure σ) (pure σ)
+  checkSideCondition strict (equal i l r) =
       evalSide l >>= λ a.
       evalSide r >>= λ b.
       compareSides rule i σ (variableOf (headOf l)) a (variableOf (headOf r)) b

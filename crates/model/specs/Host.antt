@@ -1,4 +1,4 @@
--- The host entry and the program: a job as bytes, and a store of their own.
+-- The host entries and the program: a job as bytes, and a store of their own.
 use Prim.Native.Nat.{ℕ, _+_, _*_, _-_, _%_}
 use mathlib.Core.List.{List, [], _∷_}
 use mathlib.Core.Bool.{true, false, not, _||_}
@@ -23,11 +23,11 @@ abbrev pub ownScratch : ℕ
 ownScratch = 16384
 
 -- The eight words for a job's bytes; too many bytes, or no whole words, are 1.
-unfoldable pub hostAnswer : List ℕ → ℕ → List ℕ
-hostAnswer bytes p =
+unfoldable pub hostAnswer : List ℕ → ℕ → ℕ → List ℕ
+hostAnswer bytes p mode =
     elim (ltb 65536 (length bytes) || not (eqb (length bytes % 4) 0)) [
       | true ↦ refusalWords (record { number = 1; fields = [] }) 0
-      | false ↦ check (wordsOf bytes) p ownArrays ownScratch .answer
+      | false ↦ check (wordsOf bytes) p mode ownArrays ownScratch .answer
     ]
 
 -- The number that the host entry returns and what it leaves in the answer's buffer.
@@ -35,14 +35,18 @@ pub record Answered : Type 0 where
   pub number : ℕ
   pub answer : List ℕ
 
--- THE HOST ENTRY: an answer's buffer of another length than 8 gives 10 at once, unwritten.
-unfoldable pub hostEntry : List ℕ → ℕ → List ℕ → Answered
-hostEntry bytes p answer =
+-- THE HOST ENTRY WITH A MODE: an answer's buffer of another length than 8 gives 10 at once, unwritten.
+unfoldable pub hostEntryMode : List ℕ → ℕ → ℕ → List ℕ → Answered
+hostEntryMode bytes p mode answer =
     elim (eqb (length answer) 8) [
-      | true ↦ record { number = getD (hostAnswer bytes p) 0 0; answer = hostAnswer bytes p }
+      | true ↦ record { number = getD (hostAnswer bytes p mode) 0 0; answer = hostAnswer bytes p mode }
       | false ↦ record { number = 10; answer = answer }
     ]
 
--- The program asks for the last proof; without proofs that is none, and 3.
+-- THE HOST ENTRY, at mode 0.
+abbrev pub hostEntry : List ℕ → ℕ → List ℕ → Answered
+hostEntry bytes p answer = hostEntryMode bytes p 0 answer
+
+-- The program asks for the last proof, at mode 0; without proofs that is none, and 3.
 abbrev pub programAnswer : List ℕ → List ℕ
-programAnswer bytes = hostAnswer bytes (sizesOf (wordsOf bytes) .proofs - 1)
+programAnswer bytes = hostAnswer bytes (sizesOf (wordsOf bytes) .proofs - 1) 0

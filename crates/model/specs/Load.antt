@@ -1,5 +1,5 @@
 -- The refusals below 20, by document 01: first by the host, then by the job's writer with the least cell, then for want of room.
-use Prim.Native.Nat.{ℕ, suc, _+_, _*_, _-_, _%_, _<_}
+use Prim.Native.Nat.{ℕ, suc, _+_, _*_, _%_, _<_}
 use mathlib.Core.Path.{_≡_}
 use mathlib.Core.List.{List, [], _∷_, _++_, map}
 use mathlib.Core.Bool.{Bool, true, false, not, _&&_, _||_}
@@ -30,6 +30,14 @@ tooLarge z =
     ltb 16384 (z .terms) || ltb 4096 (z .expressions) || ltb 4096 (z .facts) || ltb 4096 (z .actions) ||
     ltb 256 (z .globals) || ltb (z .actions) (z .globals) || ltb 4096 (z .functions) || ltb 4096 (z .primitives) ||
     ltb 4096 (z .rows) || ltb 4096 (z .normalisers) || ltb 4096 (z .rules) || ltb 4096 (z .proofs) || ltb 131072 (z .pool)
+
+-- The mode: 0 as the Rust checks, 1 strict.
+abbrev pub isStrict : ℕ → Bool
+isStrict mode = eqb mode 1
+
+-- 11: a mode other than 0 and 1.
+abbrev pub unknownMode : ℕ → Bool
+unknownMode mode = ltb 1 mode
 
 -- 5: ends that rise from `start` and finish at the pool's end.
 abbrev pub endsRise : ℕ → List ℕ → ℕ → Bool
@@ -241,12 +249,13 @@ pub record Admitted (z : Sizes) (t : Tables) : Type 0 where
 abbrev pub firstFailing : ℕ → List (ℕ → Cell → Bool) → Tables → Option Refusal
 firstFailing n tests t = firstMarked n 0 (marks tests (tableList t))
 
--- The tests for the numbers below 20, in their order; the first refusal is the lowest number that applies.
-abbrev pub loadTests : List ℕ → Sizes → Tables → ℕ → Lent → List (Unit {0} → Option Refusal)
-loadTests ws z t asked lent =
+-- The tests for the numbers below 20, in their order: from 1 to 10 the lowest number that applies, with 11 right after 3.
+abbrev pub loadTests : List ℕ → Sizes → Tables → ℕ → ℕ → Lent → List (Unit {0} → Option Refusal)
+loadTests ws z t asked mode lent =
     (λ _. refusedIf (wrongLength ws) 1) ∷
     (λ _. refusedIf (tooLarge z) 2) ∷
     (λ _. refusedIf (leb (z .proofs) asked) 3) ∷
+    (λ _. refusedIf (unknownMode mode) 11) ∷
     (λ _. refusedIf (not (endsRise 0 (endsOf ws) (z .pool))) 5) ∷
     (λ _. firstFailing 6 (fitTests t) t) ∷
     (λ _. firstFailing 7 (referTests z) t) ∷
@@ -255,5 +264,5 @@ loadTests ws z t asked lent =
     (λ _. refusedIf (noRoom z (map readTerm (t .terms)) lent) 10) ∷ []
 
 -- The refusal below 20; none for an admitted job.
-unfoldable pub loadRefusal : List ℕ → ℕ → Lent → Option Refusal
-loadRefusal ws asked lent = firstRefusal (loadTests ws (sizesOf ws) (tablesOf ws) asked lent)
+unfoldable pub loadRefusal : List ℕ → ℕ → ℕ → Lent → Option Refusal
+loadRefusal ws asked mode lent = firstRefusal (loadTests ws (sizesOf ws) (tablesOf ws) asked mode lent)

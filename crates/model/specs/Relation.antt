@@ -1,9 +1,9 @@
 -- The relations of the mission's third demand: symmetric, transitive, with literals and the global pairs, and closed under rule instances,
--- replacing one argument, merge steps and container normalisation.
+-- replacing one argument, merge steps and container normalisation. A rule's side conditions pass as the mode says, which is a parameter.
 use Prim.Native.Nat.{ℕ, zero, suc}
 use mathlib.Core.Path.{_≡_}
 use mathlib.Core.List.{List, [], _∷_, _++_, List·Memᴰ}
-use mathlib.Core.Bool.{true, false}
+use mathlib.Core.Bool.{Bool, true, false}
 use mathlib.Core.Option.{Option, none, some}
 use Rattle.model.specs.Term.{Literal}
 use Rattle.model.specs.Program.{Program, Fact, Rule, Job}
@@ -25,12 +25,12 @@ replaced tnil n t = tnil
 replaced (tcons x xs) zero t = tcons t xs
 replaced (tcons x xs) (suc n) t = tcons x (replaced xs n t)
 
-module _ (prog : Program) (rows : List TreeRow) where
+module _ (prog : Program) (rows : List TreeRow) (strict : Bool) where
   -- The facts of a rule hold in R, from the bindings σ to the bindings τ: side conditions pass, each other fact's pair is related.
   pub data FactsHold {ℓ} (R : Tree → Tree → Type ℓ) : List Fact → List TreeBinding → List TreeBinding → Type ℓ where
     done : {σ : List TreeBinding} → FactsHold R [] σ σ
     side : {f : Fact} {fs : List Fact} {σ σ′ τ : List TreeBinding}
-        → isContainerSideCondition prog f ≡ true → treeCondition prog rows σ f ≡ some σ′ → FactsHold R fs σ′ τ → FactsHold R (f ∷ fs) σ τ
+        → isContainerSideCondition prog f ≡ true → treeCondition prog rows strict σ f ≡ some σ′ → FactsHold R fs σ′ τ → FactsHold R (f ∷ fs) σ τ
     premise : {f : Fact} {fs : List Fact} {σ τ : List TreeBinding} {q : TreePair}
         → isContainerSideCondition prog f ≡ false → treeWanted prog rows σ f ≡ some q → R (q .left) (q .right) → FactsHold R fs σ τ
         → FactsHold R (f ∷ fs) σ τ
@@ -77,11 +77,11 @@ module _ (prog : Program) (rows : List TreeRow) where
     pub data FactsDerived : List Fact → List TreeBinding → List TreeBinding → Type 0 where
       done : {σ : List TreeBinding} → FactsDerived [] σ σ
       side : {f : Fact} {fs : List Fact} {σ σ′ τ : List TreeBinding}
-          → isContainerSideCondition prog f ≡ true → treeCondition prog rows σ f ≡ some σ′ → FactsDerived fs σ′ τ → FactsDerived (f ∷ fs) σ τ
+          → isContainerSideCondition prog f ≡ true → treeCondition prog rows strict σ f ≡ some σ′ → FactsDerived fs σ′ τ → FactsDerived (f ∷ fs) σ τ
       premise : {f : Fact} {fs : List Fact} {σ τ : List TreeBinding} {q : TreePair}
           → isContainerSideCondition prog f ≡ false → treeWanted prog rows σ f ≡ some q → Derived (q .left) (q .right) → FactsDerived fs σ τ
           → FactsDerived (f ∷ fs) σ τ
 
--- A relation that is closed for a job: its rows are those of its terms' trees.
-abbrev pub ClosedFor {ℓ} : Job → (Tree → Tree → Type ℓ) → Type ℓ
-ClosedFor job R = Closed (job .program) (treeRows (job .terms) (job .program .rows)) R
+-- A relation that is closed for a job in a mode: its rows are those of its terms' trees.
+abbrev pub ClosedFor {ℓ} : Bool → Job → (Tree → Tree → Type ℓ) → Type ℓ
+ClosedFor strict job R = Closed (job .program) (treeRows (job .terms) (job .program .rows)) strict R

@@ -222,10 +222,10 @@ module _ (prog : Program) (rows : List TreeRow) where
   abbrev pub treeSide : List TreeBinding → Expr → Option (Option Tree)
   treeSide σ e = treeSideBy σ e (variableOf (headOf e))
 
-  -- A container side condition: the bindings after it.
-  unfoldable pub treeCondition : List TreeBinding → Fact → Option (List TreeBinding)
-  treeCondition σ (bare i e) = some σ
-  treeCondition σ (equal i l r) =
+  -- A container side condition: the bindings after it. A bare one passes; in strict mode, where it has a value.
+  unfoldable pub treeCondition : Bool → List TreeBinding → Fact → Option (List TreeBinding)
+  treeCondition strict σ (bare i e) = elim strict [ true ↦ treeSide σ e >>? λ _. some σ | false ↦ some σ ]
+  treeCondition strict σ (equal i l r) =
       treeSide σ l >>? λ a. treeSide σ r >>? λ b. treeCompareSides σ (variableOf (headOf l)) a (variableOf (headOf r)) b
 
   abbrev pub treeAction : TreeContext → Action → Option TreeContext

@@ -67,23 +67,23 @@ module _ (room : Room) (prog : Program) where
 -- `ctx` holds the global pairs and bindings, `sub` checks a proof referred to; the list is the cache of checked proofs.
 module _ (room : Room) (prog : Program) (proofs : List Proof) (ctx : ActionContext) (sub : ℕ → List ℕ → Check (List ℕ)) where
   -- Each fact with its premise. Too few premises are refused by 27 before.
-  unfoldable pub checkPremises : ℕ → List Fact → List ℕ → List Binding → List ℕ → Check (List Binding × List ℕ)
-  checkPremises name [] ps σ done = pure (σ, done)
-  checkPremises name (f ∷ fs) [] σ done = refuse 27 []
-  checkPremises name (f ∷ fs) (p ∷ ps) σ done =
+  unfoldable pub checkPremises : Bool → ℕ → List Fact → List ℕ → List Binding → List ℕ → Check (List Binding × List ℕ)
+  checkPremises strict name [] ps σ done = pure (σ, done)
+  checkPremises strict name (f ∷ fs) [] σ done = refuse 27 []
+  checkPremises strict name (f ∷ fs) (p ∷ ps) σ done =
       assertBodyProofNormalForm prog name f >>= λ _.
       choose (isContainerSideCondition prog f)
-      (checkSideCondition room prog name σ f >>= λ σ′.
-      checkPremises name fs ps σ′ done)
+      (checkSideCondition room prog name σ strict f >>= λ σ′.
+      checkPremises strict name fs ps σ′ done)
       (sub p done >>= λ done₁.
       checkFactMatchesProposition room prog name σ f (claimAt proofs p) >>= λ _.
-      checkPremises name fs ps σ done₁)
+      checkPremises strict name fs ps σ done₁)
 
-  unfoldable pub checkRule : ℕ → Proposition → ℕ → List ℕ → List Binding → List ℕ → Check (List ℕ)
-  checkRule p q name ps σ done =
+  unfoldable pub checkRule : Bool → ℕ → Proposition → ℕ → List ℕ → List Binding → List ℕ → Check (List ℕ)
+  checkRule strict p q name ps σ done =
       orRefuse (ruleOf (prog .rules) name) 32 (name ∷ []) >>= λ r.
       checkThat (eqb (length (r .facts)) (length ps)) 27 (p ∷ name ∷ length (r .facts) ∷ length ps ∷ []) >>= λ _.
-      checkPremises name (r .facts) ps (σ ++ ctx .bindings) done >>= λ b.
+      checkPremises strict name (r .facts) ps (σ ++ ctx .bindings) done >>= λ b.
       checkRuleProducesEquality room prog r (b .0) q >>= λ _.
       pure (b .1)
 
@@ -146,22 +146,22 @@ module _ (room : Room) (prog : Program) (proofs : List Proof) (ctx : ActionConte
       pure done
 
   -- The proof p that claims q by its justification: the cache after it.
-  abbrev pub checkJustification : ℕ → Proposition → Justification → List ℕ → Check (List ℕ)
-  checkJustification p q fiat done = checkFiat p q done
-  checkJustification p q (rule name ps σ) done = checkRule p q name ps σ done
-  checkJustification p q (mergeFn f old new) done = checkMergeFn p q f old new done
-  checkJustification p q (trans l r) done = checkTrans p q l r done
-  checkJustification p q (symm a) done = checkSym p q a done
-  checkJustification p q (congr a i b) done = checkCongr p q a i b done
-  checkJustification p q (containerNormalize a) done = checkContainerNormalize p q a done
-  checkJustification p q eval done = refuse 41 (p ∷ [])
+  abbrev pub checkJustification : Bool → ℕ → Proposition → Justification → List ℕ → Check (List ℕ)
+  checkJustification strict p q fiat done = checkFiat p q done
+  checkJustification strict p q (rule name ps σ) done = checkRule strict p q name ps σ done
+  checkJustification strict p q (mergeFn f old new) done = checkMergeFn p q f old new done
+  checkJustification strict p q (trans l r) done = checkTrans p q l r done
+  checkJustification strict p q (symm a) done = checkSym p q a done
+  checkJustification strict p q (congr a i b) done = checkCongr p q a i b done
+  checkJustification strict p q (containerNormalize a) done = checkContainerNormalize p q a done
+  checkJustification strict p q eval done = refuse 41 (p ∷ [])
 
 -- `check_proof_with_context`, by fuel: a reference has a lower number, so fuel beyond the number is enough, and none left is refused.
-unfoldable pub checkProofWithContext : Room → Program → List Proof → ActionContext → ℕ → ℕ → List ℕ → Check (List ℕ)
-checkProofWithContext room prog proofs ctx zero p done = refuse 41 (p ∷ [])
-checkProofWithContext room prog proofs ctx (suc fuel) p done =
+unfoldable pub checkProofWithContext : Room → Program → List Proof → ActionContext → Bool → ℕ → ℕ → List ℕ → Check (List ℕ)
+checkProofWithContext room prog proofs ctx strict zero p done = refuse 41 (p ∷ [])
+checkProofWithContext room prog proofs ctx strict (suc fuel) p done =
     choose (member p done) (pure done)
-    (checkJustification room prog proofs ctx (checkProofWithContext room prog proofs ctx fuel) p (claimAt proofs p) (getD proofs p noProof .justification) done >>= λ done₁.
+    (checkJustification room prog proofs ctx (checkProofWithContext room prog proofs ctx strict fuel) strict p (claimAt proofs p) (getD proofs p noProof .justification) done >>= λ done₁.
     pure (p ∷ done₁))
 
 -- The first rule name that has been seen before.
@@ -179,9 +179,9 @@ newContext room prog =
     noDuplicate (duplicateRuleName [] (prog .rules)) >>= λ _.
     processActions room prog nameGlobalActions (prog .globals) (startContext [])
 
--- `check_proof`
-unfoldable pub checkProof : Room → Program → List Proof → ℕ → Check Proposition
-checkProof room prog proofs p =
+-- `check_proof`, and beside it the strict mode, where a bare container side condition is evaluated.
+unfoldable pub checkProof : Room → Program → List Proof → Bool → ℕ → Check Proposition
+checkProof room prog proofs strict p =
     newContext room prog >>= λ ctx.
-    checkProofWithContext room prog proofs ctx (suc (length proofs)) p [] >>= λ _.
+    checkProofWithContext room prog proofs ctx strict (suc (length proofs)) p [] >>= λ _.
     pure (claimAt proofs p)

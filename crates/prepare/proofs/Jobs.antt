@@ -86,28 +86,28 @@ room-of z words l h =
       enough = ltb-false (l .scratch) (2 * (l .kinds + z .proofs)) (a1 .1);
     }
 
-module _ (ws : List ℕ) (asked : ℕ) (l : Lent) (a : loadRefusal ws asked l ≡ none) where
+module _ (ws : List ℕ) (asked mode : ℕ) (l : Lent) (a : loadRefusal ws asked mode l ≡ none) where
   -- the proof asked for is there
   pub loads-asked : asked < sizesOf ws .proofs
-  loads-asked = leb-false (sizesOf ws .proofs) asked (refused-no _ 3 (test-passes ws asked l a _ (List·Memᴰ·tail (List·Memᴰ·tail (List·Memᴰ·head refl)))))
+  loads-asked = leb-false (sizesOf ws .proofs) asked (refused-no _ 3 (test-passes ws asked mode l a _ (List·Memᴰ·tail (List·Memᴰ·tail (List·Memᴰ·head refl)))))
 
   writer-passes : firstRefusal (writerTests (sizesOf ws) (tablesOf ws)) ≡ none
   writer-passes = all-none (writerTests (sizesOf ws) (tablesOf ws))
-      (λ t m. test-passes ws asked l a t (List·Memᴰ·tail (List·Memᴰ·tail (List·Memᴰ·tail (List·Memᴰ·tail (Memᴰ·append-left ((λ _. refusedIf (noRoom (sizesOf ws) (map readTerm (tablesOf ws .terms)) l) 10) ∷ []) m))))))
+      (λ t m. test-passes ws asked mode l a t (List·Memᴰ·tail (List·Memᴰ·tail (List·Memᴰ·tail (List·Memᴰ·tail (List·Memᴰ·tail (Memᴰ·append-left ((λ _. refusedIf (noRoom (sizesOf ws) (map readTerm (tablesOf ws .terms)) l) 10) ∷ []) m)))))))
 
   pub loads-ready : Ready ws
   loads-ready =
-      let q = eq-of (length ws) (12 + 2 * cellCount (sizesOf ws) + sizesOf ws .pool) (not-false _ (or-no (ltb (length ws) 12) _ (right-length ws asked l a) .1)) in
+      let q = eq-of (length ws) (12 + 2 * cellCount (sizesOf ws) + sizesOf ws .pool) (not-false _ (or-no (ltb (length ws) 12) _ (right-length ws asked mode l a) .1)) in
       record {
-        held = record { long = omega (arith, q); formed = loads-held ws asked l a .formed; limits = loads-held ws asked l a .limits };
-        admitted = subst (Admitted (sizesOf ws)) (sym (tables-for ws)) (loads-admitted ws asked l a);
+        held = record { long = omega (arith, q); formed = loads-held ws asked mode l a .formed; limits = loads-held ws asked mode l a .limits };
+        admitted = subst (Admitted (sizesOf ws)) (sym (tables-for ws)) (loads-admitted ws asked mode l a);
       }
 
   pub loads-room : Room (sizesOf ws) (startOf (endsOf ws) (sizesOf ws .terms)) l
   loads-room =
       let e = (λ i. firstRefusal (writerTests (sizesOf ws) (tables-for ws i))) ∙ writer-passes in
-      let b = test-passes ws asked l a _ (List·Memᴰ·tail (List·Memᴰ·tail (List·Memᴰ·tail (List·Memᴰ·tail (List·Memᴰ·tail (List·Memᴰ·tail (List·Memᴰ·tail (List·Memᴰ·tail (List·Memᴰ·head refl))))))))) in
-      room-of (sizesOf ws) (startOf (endsOf ws) (sizesOf ws .terms)) l (sym (room-is (loads-held ws asked l a) l e) ∙ (λ i. noRoom (sizesOf ws) (map readTerm (tables-for ws i .terms)) l) ∙ refused-no _ 10 b)
+      let b = test-passes ws asked mode l a _ (List·Memᴰ·tail (List·Memᴰ·tail (List·Memᴰ·tail (List·Memᴰ·tail (List·Memᴰ·tail (List·Memᴰ·tail (List·Memᴰ·tail (List·Memᴰ·tail (List·Memᴰ·tail (List·Memᴰ·head refl)))))))))) in
+      room-of (sizesOf ws) (startOf (endsOf ws) (sizesOf ws .terms)) l (sym (room-is (loads-held ws asked mode l a) l e) ∙ (λ i. noRoom (sizesOf ws) (map readTerm (tables-for ws i .terms)) l) ∙ refused-no _ 10 b)
 
 -- what the start of a job needs and leaves
 module _ {ws K E P : List ℕ} (L : Loads ws K E P) where
@@ -115,16 +115,16 @@ module _ {ws K E P : List ℕ} (L : Loads ws K E P) where
   lent = lentBy (arraysOf K E P) (L .scratch)
 
   pub start-ready : Ready ws
-  start-ready = loads-ready ws (L .asked) lent (L .passes)
+  start-ready = loads-ready ws (L .asked) (L .mode) lent (L .passes)
 
   room : Room (sizesOf ws) (startOf (endsOf ws) (sizesOf ws .terms)) lent
-  room = loads-room ws (L .asked) lent (L .passes)
+  room = loads-room ws (L .asked) (L .mode) lent (L .passes)
 
   pub start-loadable : Loadable (kindsOf ws) (endsOf ws) (poolOf ws) (fillFor ws) (sizesOf ws .terms) K E P
   start-loadable = record {
     formed = start-ready .held .formed;
     within = omega arith;
-    once = once-of (cellsOf (kindsOf ws) (endsOf ws) (poolOf ws) (sizesOf ws .terms)) (subst Distinct (sym (job-terms ws)) (loads-valid ws (L .asked) lent (L .passes) .distinct));
+    once = once-of (cellsOf (kindsOf ws) (endsOf ws) (poolOf ws) (sizesOf ws .terms)) (subst Distinct (sym (job-terms ws)) (loads-valid ws (L .asked) (L .mode) lent (L .passes) .distinct));
     terms = subst (λ (cs : List Cell). map cellOf (map readTerm cs) ≡ cs) (terms-are ws) (fits-cells (tablesFor ws .terms) (start-ready .admitted .fits 0 (lit< tt)));
     cells = room .terms;
     words = room .words-fit;
@@ -135,7 +135,7 @@ module _ {ws K E P : List ℕ} (L : Loads ws K E P) where
 
   start-sane : Sane (jobOf ws .program) [] (jobOf ws .terms)
   start-sane =
-      let v = loads-valid ws (L .asked) lent (L .passes) in
+      let v = loads-valid ws (L .asked) (L .mode) lent (L .passes) in
       record { ordered = v .ordered; bound = λ b m. absurd (List·Memᴰ·not-nil m); rows = λ r m. v .rows r m .0 }
 
   module _ {K′ E′ P′ : List ℕ} {f : Fill} (D : Loaded (kindsOf ws) (endsOf ws) (poolOf ws) (sizesOf ws .terms) K E P K′ E′ P′ f) where

@@ -11,7 +11,7 @@ use Rattle.model.specs.Cell.{Cell}
 use Rattle.model.specs.Term.{readTerm}
 use Rattle.model.specs.Layout.{cellCount, sizesOf, kindsOf, endsOf, poolOf, Tables, tableList, tablesOf}
 use Rattle.model.specs.Check.{Refusal}
-use Rattle.model.specs.Load.{Lent, wrongLength, tooLarge, endsRise, noRoom, refusedIf, firstMarked, firstRefusal, failsFrom, marks, firstFailing, fitTests, referTests, validTests, onceTests, loadTests, loadRefusal}
+use Rattle.model.specs.Load.{Lent, wrongLength, tooLarge, unknownMode, endsRise, noRoom, refusedIf, firstMarked, firstRefusal, failsFrom, marks, firstFailing, fitTests, referTests, validTests, onceTests, loadTests, loadRefusal}
 use Rattle.model.specs.Answer.{lentBy}
 use Rattle.load.specs.declared.Loaded.{Loaded}
 use Rattle.load.specs.Held.{Limits, refusalOf}
@@ -98,8 +98,8 @@ cells-few ws l =
       l .proofs,
     )
 
-module _ (ws : List ℕ) (asked : ℕ) (l : Lent) where
-  tests-words : tooLarge (sizesOf ws) ≡ false → Each (loadTests ws (sizesOf ws) (tablesOf ws) asked l)
+module _ (ws : List ℕ) (asked mode : ℕ) (l : Lent) where
+  tests-words : tooLarge (sizesOf ws) ≡ false → Each (loadTests ws (sizesOf ws) (tablesOf ws) asked mode l)
   tests-words h =
       let z = sizesOf ws in
       let t = tablesOf ws in
@@ -112,18 +112,21 @@ module _ (ws : List ℕ) (asked : ℕ) (l : Lent) where
           (
             λ r e. host-word (leb (z .proofs) asked) 3 r (λ q. omega arith) e,
             (
-              λ r e. host-word (not (endsRise 0 (endsOf ws) (z .pool))) 5 r (λ q. omega arith) e,
+              λ r e. host-word (unknownMode mode) 11 r (λ q. omega arith) e,
               (
-                cell 6 (fitTests t) (λ q. omega arith),
+                λ r e. host-word (not (endsRise 0 (endsOf ws) (z .pool))) 5 r (λ q. omega arith) e,
                 (
-                  cell 7 (referTests z) (λ q. omega arith),
+                  cell 6 (fitTests t) (λ q. omega arith),
                   (
-                    cell 8 (validTests t) (λ q. omega arith),
+                    cell 7 (referTests z) (λ q. omega arith),
                     (
-                      cell 9 (onceTests t) (λ q. omega arith),
+                      cell 8 (validTests t) (λ q. omega arith),
                       (
-                        λ r e. host-word (noRoom z (map readTerm (t .terms)) l) 10 r (λ q. omega arith) e,
-                        tt,
+                        cell 9 (onceTests t) (λ q. omega arith),
+                        (
+                          λ r e. host-word (noRoom z (map readTerm (t .terms)) l) 10 r (λ q. omega arith) e,
+                          tt,
+                        ),
                       ),
                     ),
                   ),
@@ -134,31 +137,31 @@ module _ (ws : List ℕ) (asked : ℕ) (l : Lent) where
         ),
       )
 
-  load-word : (r : Refusal) → loadRefusal ws asked l ≡ some r → Word r
+  load-word : (r : Refusal) → loadRefusal ws asked mode l ≡ some r → Word r
   unfolding loadRefusal refusedIf
   load-word r e = go (wrongLength ws) refl (tooLarge (sizesOf ws)) refl
     where
-      host : (n : ℕ) → (n ≡ 0 → ⊥) → some (record { number = n; fields = [] }) ≡ loadRefusal ws asked l → Word r
+      host : (n : ℕ) → (n ≡ 0 → ⊥) → some (record { number = n; fields = [] }) ≡ loadRefusal ws asked mode l → Word r
       host n p q = host-word true n r p (q ∙ e)
 
       go : (b : Bool) → wrongLength ws ≡ b → (d : Bool) → tooLarge (sizesOf ws) ≡ d → Word r
-      go true w d q = host 1 (λ q. omega arith) (refuses-1 ws asked l w)
-      go false w true q = host 2 (λ q. omega arith) (refuses-2 ws asked l w q)
-      go false w false q = first-word (loadTests ws (sizesOf ws) (tablesOf ws) asked l) r (tests-words q) e
+      go true w d q = host 1 (λ q. omega arith) (refuses-1 ws asked mode l w)
+      go false w true q = host 2 (λ q. omega arith) (refuses-2 ws asked mode l w q)
+      go false w false q = first-word (loadTests ws (sizesOf ws) (tablesOf ws) asked mode l) r (tests-words q) e
 
 -- what each answer of loading gives
 refusal-by : (n : ℕ) (r : Held) → (n ≡ 0 → ⊥) → refusalBy n r ≡ some (outcome.refusalOf r)
 refusal-by zero r h = absurd (h refl)
 refusal-by (suc n) r h = refl
 
-module _ (ws : List ℕ) (asked : ℕ) (K E P : List ℕ) (scratch : ℕ) where
+module _ (ws : List ℕ) (asked mode : ℕ) (K E P : List ℕ) (scratch : ℕ) where
   abbrev lent : Lent
   lent = lentBy (arraysOf K E P) scratch
 
   -- a refusal, with the arrays as they were
-  refuses : (r : Held) (p : Prepared) → p .refusal ≡ r → some (outcome.refusalOf r) ≡ loadRefusal ws asked lent → Prepares ws asked K E P scratch K E P p
+  refuses : (r : Held) (p : Prepared) → p .refusal ≡ r → some (outcome.refusalOf r) ≡ loadRefusal ws asked mode lent → Prepares ws asked mode K E P scratch K E P p
   refuses r p q e =
-      let w : r .number ≡ 0 → ⊥ = load-word ws asked lent (outcome.refusalOf r) (sym e) .number in
+      let w : r .number ≡ 0 → ⊥ = load-word ws asked mode lent (outcome.refusalOf r) (sym e) .number in
       let n : p .refusal .number ≡ 0 → ⊥ = λ h. w (sym (ap (λ (x : Held). x .number) q) ∙ h) in
       record {
         refusal = refusal-by (p .refusal .number) (p .refusal) n ∙ ap {B = Option Refusal} (λ (x : Held). some (outcome.refusalOf x)) q ∙ e;
@@ -168,20 +171,20 @@ module _ (ws : List ℕ) (asked : ℕ) (K E P : List ℕ) (scratch : ℕ) where
         enough = λ h. absurd (n h);
       }
 
-  module _ {o : Loaded} (e : refusalOf o ≡ loadRefusal ws asked lent) where
-    pub refuses-host : (n : ℕ) (p : Prepared) → o ≡ Loaded.Host n → p .refusal ≡ outcome.refusal n 0 (0 ∷ 0 ∷ 0 ∷ 0 ∷ 0 ∷ 0 ∷ []) → Prepares ws asked K E P scratch K E P p
+  module _ {o : Loaded} (e : refusalOf o ≡ loadRefusal ws asked mode lent) where
+    pub refuses-host : (n : ℕ) (p : Prepared) → o ≡ Loaded.Host n → p .refusal ≡ outcome.refusal n 0 (0 ∷ 0 ∷ 0 ∷ 0 ∷ 0 ∷ 0 ∷ []) → Prepares ws asked mode K E P scratch K E P p
     refuses-host n p h q = refuses _ p q (ap refusalOf (sym h) ∙ e)
 
-    pub refuses-writer : (n cell : ℕ) (p : Prepared) → o ≡ Loaded.Writer n cell → p .refusal ≡ outcome.refusal n 1 (cell ∷ 0 ∷ 0 ∷ 0 ∷ 0 ∷ 0 ∷ []) → Prepares ws asked K E P scratch K E P p
+    pub refuses-writer : (n cell : ℕ) (p : Prepared) → o ≡ Loaded.Writer n cell → p .refusal ≡ outcome.refusal n 1 (cell ∷ 0 ∷ 0 ∷ 0 ∷ 0 ∷ 0 ∷ []) → Prepares ws asked mode K E P scratch K E P p
     refuses-writer n cell p h q = refuses _ p q (ap refusalOf (sym h) ∙ e)
 
     pub cell-word : (n cell : ℕ) → o ≡ Loaded.Writer n cell → cell < 2 ^ 32
-    cell-word n cell h = load-word ws asked lent (record { number = n; fields = cell ∷ [] }) (sym e ∙ ap refusalOf h) .field cell refl
+    cell-word n cell h = load-word ws asked mode lent (record { number = n; fields = cell ∷ [] }) (sym e ∙ ap refusalOf h) .field cell refl
 
-    pub loads-none : o ≡ Loaded.Admitted → loadRefusal ws asked lent ≡ none
+    pub loads-none : o ≡ Loaded.Admitted → loadRefusal ws asked mode lent ≡ none
     loads-none h = sym e ∙ ap refusalOf h
 
-    pub admits : {K′ E′ P′ : List ℕ} (p : Prepared) → o ≡ Loaded.Admitted → p .refusal ≡ outcome.passed → Started ws K E P K′ E′ P′ (p .fill) → Prepares ws asked K E P scratch K′ E′ P′ p
+    pub admits : {K′ E′ P′ : List ℕ} (p : Prepared) → o ≡ Loaded.Admitted → p .refusal ≡ outcome.passed → Started ws K E P K′ E′ P′ (p .fill) → Prepares ws asked mode K E P scratch K′ E′ P′ p
     admits p h q S =
         let a = loads-none h in
         let n : p .refusal .number ≡ 0 = ap (λ (x : Held). x .number) q in
@@ -189,6 +192,6 @@ module _ (ws : List ℕ) (asked : ℕ) (K E P : List ℕ) (scratch : ℕ) where
           refusal = ap (λ (x : Held). refusalBy (x .number) x) q ∙ sym a;
           kept = λ x. absurd (x n);
           started = λ x. S;
-          there = λ x. loads-asked ws asked lent a;
-          enough = λ x. loads-room ws asked lent a .enough;
+          there = λ x. loads-asked ws asked mode lent a;
+          enough = λ x. loads-room ws asked mode lent a .enough;
         }

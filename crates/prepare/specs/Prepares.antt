@@ -26,11 +26,12 @@ abbrev pub refusalBy : ℕ → Refusal → Option model.Refusal
 refusalBy zero r = none
 refusalBy (suc n) r = some (refusalOf r)
 
--- The words load, for some asked proof and some scratch, with the arrays lent.
+-- The words load, for some asked proof, some mode and some scratch, with the arrays lent.
 pub record Loads (ws K E P : List ℕ) : Type 0 where
   pub asked : ℕ
+  pub mode : ℕ
   pub scratch : ℕ
-  pub passes : loadRefusal ws asked (lentBy (arraysOf K E P) scratch) ≡ none
+  pub passes : loadRefusal ws asked mode (lentBy (arraysOf K E P) scratch) ≡ none
 
 -- The lent arrays K, E, P now hold the job's terms, and past these are as they were; the job is admitted.
 pub record Started (ws K E P K′ E′ P′ : List ℕ) (f : Fill) : Type 0 where
@@ -50,8 +51,8 @@ pub record Started (ws K E P K′ E′ P′ : List ℕ) (f : Fill) : Type 0 wher
   pub sane : Sane (programFor ws) [] (termsIn K′ E′ P′ f)
 
 -- The contract of `prepare`: the refusal is the definition's, with the arrays as they were; without one the terms are loaded, the proof is there, and the scratch is enough.
-pub record Prepares (ws : List ℕ) (asked : ℕ) (K E P : List ℕ) (scratch : ℕ) (K′ E′ P′ : List ℕ) (p : Prepared) : Type 0 where
-  pub refusal : refusalBy (p .refusal .number) (p .refusal) ≡ loadRefusal ws asked (lentBy (arraysOf K E P) scratch)
+pub record Prepares (ws : List ℕ) (asked mode : ℕ) (K E P : List ℕ) (scratch : ℕ) (K′ E′ P′ : List ℕ) (p : Prepared) : Type 0 where
+  pub refusal : refusalBy (p .refusal .number) (p .refusal) ≡ loadRefusal ws asked mode (lentBy (arraysOf K E P) scratch)
   pub kept : (p .refusal .number ≡ 0 → ⊥) → arraysOf K′ E′ P′ ≡ arraysOf K E P
   pub started : p .refusal .number ≡ 0 → Started ws K E P K′ E′ P′ (p .fill)
   pub there : p .refusal .number ≡ 0 → asked < sizesOf ws .proofs

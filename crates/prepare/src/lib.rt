@@ -46,18 +46,27 @@ fn start(job: &[u32], kinds: &mut [u32], ends: &mut [u32], pool: &mut [u32]) -> 
     }
 }
 
-// Loads a job's words for an asked proof, and its terms into the lent arrays.
+// Loads a job's words for an asked proof in a mode, and its terms into the lent arrays.
 pub fn prepare(
     job: &[u32],
     asked: u32,
+    mode: u32,
     kinds: &mut [u32],
     ends: &mut [u32],
     pool: &mut [u32],
     scratch: usize,
 ) -> Prepared
-    ensures { λ r. ⌜ Prepares (now (job .entry)) asked (now (kinds .entry)) (now (ends .entry)) (now (pool .entry)) scratch (now (kinds .exit)) (now (ends .exit)) (now (pool .exit)) r ⌝ }
+    ensures { λ r. ⌜ Prepares (now (job .entry)) asked mode (now (kinds .entry)) (now (ends .entry)) (now (pool .entry)) scratch (now (kinds .exit)) (now (ends .exit)) (now (pool .exit)) r ⌝ }
 {
-    let loaded = load(job, asked, kinds.len(), ends.len(), pool.len(), scratch);
+    let loaded = load(
+        job,
+        asked,
+        mode,
+        kinds.len(),
+        ends.len(),
+        pool.len(),
+        scratch,
+    );
     match loaded {
         Loaded::Admitted => start(job, kinds, ends, pool),
         Loaded::Host(number) => refused(number, 0, 0),

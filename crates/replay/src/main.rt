@@ -1,4 +1,4 @@
-// Replays the fixed list of the Rust's answers and stores, on standard input. Its format stands in compare/data/fixed_list.txt.
+// Replays the fixed list of the Rust's answers and stores, on standard input, in mode 0. Its format stands in compare/data/fixed_list.txt.
 use cells::wide;
 use console::read_words;
 use entry::check;
@@ -103,7 +103,7 @@ fn checks_as(
     told_pool: &[u32],
 ) -> bool {
     let mut answer = [0u32; 8];
-    let number = check(words, asked, kinds, ends, pool, scratch, &mut answer);
+    let number = check(words, asked, 0, kinds, ends, pool, scratch, &mut answer);
     if answer[0] != number {
         return false;
     }

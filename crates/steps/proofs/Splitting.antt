@@ -1,6 +1,6 @@
 -- A step that is no rule's: first the proofs that it refers to, then what it concludes.
 use mathlib.Core.Path.{_≡_, refl, sym, ap, _∙_}
-use mathlib.Core.Bool.{false, _&&_, cond, true≢false}
+use mathlib.Core.Bool.{Bool, false, _&&_, cond, true≢false}
 use mathlib.Core.List.{List, [], _∷_}
 use Prim.Native.Nat.{ℕ}
 use lib.Dec.{eqb, ltb}
@@ -101,17 +101,17 @@ module _ (room : Room) (prog : Program) (proofs : List Proof) (ctx : ActionConte
       then-alike (orRefuse (asApp (getTerm u (a .rhs))) 22 (p ∷ []) u) (app-ends a i b d)
       ∙ sym (then-assoc (orRefuse (asApp (getTerm u (a .rhs))) 22 (p ∷ []) u) (congrApp room p q a i b) (λ _. pure d))
 
-  pub justification-split : (j : Justification) → isRule j ≡ false → (done : List ℕ) (s : List Term)
-      → checkJustification room prog proofs ctx sub p q j done s ≡ (walkEach sub (references j) done >>= λ d. concludes room prog proofs (ctx .pairs) p q j >>= λ _. pure d) s
+  pub justification-split : (strict : Bool) (j : Justification) → isRule j ≡ false → (done : List ℕ) (s : List Term)
+      → checkJustification room prog proofs ctx sub strict p q j done s ≡ (walkEach sub (references j) done >>= λ d. concludes room prog proofs (ctx .pairs) p q j >>= λ _. pure d) s
   unfolding concludes walkEach checkFiat fiatStep checkMergeFn checkTrans checkSym symStep checkCongr checkContainerNormalize
-  justification-split fiat e done s = refl
-  justification-split (rule name xs σ) e done s = absurd (true≢false e)
-  justification-split (mergeFn f old new) e done s =
+  justification-split strict fiat e done s = refl
+  justification-split strict (rule name xs σ) e done s = absurd (true≢false e)
+  justification-split strict (mergeFn f old new) e done s =
       two-split old new done s (mergeStep room prog p q f (claimAt proofs old) (claimAt proofs new)) (mergeFull f (claimAt proofs old) (claimAt proofs new)) (merge-ends f (claimAt proofs old) (claimAt proofs new))
-  justification-split (trans l r) e done s = two-split l r done s (transStep p q (claimAt proofs l) (claimAt proofs r)) (transFull (claimAt proofs l) (claimAt proofs r)) (trans-ends (claimAt proofs l) (claimAt proofs r))
-  justification-split (symm a) e done s = one-split a done s (symStep p q (claimAt proofs a)) (λ d. symStep p q (claimAt proofs a) >>= λ _. pure d) (λ d u. refl)
-  justification-split (congr a i b) e done s =
+  justification-split strict (trans l r) e done s = two-split l r done s (transStep p q (claimAt proofs l) (claimAt proofs r)) (transFull (claimAt proofs l) (claimAt proofs r)) (trans-ends (claimAt proofs l) (claimAt proofs r))
+  justification-split strict (symm a) e done s = one-split a done s (symStep p q (claimAt proofs a)) (λ d. symStep p q (claimAt proofs a) >>= λ _. pure d) (λ d u. refl)
+  justification-split strict (congr a i b) e done s =
       two-split a b done s (congrStep room p q (claimAt proofs a) i (claimAt proofs b))
       (λ d. getTerms >>= λ u. orRefuse (asApp (getTerm u (claimAt proofs a .rhs))) 22 (p ∷ []) >>= congrFull (claimAt proofs a) i (claimAt proofs b) d) (congr-ends (claimAt proofs a) i (claimAt proofs b))
-  justification-split (containerNormalize a) e done s = one-split a done s (normalizeStep room prog p q (claimAt proofs a)) (normalFull (claimAt proofs a)) (normal-ends (claimAt proofs a))
-  justification-split eval e done s = refl
+  justification-split strict (containerNormalize a) e done s = one-split a done s (normalizeStep room prog p q (claimAt proofs a)) (normalFull (claimAt proofs a)) (normal-ends (claimAt proofs a))
+  justification-split strict eval e done s = refl

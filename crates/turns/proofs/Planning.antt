@@ -59,21 +59,21 @@ proof-at (x ∷ xs) zero h = refl
 proof-at (x ∷ xs) (suc i) h = proof-at xs i (le-of-suc-le-suc h)
 
 -- a fact before its premise
-module _ (room : Room) (prog : Program) (proofs : List Proof) (name : ℕ) (f : Fact) (y : ℕ) (σ : List Binding) (s : List Term) where
+module _ (room : Room) (prog : Program) (proofs : List Proof) (strict : Bool) (name : ℕ) (f : Fact) (y : ℕ) (σ : List Binding) (s : List Term) where
   before-by : {o : Outcome (Unit {0})} {c : Bool} → assertBodyProofNormalForm prog name f s ≡ o → isContainerSideCondition prog f ≡ c
-      → andThen o (λ _. choose c (checkSideCondition room prog name σ f) (pure σ)) ≡ beforeProof room prog proofs name (ofFact f y) σ s
-  before-by p q = λ i. andThen (sym p i) (λ _. choose (sym q i) (checkSideCondition room prog name σ f) (pure σ))
+      → andThen o (λ _. choose c (checkSideCondition room prog name σ strict f) (pure σ)) ≡ beforeProof room prog proofs strict name (ofFact f y) σ s
+  before-by p q = λ i. andThen (sym p i) (λ _. choose (sym q i) (checkSideCondition room prog name σ strict f) (pure σ))
 
   pub before-offends : (r : Refusal) (a : List Binding) → ((u : List Term) → outcomeOf r tt u ≡ assertBodyProofNormalForm prog name f u) → (r .number ≡ 0 → ⊥)
-      → outcomeOf r a s ≡ beforeProof room prog proofs name (ofFact f y) σ s
+      → outcomeOf r a s ≡ beforeProof room prog proofs strict name (ofFact f y) σ s
   before-offends r a h n = refused-of r a s n ∙ before-by (sym (h s) ∙ refused-of r tt s n) refl
 
   pub before-waits : (r : Refusal) → ((u : List Term) → outcomeOf r tt u ≡ assertBodyProofNormalForm prog name f u) → r .number ≡ 0 → isContainerSideCondition prog f ≡ false
-      → outcomeOf r σ s ≡ beforeProof room prog proofs name (ofFact f y) σ s
+      → outcomeOf r σ s ≡ beforeProof room prog proofs strict name (ofFact f y) σ s
   before-waits r h n c = ok-of r σ s n ∙ before-by (sym (h s) ∙ ok-of r tt s n) c
 
   pub before-condition : (r : Refusal) → ((u : List Term) → outcomeOf r tt u ≡ assertBodyProofNormalForm prog name f u) → r .number ≡ 0 → isContainerSideCondition prog f ≡ true
-      → checkSideCondition room prog name σ f s ≡ beforeProof room prog proofs name (ofFact f y) σ s
+      → checkSideCondition room prog name σ strict f s ≡ beforeProof room prog proofs strict name (ofFact f y) σ s
   before-condition r h n c = before-by (sym (h s) ∙ ok-of r tt s n) c
 
 -- a rule's step
@@ -87,42 +87,42 @@ module _ {J : List ℕ} {p name : ℕ} (R : RuleStep J p name) where
   abbrev premises : List ℕ
   premises = premisesFor J p
 
-  module _ (room : Room) (G : List ℕ) (ps : List Proposition) (sub : ℕ → List ℕ → Check (List ℕ)) (done : List ℕ) (s : List Term) where
+  module _ (room : Room) (strict : Bool) (G : List ℕ) (ps : List Proposition) (sub : ℕ → List ℕ → Check (List ℕ)) (done : List ℕ) (s : List Term) where
     abbrev found : Option Rule → Check (List ℕ)
     found o =
         orRefuse o 32 (name ∷ []) >>= λ r.
         checkThat (eqb (length (r .facts)) (length premises)) 27 (p ∷ name ∷ length (r .facts) ∷ length premises ∷ []) >>= λ _.
-        checkBody room prog proofs (contextOf G ps) sub name r premises (readBindings (pairsFor J p) ++ readBindings G) (claimAt proofs p) done
+        checkBody room prog proofs (contextOf G ps) sub strict name r premises (readBindings (pairsFor J p) ++ readBindings G) (claimAt proofs p) done
 
-    is-rule : found (ruleOf (prog .rules) name) s ≡ checkJustification room prog proofs (contextOf G ps) sub p (claimAt proofs p) (getD proofs p noProof .justification) done s
+    is-rule : found (ruleOf (prog .rules) name) s ≡ checkJustification room prog proofs (contextOf G ps) sub strict p (claimAt proofs p) (getD proofs p noProof .justification) done s
     unfolding checkRule checkBody
-    is-rule = ap (λ (j : _). checkJustification room prog proofs (contextOf G ps) sub p (claimAt proofs p) j done s) (sym (R .is))
+    is-rule = ap (λ (j : _). checkJustification room prog proofs (contextOf G ps) sub strict p (claimAt proofs p) j done s) (sym (R .is))
 
     pub rule-unknown : none ≡ ruleOf (prog .rules) name → refused (record { number = 32; fields = name ∷ [] }) s
-        ≡ checkJustification room prog proofs (contextOf G ps) sub p (claimAt proofs p) (getD proofs p noProof .justification) done s
+        ≡ checkJustification room prog proofs (contextOf G ps) sub strict p (claimAt proofs p) (getD proofs p noProof .justification) done s
     unfolding orRefuse
     rule-unknown h = ap (λ (o : Option Rule). found o s) h ∙ is-rule
 
     module _ (r : Rule) (h : some r ≡ ruleOf (prog .rules) name) where
       by-count : (b : Bool) → eqb (length (r .facts)) (length premises) ≡ b
-          → andThen (checkThat b 27 (p ∷ name ∷ length (r .facts) ∷ length premises ∷ []) s) (λ _. checkBody room prog proofs (contextOf G ps) sub name r premises (readBindings (pairsFor J p) ++ readBindings G) (claimAt proofs p) done)
-          ≡ checkJustification room prog proofs (contextOf G ps) sub p (claimAt proofs p) (getD proofs p noProof .justification) done s
+          → andThen (checkThat b 27 (p ∷ name ∷ length (r .facts) ∷ length premises ∷ []) s) (λ _. checkBody room prog proofs (contextOf G ps) sub strict name r premises (readBindings (pairsFor J p) ++ readBindings G) (claimAt proofs p) done)
+          ≡ checkJustification room prog proofs (contextOf G ps) sub strict p (claimAt proofs p) (getD proofs p noProof .justification) done s
       unfolding orRefuse
       by-count b e =
-          ap (λ (x : Bool). andThen (checkThat x 27 (p ∷ name ∷ length (r .facts) ∷ length premises ∷ []) s) (λ _. checkBody room prog proofs (contextOf G ps) sub name r premises (readBindings (pairsFor J p) ++ readBindings G) (claimAt proofs p) done)) (sym e)
+          ap (λ (x : Bool). andThen (checkThat x 27 (p ∷ name ∷ length (r .facts) ∷ length premises ∷ []) s) (λ _. checkBody room prog proofs (contextOf G ps) sub strict name r premises (readBindings (pairsFor J p) ++ readBindings G) (claimAt proofs p) done)) (sym e)
           ∙ ap (λ (o : Option Rule). found o s) h ∙ is-rule
 
       pub rule-uneven : {n m : ℕ} → n ≡ length (r .facts) → m ≡ length premises → (n ≡ m → ⊥) → refused (record { number = 27; fields = p ∷ name ∷ n ∷ m ∷ [] }) s
-          ≡ checkJustification room prog proofs (contextOf G ps) sub p (claimAt proofs p) (getD proofs p noProof .justification) done s
+          ≡ checkJustification room prog proofs (contextOf G ps) sub strict p (claimAt proofs p) (getD proofs p noProof .justification) done s
       unfolding checkThat
       rule-uneven a b ne = (λ i. refused (record { number = 27; fields = p ∷ name ∷ a i ∷ b i ∷ [] }) s) ∙ by-count false (ne-eqb _ _ (λ u. ne (a ∙ u ∙ sym b)))
 
       pub rule-even : length (r .facts) ≡ length premises
-          → (takeTurns room prog proofs name sub (factTurns (r .facts) premises) (readBindings (pairsFor J p) ++ readBindings G, done)
+          → (takeTurns room prog proofs strict name sub (factTurns (r .facts) premises) (readBindings (pairsFor J p) ++ readBindings G, done)
           >>= finishStep room prog proofs ps p (claimAt proofs p) (getD proofs p noProof .justification) (some r)) s
-          ≡ checkJustification room prog proofs (contextOf G ps) sub p (claimAt proofs p) (getD proofs p noProof .justification) done s
+          ≡ checkJustification room prog proofs (contextOf G ps) sub strict p (claimAt proofs p) (getD proofs p noProof .justification) done s
       unfolding checkThat
-      rule-even l = rule-by-turns room prog proofs (contextOf G ps) sub name r premises p (claimAt proofs p) (getD proofs p noProof .justification) l (readBindings (pairsFor J p) ++ readBindings G) done s ∙ by-count true (eq-eqb _ _ l)
+      rule-even l = rule-by-turns room prog proofs (contextOf G ps) sub strict name r premises p (claimAt proofs p) (getD proofs p noProof .justification) l (readBindings (pairsFor J p) ++ readBindings G) done s ∙ by-count true (eq-eqb _ _ l)
 
   pub plans-rule : {r : ℕ} → r < sizesOf J .rules → some (ruleFor J r) ≡ ruleOf (prog .rules) name → length (ruleFor J r .facts) ≡ length premises
       → {n : ℕ} → n ≡ length premises → n ≤ 16 → ((i : ℕ) → i < length premises → getD premises i 0 < p) → Planned J p true r name 0 n
@@ -133,7 +133,7 @@ module _ {J : List ℕ} {p name : ℕ} (R : RuleStep J p name) where
     kind = λ _. R .kind;
     inside = λ _. h;
     plain = λ u. absurd (true≢false u);
-    step = λ room G ps sub done s. rule-even room G ps sub done s (ruleFor J r) f l;
+    step = λ room strict G ps sub done s. rule-even room strict G ps sub done s (ruleFor J r) f l;
   }
 
 -- another step
@@ -148,10 +148,10 @@ plans-plain {J} {p} o O e =
       kind = λ u. absurd (true≢false (sym u));
       inside = λ u. absurd (true≢false (sym u));
       plain = λ _. c;
-      step = λ room G ps sub done s.
-          ap (λ (xs : List ℕ). (takeTurns room (programFor J) (proofsFor J) (o .first) sub (map ofProof xs) (readBindings G, done)
+      step = λ room strict G ps sub done s.
+          ap (λ (xs : List ℕ). (takeTurns room (programFor J) (proofsFor J) strict (o .first) sub (map ofProof xs) (readBindings G, done)
           >>= finishStep room (programFor J) (proofsFor J) ps p (claimAt (proofsFor J) p) (getD (proofsFor J) p noProof .justification) none) s) (O .other e .1)
-          ∙ step-by-turns room (programFor J) (proofsFor J) (contextOf G ps) sub (o .first) p (claimAt (proofsFor J) p) (getD (proofsFor J) p noProof .justification) (O .other e .0) (readBindings G) done s;
+          ∙ step-by-turns room (programFor J) (proofsFor J) (contextOf G ps) sub strict (o .first) p (claimAt (proofsFor J) p) (getD (proofsFor J) p noProof .justification) (O .other e .0) (readBindings G) done s;
     }
   where
     taken : (i : ℕ) → i < o .count → getD (take (o .count) (o .first ∷ o .second ∷ [])) i 0 ≡ getD (o .first ∷ o .second ∷ []) i 0
@@ -191,11 +191,11 @@ rule-some J F e = ap (ruleAt (programFor J .rules)) (sym e) ∙ F .is
 module _ {J : List ℕ} {p name : ℕ} (R : RuleStep J p name) where
   pub unknown-plan : none ≡ ruleOf (programFor J .rules) name
       → Plans J p (record { refusal = refusal 32 1 (name ∷ 0 ∷ 0 ∷ 0 ∷ 0 ∷ 0 ∷ []); rule = true; r = 0; count = 0; first = 0; second = 0 })
-  unknown-plan h = record { stops = λ _ room G ps sub done u. rule-unknown R room G ps sub done u h; goes = λ e. absurd (omega arith) }
+  unknown-plan h = record { stops = λ _ room strict G ps sub done u. rule-unknown R room strict G ps sub done u h; goes = λ e. absurd (omega arith) }
 
   module _ (i : ℕ) (h : some (ruleFor J i) ≡ ruleOf (programFor J .rules) name) {n m : ℕ} (a : n ≡ length (ruleFor J i .facts)) (b : m ≡ length (premisesFor J p)) where
     pub uneven-plan : (n ≡ m → ⊥) → Plans J p (record { refusal = refusal 27 4 (p ∷ name ∷ n ∷ m ∷ 0 ∷ 0 ∷ []); rule = true; r = 0; count = 0; first = 0; second = 0 })
-    uneven-plan ne = record { stops = λ _ room G ps sub done u. rule-uneven R room G ps sub done u (ruleFor J i) h a b ne; goes = λ e. absurd (omega arith) }
+    uneven-plan ne = record { stops = λ _ room strict G ps sub done u. rule-uneven R room strict G ps sub done u (ruleFor J i) h a b ne; goes = λ e. absurd (omega arith) }
 
     pub even-plan : n ≡ m → i < sizesOf J .rules → n ≤ 16 → ((j : ℕ) → j < length (premisesFor J p) → getD (premisesFor J p) j 0 < p)
         → Plans J p (record { refusal = passed; rule = true; r = i; count = n; first = name; second = 0 })

@@ -47,10 +47,10 @@ abbrev pub isSettled : Program → Turn → Bool
 isSettled prog (ofFact f p) = isContainerSideCondition prog f
 isSettled prog (ofProof p) = false
 
-module _ (room : Room) (prog : Program) (proofs : List Proof) (name : ℕ) where
+module _ (room : Room) (prog : Program) (proofs : List Proof) (strict : Bool) (name : ℕ) where
   -- Before the proof: the normal form and a side condition; the bindings then.
   abbrev pub beforeProof : Turn → List Binding → Check (List Binding)
-  beforeProof (ofFact f p) σ = assertBodyProofNormalForm prog name f >>= λ _. choose (isContainerSideCondition prog f) (checkSideCondition room prog name σ f) (pure σ)
+  beforeProof (ofFact f p) σ = assertBodyProofNormalForm prog name f >>= λ _. choose (isContainerSideCondition prog f) (checkSideCondition room prog name σ strict f) (pure σ)
   beforeProof (ofProof p) σ = pure σ
 
   -- After the proof: what it must prove.
@@ -104,10 +104,10 @@ pub record Planned (J : List ℕ) (p : ℕ) (rule : Bool) (r first second count 
   pub kind : rule ≡ true → proofCell J p .kind ≡ 1
   pub inside : rule ≡ true → r < sizesOf J .rules
   pub plain : rule ≡ false → count ≤ 2
-  pub step : (room : Room) (G : List ℕ) (ps : List Proposition) (sub : ℕ → List ℕ → Check (List ℕ)) (done : List ℕ) (s : List Term)
-      → (takeTurns room (programFor J) (proofsFor J) first sub (turnsBy J p rule r first second count) (bindingsBy J p rule [] G, done)
+  pub step : (room : Room) (strict : Bool) (G : List ℕ) (ps : List Proposition) (sub : ℕ → List ℕ → Check (List ℕ)) (done : List ℕ) (s : List Term)
+      → (takeTurns room (programFor J) (proofsFor J) strict first sub (turnsBy J p rule r first second count) (bindingsBy J p rule [] G, done)
       >>= finishStep room (programFor J) (proofsFor J) ps p (claimAt (proofsFor J) p) (getD (proofsFor J) p noProof .justification) (headBy J rule r)) s
-      ≡ checkJustification room (programFor J) (proofsFor J) (contextOf G ps) sub p (claimAt (proofsFor J) p) (getD (proofsFor J) p noProof .justification) done s
+      ≡ checkJustification room (programFor J) (proofsFor J) (contextOf G ps) sub strict p (claimAt (proofsFor J) p) (getD (proofsFor J) p noProof .justification) done s
 
 -- Proof p is a rule's step, by the rule of that name.
 pub record RuleStep (J : List ℕ) (p name : ℕ) : Type 0 where
@@ -116,17 +116,17 @@ pub record RuleStep (J : List ℕ) (p name : ℕ) : Type 0 where
 
 -- A plan: the refusal of a rule's step whose rule or premises do not fit, or how the step is taken.
 pub record Plans (J : List ℕ) (p : ℕ) (s : Plan) : Type 0 where
-  pub stops : (s .refusal .number ≡ 0 → ⊥) → (room : Room) (G : List ℕ) (ps : List Proposition) (sub : ℕ → List ℕ → Check (List ℕ)) (done : List ℕ) (u : List Term)
+  pub stops : (s .refusal .number ≡ 0 → ⊥) → (room : Room) (strict : Bool) (G : List ℕ) (ps : List Proposition) (sub : ℕ → List ℕ → Check (List ℕ)) (done : List ℕ) (u : List Term)
       → outcomeOf (s .refusal) done u
-      ≡ checkJustification room (programFor J) (proofsFor J) (contextOf G ps) sub p (claimAt (proofsFor J) p) (getD (proofsFor J) p noProof .justification) done u
+      ≡ checkJustification room (programFor J) (proofsFor J) (contextOf G ps) sub strict p (claimAt (proofsFor J) p) (getD (proofsFor J) p noProof .justification) done u
   pub goes : s .refusal .number ≡ 0 → Planned J p (s .rule) (s .r) (s .first) (s .second) (s .count)
 
 -- What a stage does, with the turns that are left: before a proof, after it, or the end of the step; the bindings then.
-module _ (room : Room) (prog : Program) (proofs : List Proof) (name : ℕ) (ps : List Proposition) (p : ℕ) (q : Proposition) (j : Justification) (h : Option Rule) where
+module _ (room : Room) (prog : Program) (proofs : List Proof) (strict : Bool) (name : ℕ) (ps : List Proposition) (p : ℕ) (q : Proposition) (j : Justification) (h : Option Rule) where
   abbrev pub stageOf : List Turn → ℕ → List Binding → Check (List Binding)
   stageOf [] w σ = endStep room prog proofs ps p q j h σ >>= λ _. pure σ
-  stageOf (t ∷ ts) zero σ = beforeProof room prog proofs name t σ
-  stageOf (t ∷ ts) (suc w) σ = afterProof room prog proofs name t σ >>= λ _. pure σ
+  stageOf (t ∷ ts) zero σ = beforeProof room prog proofs strict name t σ
+  stageOf (t ∷ ts) (suc w) σ = afterProof room prog proofs strict name t σ >>= λ _. pure σ
 
 -- After it no proof is walked.
 abbrev pub isOver : Program → List Turn → ℕ → Bool
@@ -135,9 +135,9 @@ isOver prog (t ∷ ts) zero = isSettled prog t
 isOver prog (t ∷ ts) (suc w) = true
 
 -- The contract of a stage, under the bindings that conditions bound, X.
-pub record Advances (J : List ℕ) (F G U : List ℕ) (p : ℕ) (rule : Bool) (r first second count : ℕ) (X k e q : List ℕ) (f : Fill) (W : List ℕ) (i walked : ℕ) (k′ e′ q′ : List ℕ) (c : Stage) (memo′ W′ : List ℕ) : Type 0 where
+pub record Advances (J : List ℕ) (strict : Bool) (F G U : List ℕ) (p : ℕ) (rule : Bool) (r first second count : ℕ) (X k e q : List ℕ) (f : Fill) (W : List ℕ) (i walked : ℕ) (k′ e′ q′ : List ℕ) (c : Stage) (memo′ W′ : List ℕ) : Type 0 where
   pub walks : Walks {A = List Binding × List ℕ} J F G U k e q f W k′ e′ q′ (c .fill) (c .refusal) memo′ W′ (λ d. (boundOver (c .binds) (bindingsBy J p rule X G), d))
-      (λ room ps done. stageOf room (programFor J) (proofsFor J) first ps p (claimAt (proofsFor J) p) (getD (proofsFor J) p noProof .justification) (headBy J rule r)
+      (λ room ps done. stageOf room (programFor J) (proofsFor J) strict first ps p (claimAt (proofsFor J) p) (getD (proofsFor J) p noProof .justification) (headBy J rule r)
       (drop i (turnsBy J p rule r first second count)) walked (bindingsBy J p rule X G) >>= λ τ. pure (τ, done))
   pub over : c .refusal .number ≡ 0 → c .settled ≡ isOver (programFor J) (drop i (turnsBy J p rule r first second count)) walked
   pub sane : rule ≡ true → c .refusal .number ≡ 0 → Sane (programFor J) (boundOver (c .binds) (bindingsBy J p rule X G)) (termsIn k′ e′ q′ (c .fill))

@@ -3,7 +3,7 @@
 use Prim.Native.Nat.{ℕ, _+_, _<_, _≤_}
 use mathlib.Core.Path.{_≡_}
 use mathlib.Core.List.{List, [], _∷_, map}
-use mathlib.Core.Bool.{true, false}
+use mathlib.Core.Bool.{Bool, true, false}
 use lib.Dec.{eqb}
 use lib.ListN.{length, getD, take}
 use Rattle.model.specs.Layout.{sizesOf}
@@ -74,8 +74,8 @@ pub record Operates (J : List ℕ) (p : ℕ) (r : Needs) : Type 0 where
   pub lower : (i : ℕ) → i < r .count → getD (r .first ∷ r .second ∷ []) i 0 < p
 
 -- The body of a rule's step: each fact with its premise, then the head, which must produce q.
-unfoldable pub checkBody : Room → Program → List Proof → ActionContext → (ℕ → List ℕ → Check (List ℕ)) → ℕ → Rule → List ℕ → List Binding → Proposition → List ℕ → Check (List ℕ)
-checkBody room prog proofs ctx sub name r ps σ q done =
-    checkPremises room prog proofs ctx sub name (r .facts) ps σ done >>= λ b.
+unfoldable pub checkBody : Room → Program → List Proof → ActionContext → (ℕ → List ℕ → Check (List ℕ)) → Bool → ℕ → Rule → List ℕ → List Binding → Proposition → List ℕ → Check (List ℕ)
+checkBody room prog proofs ctx sub strict name r ps σ q done =
+    checkPremises room prog proofs ctx sub strict name (r .facts) ps σ done >>= λ b.
     checkRuleProducesEquality room prog r (b .0) q >>= λ _.
     pure (b .1)

@@ -243,6 +243,7 @@ pub fn reference(
 // Fact i of a rule before its premise: normal form, and a side condition.
 fn before_premise(
     job: &[u32],
+    strict: bool,
     found: &[u32],
     globals: &[u32],
     bound: &[u32],
@@ -262,7 +263,7 @@ fn before_premise(
     requires { ⌜ Past (now memo) ⌝ }
     requires { ⌜ i < sizesOf (now job) .facts ⌝ }
     requires { ⌜ Sane (programFor (now job)) (bindingsIn (now bound) (now pairs) (now globals)) (termsIn (now skinds) (now sends) (now spool) fill) ⌝ }
-    ensures does { λ c. ⌜ Checks (now (skinds .entry)) (now (sends .entry)) (now (spool .entry)) fill (now (skinds .exit)) (now (sends .exit)) (now (spool .exit)) (c .fill) (c .refusal) (boundOver (c .binds) (bindingsIn (now (bound .entry)) (now (pairs .entry)) (now (globals .entry)))) (now (memo .exit)) (beforeProof (roomOf (now (skinds .entry)) (now (spool .entry))) (programFor (now (job .entry))) (proofsFor (now (job .entry))) name (ofFact (factFor (now (job .entry)) i) 0) (bindingsIn (now (bound .entry)) (now (pairs .entry)) (now (globals .entry))) (termsIn (now (skinds .entry)) (now (sends .entry)) (now (spool .entry)) fill)) ⌝ }
+    ensures does { λ c. ⌜ Checks (now (skinds .entry)) (now (sends .entry)) (now (spool .entry)) fill (now (skinds .exit)) (now (sends .exit)) (now (spool .exit)) (c .fill) (c .refusal) (boundOver (c .binds) (bindingsIn (now (bound .entry)) (now (pairs .entry)) (now (globals .entry)))) (now (memo .exit)) (beforeProof (roomOf (now (skinds .entry)) (now (spool .entry))) (programFor (now (job .entry))) (proofsFor (now (job .entry))) strict name (ofFact (factFor (now (job .entry)) i) 0) (bindingsIn (now (bound .entry)) (now (pairs .entry)) (now (globals .entry))) (termsIn (now (skinds .entry)) (now (sends .entry)) (now (spool .entry)) fill)) ⌝ }
     ensures over { λ c. ⌜ (c .refusal .number ≡ 0 → c .settled ≡ isContainerSideCondition (programFor (now (job .entry))) (factFor (now (job .entry)) i)) ⌝ }
     ensures kept { λ c. ⌜ (c .refusal .number ≡ 0 → Extends (termsIn (now (skinds .entry)) (now (sends .entry)) (now (spool .entry)) fill) (termsIn (now (skinds .exit)) (now (sends .exit)) (now (spool .exit)) (c .fill)) × Sane (programFor (now (job .entry))) (boundOver (c .binds) (bindingsIn (now (bound .entry)) (now (pairs .entry)) (now (globals .entry)))) (termsIn (now (skinds .exit)) (now (sends .exit)) (now (spool .exit)) (c .fill))) ⌝ }
     ensures waits { λ c. ⌜ (c .settled ≡ false → c .binds ≡ binds.Binds.Nothing) ⌝ }
@@ -286,6 +287,7 @@ fn before_premise(
     }
     let c = check_side_condition(
         job,
+        strict,
         bound,
         pairs,
         globals,
@@ -325,6 +327,7 @@ fn over(c: Checked) -> Stage
 // Turn i of a rule's step: a fact before its premise or after it, or the head.
 fn advance_rule(
     job: &[u32],
+    strict: bool,
     found: &[u32],
     globals: &[u32],
     bound: &[u32],
@@ -349,7 +352,7 @@ fn advance_rule(
     requires { ⌜ (true ≡ true → Sane (programFor (now job)) (bindingsBy (now job) p true (now bound) (now globals)) (termsIn (now skinds) (now sends) (now spool) fill)) ⌝ }
     requires { ⌜ length (now bound) ≤ 32 ⌝ }
     requires { ⌜ i ≤ count ⌝ }
-    ensures { λ c. ⌜ Advances (now (job .entry)) (now (found .entry)) (now (globals .entry)) (now (unions .entry)) p true r name second count (now (bound .entry)) (now (skinds .entry)) (now (sends .entry)) (now (spool .entry)) fill (now (scratch .entry)) i walked (now (skinds .exit)) (now (sends .exit)) (now (spool .exit)) c (now (memo .exit)) (now (scratch .exit)) ⌝ }
+    ensures { λ c. ⌜ Advances (now (job .entry)) strict (now (found .entry)) (now (globals .entry)) (now (unions .entry)) p true r name second count (now (bound .entry)) (now (skinds .entry)) (now (sends .entry)) (now (spool .entry)) fill (now (scratch .entry)) i walked (now (skinds .exit)) (now (sends .exit)) (now (spool .exit)) c (now (memo .exit)) (now (scratch .exit)) ⌝ }
 {
     let facts = rule_facts_at(job, r);
     let pairs = substitution_at(job, wide(p));
@@ -375,6 +378,7 @@ fn advance_rule(
     if walked == 0 {
         return before_premise(
             job,
+            strict,
             found,
             globals,
             bound,
@@ -409,6 +413,7 @@ fn advance_rule(
 // Turn i of a rule's step, or the end of another.
 pub fn advance(
     job: &[u32],
+    strict: bool,
     found: &[u32],
     globals: &[u32],
     unions: &[u32],
@@ -435,11 +440,12 @@ pub fn advance(
     requires { ⌜ length (now bound) ≤ 32 ⌝ }
     requires { ⌜ i ≤ count ⌝ }
     requires { ⌜ (rule ≡ false → count ≤ i) ⌝ }
-    ensures { λ c. ⌜ Advances (now (job .entry)) (now (found .entry)) (now (globals .entry)) (now (unions .entry)) p rule r first second count (now (bound .entry)) (now (skinds .entry)) (now (sends .entry)) (now (spool .entry)) fill (now (scratch .entry)) i walked (now (skinds .exit)) (now (sends .exit)) (now (spool .exit)) c (now (memo .exit)) (now (scratch .exit)) ⌝ }
+    ensures { λ c. ⌜ Advances (now (job .entry)) strict (now (found .entry)) (now (globals .entry)) (now (unions .entry)) p rule r first second count (now (bound .entry)) (now (skinds .entry)) (now (sends .entry)) (now (spool .entry)) fill (now (scratch .entry)) i walked (now (skinds .exit)) (now (sends .exit)) (now (spool .exit)) c (now (memo .exit)) (now (scratch .exit)) ⌝ }
 {
     if rule {
         return advance_rule(
             job,
+            strict,
             found,
             globals,
             bound,

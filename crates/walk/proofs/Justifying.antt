@@ -2,7 +2,7 @@
 use mathlib.Core.Path.{_≡_, refl, sym, ap, subst, subst⁻¹, _∙_}
 use mathlib.Core.Bool.{Bool, true, false}
 use mathlib.Core.List.{List, _∷_, List·Memᴰ, List·Memᴰ·not-nil}
-use Prim.Native.Nat.{ℕ, suc, _+_, _-_, _<_, _≤_}
+use Prim.Native.Nat.{ℕ, suc, _+_, _<_, _≤_}
 use native.Mathlib.Omega.{arith}
 use lib.Dec.{eqb, ltb, lit<}
 use borrow.Author.Tests.{ltb-true, ltb-false}
@@ -39,7 +39,7 @@ flag-at W c i h e = ap (λ (m : ℕ). eqb (getD W (c + c + m) 0) 1) (sym i) ∙ 
 pub set-at : (W : List ℕ) (c : ℕ) {W₁ : List ℕ} {n p : ℕ} → W₁ ≡ set W (c + c + n) 1 → n ≡ p → W₁ ≡ set W (c + c + p) 1
 set-at W c h i = h ∙ ap (λ (m : ℕ). set W (c + c + m) 1) i
 
-module _ (J : List ℕ) (F G U : List ℕ) (p : ℕ) where
+module _ (J : List ℕ) (strict : Bool) (F G U : List ℕ) (p : ℕ) where
   abbrev prog : Program
   prog = programFor J
 
@@ -50,17 +50,17 @@ module _ (J : List ℕ) (F G U : List ℕ) (p : ℕ) where
   claim = claimAt proofs p
 
   abbrev sub : Room → List Proposition → ℕ → List ℕ → Check (List ℕ)
-  sub room ps = checkProofWithContext room prog proofs (contextOf G ps) p
+  sub room ps = checkProofWithContext room prog proofs (contextOf G ps) strict p
 
   abbrev j : Justification
   j = getD proofs p noProof .justification
 
   abbrev stepOf : Room → List Proposition → List ℕ → Check (List ℕ)
-  stepOf room ps done = checkJustification room prog proofs (contextOf G ps) (sub room ps) p claim j done
+  stepOf room ps done = checkJustification room prog proofs (contextOf G ps) (sub room ps) strict p claim j done
 
   -- the walk
   abbrev walkOf : Room → List Proposition → List ℕ → Check (List ℕ)
-  walkOf room ps done = checkProofWithContext room prog proofs (contextOf G ps) (suc p) p done
+  walkOf room ps done = checkProofWithContext room prog proofs (contextOf G ps) strict (suc p) p done
 
   is-walk : (room : Room) (ps : List Proposition) (done : List ℕ) (s : List Term) (b : Bool) → member p done ≡ b
       → choose b (pure done) (stepOf room ps done >>= λ d. pure (p ∷ d)) s ≡ walkOf room ps done s
@@ -129,6 +129,6 @@ lower-for {J} R p = go (ltb p (sizesOf J .proofs)) refl
         let l : length (proofsFor J) ≡ sizesOf J .proofs = length-map (tablesFor J .proofs) readProof ∙ table-long J 9 (lit< tt) in
         absurd (List·Memᴰ·not-nil (subst (λ (q : Proof). List·Memᴰ x (references (q .justification))) (List·getD-eq-default (proofsFor J) noProof {n = p} (omega arith)) m))
 
-pub fuel-for : {J : List ℕ} → Ready J → (ctx : ActionContext) (room : Room) (x p : ℕ) → x < p → (done : List ℕ) (s : List Term)
-    → checkProofWithContext room (programFor J) (proofsFor J) ctx (suc x) x done s ≡ checkProofWithContext room (programFor J) (proofsFor J) ctx p x done s
-fuel-for {J} R ctx room x p h done s = walk-fuel room (programFor J) (proofsFor J) ctx (lower-for R) (suc x) p x (omega arith) h done s
+pub fuel-for : {J : List ℕ} → Ready J → (ctx : ActionContext) (strict : Bool) (room : Room) (x p : ℕ) → x < p → (done : List ℕ) (s : List Term)
+    → checkProofWithContext room (programFor J) (proofsFor J) ctx strict (suc x) x done s ≡ checkProofWithContext room (programFor J) (proofsFor J) ctx strict p x done s
+fuel-for {J} R ctx strict room x p h done s = walk-fuel room (programFor J) (proofsFor J) ctx (lower-for R) strict (suc x) p x (omega arith) h done s

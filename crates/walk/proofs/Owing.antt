@@ -39,22 +39,22 @@ use Rattle.turns.proofs.Walking.{walks-here, walks-then, walks-stop, walks-as, 
 use Rattle.model.proofs.Sequence.{then-assoc, then-alike}
 
 -- what is owed before a turn, and after its proof; and after a stage
-module _ (room : Room) (prog : Program) (proofs : List Proof) (name : ℕ) (sub : ℕ → List ℕ → Check (List ℕ)) (ps : List Proposition) (p : ℕ) (q : Proposition) (j : Justification) (h : Option Rule) where
+module _ (room : Room) (prog : Program) (proofs : List Proof) (strict : Bool) (name : ℕ) (sub : ℕ → List ℕ → Check (List ℕ)) (ps : List Proposition) (p : ℕ) (q : Proposition) (j : Justification) (h : Option Rule) where
   abbrev pub finish : List Binding × List ℕ → Check (List ℕ)
   finish b = finishStep room prog proofs ps p q j h b
 
   abbrev pub restOf : List Turn → ℕ → List Binding × List ℕ → Check (List ℕ)
-  restOf ts zero b = takeTurns room prog proofs name sub ts b >>= finish
+  restOf ts zero b = takeTurns room prog proofs strict name sub ts b >>= finish
   restOf [] (suc v) b = finish b
-  restOf (t ∷ ts) (suc v) b = afterProof room prog proofs name t (b .0) >>= λ _. takeTurns room prog proofs name sub ts b >>= finish
+  restOf (t ∷ ts) (suc v) b = afterProof room prog proofs strict name t (b .0) >>= λ _. takeTurns room prog proofs strict name sub ts b >>= finish
 
   abbrev pub stagePart : List Turn → ℕ → List Binding × List ℕ → Check (List Binding × List ℕ)
-  stagePart ts v b = stageOf room prog proofs name ps p q j h ts v (b .0) >>= λ τ. pure (τ, b .1)
+  stagePart ts v b = stageOf room prog proofs strict name ps p q j h ts v (b .0) >>= λ τ. pure (τ, b .1)
 
   abbrev pub nextOf : List Turn → ℕ → List Binding × List ℕ → Check (List ℕ)
   nextOf [] v b = pure (b .1)
-  nextOf (t ∷ ts) zero b = walkProof room prog proofs name sub t (b .0) (b .1) >>= λ d. takeTurns room prog proofs name sub ts d >>= finish
-  nextOf (t ∷ ts) (suc v) b = takeTurns room prog proofs name sub ts b >>= finish
+  nextOf (t ∷ ts) zero b = walkProof room prog proofs strict name sub t (b .0) (b .1) >>= λ d. takeTurns room prog proofs strict name sub ts d >>= finish
+  nextOf (t ∷ ts) (suc v) b = takeTurns room prog proofs strict name sub ts b >>= finish
 
   abbrev paired : List ℕ → List Binding → Check (List Binding × List ℕ)
   paired d τ = pure (τ, d)
@@ -64,13 +64,13 @@ module _ (room : Room) (prog : Program) (proofs : List Proof) (name : ℕ) (sub 
   ends (refused r s) σ d = refl
 
   before : (o : Outcome (List Binding)) (d : List ℕ) (w : List Binding → List ℕ → Check (List Binding × List ℕ)) (ts : List Turn)
-      → andThen (andThen (andThen o (λ τ. w τ d)) (takeTurns room prog proofs name sub ts)) finish
-      ≡ andThen (andThen o (paired d)) (λ b. w (b .0) (b .1) >>= λ x. takeTurns room prog proofs name sub ts x >>= finish)
-  before (ok τ s) d w ts = then-assoc (w τ d s) (takeTurns room prog proofs name sub ts) finish
+      → andThen (andThen (andThen o (λ τ. w τ d)) (takeTurns room prog proofs strict name sub ts)) finish
+      ≡ andThen (andThen o (paired d)) (λ b. w (b .0) (b .1) >>= λ x. takeTurns room prog proofs strict name sub ts x >>= finish)
+  before (ok τ s) d w ts = then-assoc (w τ d s) (takeTurns room prog proofs strict name sub ts) finish
   before (refused r s) d w ts = refl
 
-  after : (o : Outcome (Unit {0})) (σ : List Binding) (d : List ℕ) (ts : List Turn) → andThen o (λ _. takeTurns room prog proofs name sub ts (σ, d) >>= finish)
-      ≡ andThen (andThen (andThen o (λ _. pure σ)) (paired d)) (λ b. takeTurns room prog proofs name sub ts b >>= finish)
+  after : (o : Outcome (Unit {0})) (σ : List Binding) (d : List ℕ) (ts : List Turn) → andThen o (λ _. takeTurns room prog proofs strict name sub ts (σ, d) >>= finish)
+      ≡ andThen (andThen (andThen o (λ _. pure σ)) (paired d)) (λ b. takeTurns room prog proofs strict name sub ts b >>= finish)
   after (ok u s) σ d ts = refl
   after (refused r s) σ d ts = refl
 
@@ -79,36 +79,36 @@ module _ (room : Room) (prog : Program) (proofs : List Proof) (name : ℕ) (sub 
   unfolding takeTurns
   rest-next [] zero (σ, d) s = ends (endStep room prog proofs ps p q j h σ s) σ d
   rest-next [] (suc v) (σ, d) s = ends (endStep room prog proofs ps p q j h σ s) σ d
-  rest-next (t ∷ ts) zero (σ, d) s = before (beforeProof room prog proofs name t σ s) d (walkProof room prog proofs name sub t) ts
-  rest-next (t ∷ ts) (suc v) (σ, d) s = after (afterProof room prog proofs name t σ s) σ d ts
+  rest-next (t ∷ ts) zero (σ, d) s = before (beforeProof room prog proofs strict name t σ s) d (walkProof room prog proofs strict name sub t) ts
+  rest-next (t ∷ ts) (suc v) (σ, d) s = after (afterProof room prog proofs strict name t σ s) σ d ts
 
   -- a turn that is settled
   pub next-settled : (t : Turn) (ts : List Turn) (b : List Binding × List ℕ) (s : List Term) → isSettled prog t ≡ true → nextOf (t ∷ ts) zero b s ≡ restOf ts zero b s
   next-settled t ts (σ, d) s e =
-      ap (λ (c : Bool). andThen (choose c (pure (σ, d)) (sub (proofOf t) d >>= λ x. afterProof room prog proofs name t σ >>= λ _. pure (σ, x)) s) (λ y. takeTurns room prog proofs name sub ts y >>= finish)) e
+      ap (λ (c : Bool). andThen (choose c (pure (σ, d)) (sub (proofOf t) d >>= λ x. afterProof room prog proofs strict name t σ >>= λ _. pure (σ, x)) s) (λ y. takeTurns room prog proofs strict name sub ts y >>= finish)) e
 
   -- and one whose proof is walked
   abbrev pub walkPart : Turn → List Binding × List ℕ → Check (List Binding × List ℕ)
   walkPart t b = sub (proofOf t) (b .1) >>= λ d. pure (b .0, d)
 
-  matched : (o : Outcome (Unit {0})) (σ : List Binding) (d : List ℕ) (ts : List Turn) → andThen (andThen o (λ _. pure (σ, d))) (λ y. takeTurns room prog proofs name sub ts y >>= finish)
-      ≡ andThen o (λ _. takeTurns room prog proofs name sub ts (σ, d) >>= finish)
+  matched : (o : Outcome (Unit {0})) (σ : List Binding) (d : List ℕ) (ts : List Turn) → andThen (andThen o (λ _. pure (σ, d))) (λ y. takeTurns room prog proofs strict name sub ts y >>= finish)
+      ≡ andThen o (λ _. takeTurns room prog proofs strict name sub ts (σ, d) >>= finish)
   matched (ok u s) σ d ts = refl
   matched (refused r s) σ d ts = refl
 
   walked : (o : Outcome (List ℕ)) (t : Turn) (ts : List Turn) (σ : List Binding)
-      → andThen (andThen o (λ x. afterProof room prog proofs name t σ >>= λ _. pure (σ, x))) (λ y. takeTurns room prog proofs name sub ts y >>= finish)
+      → andThen (andThen o (λ x. afterProof room prog proofs strict name t σ >>= λ _. pure (σ, x))) (λ y. takeTurns room prog proofs strict name sub ts y >>= finish)
       ≡ andThen (andThen o (λ d. pure (σ, d))) (restOf (t ∷ ts) 1)
-  walked (ok d s) t ts σ = matched (afterProof room prog proofs name t σ s) σ d ts
+  walked (ok d s) t ts σ = matched (afterProof room prog proofs strict name t σ s) σ d ts
   walked (refused r s) t ts σ = refl
 
   pub next-walk : (t : Turn) (ts : List Turn) (b : List Binding × List ℕ) (s : List Term) → isSettled prog t ≡ false → nextOf (t ∷ ts) zero b s ≡ andThen (walkPart t b s) (restOf (t ∷ ts) 1)
   next-walk t ts (σ, d) s e =
-      ap (λ (c : Bool). andThen (choose c (pure (σ, d)) (sub (proofOf t) d >>= λ x. afterProof room prog proofs name t σ >>= λ _. pure (σ, x)) s) (λ y. takeTurns room prog proofs name sub ts y >>= finish)) e
+      ap (λ (c : Bool). andThen (choose c (pure (σ, d)) (sub (proofOf t) d >>= λ x. afterProof room prog proofs strict name t σ >>= λ _. pure (σ, x)) s) (λ y. takeTurns room prog proofs strict name sub ts y >>= finish)) e
       ∙ walked (sub (proofOf t) d s) t ts σ
 
 -- the step of proof p, of which a part is done
-module _ (J : List ℕ) (F G U : List ℕ) (p : ℕ) where
+module _ (J : List ℕ) (strict : Bool) (F G U : List ℕ) (p : ℕ) where
   abbrev prog : Program
   prog = programFor J
 
@@ -116,10 +116,10 @@ module _ (J : List ℕ) (F G U : List ℕ) (p : ℕ) where
   proofs = proofsFor J
 
   abbrev pub sub : Room → List Proposition → ℕ → List ℕ → Check (List ℕ)
-  sub room ps = checkProofWithContext room prog proofs (contextOf G ps) p
+  sub room ps = checkProofWithContext room prog proofs (contextOf G ps) strict p
 
   abbrev pub stepOf : Room → List Proposition → List ℕ → Check (List ℕ)
-  stepOf room ps done = checkJustification room prog proofs (contextOf G ps) (sub room ps) p (claimAt proofs p) (getD proofs p noProof .justification) done
+  stepOf room ps done = checkJustification room prog proofs (contextOf G ps) (sub room ps) strict p (claimAt proofs p) (getD proofs p noProof .justification) done
 
   -- from the store k₀ on the step came to the store k with the bindings σ, and the rest is owed
   pub record Owes (k₀ e₀ p₀ : List ℕ) (f₀ : Fill) (W₀ k e q : List ℕ) (f : Fill) (memo W : List ℕ) (σ : List Binding) (rest : Room → List Proposition → List Binding × List ℕ → Check (List ℕ)) : Type 0 where
@@ -158,7 +158,7 @@ module _ (J : List ℕ) (F G U : List ℕ) (p : ℕ) where
       (walks-then (O .walks) (λ room ps b. pure (b .1)) refl (walks-here (O .walks .after refl .ground) (λ ps done y. does-here (O .walks .after refl .ground .stored) refl)))
 
 -- a step, turn by turn
-module _ (J : List ℕ) (F G U : List ℕ) (p : ℕ) (rule : Bool) (r first second count : ℕ) where
+module _ (J : List ℕ) (strict : Bool) (F G U : List ℕ) (p : ℕ) (rule : Bool) (r first second count : ℕ) where
   abbrev turns : List Turn
   turns = turnsBy J p rule r first second count
 
@@ -166,25 +166,25 @@ module _ (J : List ℕ) (F G U : List ℕ) (p : ℕ) (rule : Bool) (r first seco
   bindings X = bindingsBy J p rule X G
 
   abbrev rest : List Turn → ℕ → Room → List Proposition → List Binding × List ℕ → Check (List ℕ)
-  rest ts v room ps = restOf room (prog J F G U p) (proofs J F G U p) first (sub J F G U p room ps) ps p (claimAt (proofs J F G U p) p) (getD (proofs J F G U p) p noProof .justification) (headBy J rule r) ts v
+  rest ts v room ps = restOf room (prog J strict F G U p) (proofs J strict F G U p) strict first (sub J strict F G U p room ps) ps p (claimAt (proofs J strict F G U p) p) (getD (proofs J strict F G U p) p noProof .justification) (headBy J rule r) ts v
 
   abbrev next : List Turn → ℕ → Room → List Proposition → List Binding × List ℕ → Check (List ℕ)
-  next ts v room ps = nextOf room (prog J F G U p) (proofs J F G U p) first (sub J F G U p room ps) ps p (claimAt (proofs J F G U p) p) (getD (proofs J F G U p) p noProof .justification) (headBy J rule r) ts v
+  next ts v room ps = nextOf room (prog J strict F G U p) (proofs J strict F G U p) strict first (sub J strict F G U p room ps) ps p (claimAt (proofs J strict F G U p) p) (getD (proofs J strict F G U p) p noProof .justification) (headBy J rule r) ts v
 
   abbrev stage : List Turn → ℕ → Room → List Proposition → List Binding × List ℕ → Check (List Binding × List ℕ)
-  stage ts v room ps = stagePart room (prog J F G U p) (proofs J F G U p) first (sub J F G U p room ps) ps p (claimAt (proofs J F G U p) p) (getD (proofs J F G U p) p noProof .justification) (headBy J rule r) ts v
+  stage ts v room ps = stagePart room (prog J strict F G U p) (proofs J strict F G U p) strict first (sub J strict F G U p room ps) ps p (claimAt (proofs J strict F G U p) p) (getD (proofs J strict F G U p) p noProof .justification) (headBy J rule r) ts v
 
   advance-is : (ts : List Turn) (v : ℕ) (room : Room) (ps : List Proposition) (b : List Binding × List ℕ) (s : List Term) → rest ts v room ps b s ≡ andThen (stage ts v room ps b s) (next ts v room ps)
-  advance-is ts v room ps b s = rest-next room (prog J F G U p) (proofs J F G U p) first (sub J F G U p room ps) ps p (claimAt (proofs J F G U p) p) (getD (proofs J F G U p) p noProof .justification) (headBy J rule r) ts v b s
+  advance-is ts v room ps b s = rest-next room (prog J strict F G U p) (proofs J strict F G U p) strict first (sub J strict F G U p room ps) ps p (claimAt (proofs J strict F G U p) p) (getD (proofs J strict F G U p) p noProof .justification) (headBy J rule r) ts v b s
 
   settled-is : (t : Turn) (ts : List Turn) → isSettled (programFor J) t ≡ true → (room : Room) (ps : List Proposition) (b : List Binding × List ℕ) (s : List Term) → next (t ∷ ts) 0 room ps b s ≡ rest ts 0 room ps b s
-  settled-is t ts e room ps b s = next-settled room (prog J F G U p) (proofs J F G U p) first (sub J F G U p room ps) ps p (claimAt (proofs J F G U p) p) (getD (proofs J F G U p) p noProof .justification) (headBy J rule r) t ts b s e
+  settled-is t ts e room ps b s = next-settled room (prog J strict F G U p) (proofs J strict F G U p) strict first (sub J strict F G U p room ps) ps p (claimAt (proofs J strict F G U p) p) (getD (proofs J strict F G U p) p noProof .justification) (headBy J rule r) t ts b s e
 
   abbrev walks : Turn → Room → List Proposition → List Binding × List ℕ → Check (List Binding × List ℕ)
-  walks t room ps = walkPart room (prog J F G U p) (proofs J F G U p) first (sub J F G U p room ps) ps p (claimAt (proofs J F G U p) p) (getD (proofs J F G U p) p noProof .justification) (headBy J rule r) t
+  walks t room ps = walkPart room (prog J strict F G U p) (proofs J strict F G U p) strict first (sub J strict F G U p room ps) ps p (claimAt (proofs J strict F G U p) p) (getD (proofs J strict F G U p) p noProof .justification) (headBy J rule r) t
 
   walk-is : (t : Turn) (ts : List Turn) → isSettled (programFor J) t ≡ false → (room : Room) (ps : List Proposition) (b : List Binding × List ℕ) (s : List Term) → next (t ∷ ts) 0 room ps b s ≡ andThen (walks t room ps b s) (rest (t ∷ ts) 2 room ps)
-  walk-is t ts e room ps b s = next-walk room (prog J F G U p) (proofs J F G U p) first (sub J F G U p room ps) ps p (claimAt (proofs J F G U p) p) (getD (proofs J F G U p) p noProof .justification) (headBy J rule r) t ts b s e
+  walk-is t ts e room ps b s = next-walk room (prog J strict F G U p) (proofs J strict F G U p) strict first (sub J strict F G U p room ps) ps p (claimAt (proofs J strict F G U p) p) (getD (proofs J strict F G U p) p noProof .justification) (headBy J rule r) t ts b s e
 
   proof-turn : (m : Bool) → m ≡ false → (j : ℕ) → (x : ℕ) × (getD (turnsBy J p m r first second count) j noTurn ≡ ofProof x)
   proof-turn true e j = absurd (true≢false e)
@@ -206,33 +206,33 @@ module _ (J : List ℕ) (F G U : List ℕ) (p : ℕ) (rule : Bool) (r first seco
     pub lenW : length W ≡ length W₀
     pub grown : Grown k₀ e₀ p₀ f₀ k e q f
     pub sane : rule ≡ true → i ≤ count → Sane (programFor J) (bindings (drop at T)) (termsIn k e q f)
-    pub owes : i ≤ count → (s ≡ 1 → ⊥) → Owes J F G U p k₀ e₀ p₀ f₀ W₀ k e q f memo W (bindings (drop at T)) (rest (drop i turns) s)
-    pub due : s ≡ 1 → (i < count) × (isSettled (programFor J) (getD turns i noTurn) ≡ false) × Owes J F G U p k₀ e₀ p₀ f₀ W₀ k e q f memo W (bindings (drop at T)) (next (getD turns i noTurn ∷ drop (suc i) turns) 0)
+    pub owes : i ≤ count → (s ≡ 1 → ⊥) → Owes J strict F G U p k₀ e₀ p₀ f₀ W₀ k e q f memo W (bindings (drop at T)) (rest (drop i turns) s)
+    pub due : s ≡ 1 → (i < count) × (isSettled (programFor J) (getD turns i noTurn) ≡ false) × Owes J strict F G U p k₀ e₀ p₀ f₀ W₀ k e q f memo W (bindings (drop at T)) (next (getD turns i noTurn ∷ drop (suc i) turns) 0)
     pub ends : rule ≡ false → (s ≡ 1 → ⊥) → count ≤ i
-    pub ended : i ≡ suc count → Walks J F G U k₀ e₀ p₀ f₀ W₀ k e q f passed memo W (λ d. d) (stepOf J F G U p)
+    pub ended : i ≡ suc count → Walks J F G U k₀ e₀ p₀ f₀ W₀ k e q f passed memo W (λ d. d) (stepOf J strict F G U p)
 
   module _ (S : Planned J p rule r first second count) where
     left-at : {i : ℕ} → i < count → drop i turns ≡ getD turns i noTurn ∷ drop (suc i) turns
     left-at {i} l = drop-cons turns i noTurn (let m = S .long in omega arith)
 
     -- a turn that starts
-    module _ {k₀ e₀ p₀ : List ℕ} {f₀ : Fill} {W₀ k e q : List ℕ} {f : Fill} {memo W : List ℕ} {σ : List Binding} {i s : ℕ} (O : Owes J F G U p k₀ e₀ p₀ f₀ W₀ k e q f memo W σ (rest (drop i turns) 0)) (x : Starts rule count i s) where
-      starts-owes : (s ≡ 1 → ⊥) → Owes J F G U p k₀ e₀ p₀ f₀ W₀ k e q f memo W σ (rest (drop i turns) s)
+    module _ {k₀ e₀ p₀ : List ℕ} {f₀ : Fill} {W₀ k e q : List ℕ} {f : Fill} {memo W : List ℕ} {σ : List Binding} {i s : ℕ} (O : Owes J strict F G U p k₀ e₀ p₀ f₀ W₀ k e q f memo W σ (rest (drop i turns) 0)) (x : Starts rule count i s) where
+      starts-owes : (s ≡ 1 → ⊥) → Owes J strict F G U p k₀ e₀ p₀ f₀ W₀ k e q f memo W σ (rest (drop i turns) s)
       starts-owes n = go s (x .few) n
         where
-          go : (m : ℕ) → m ≤ 1 → (m ≡ 1 → ⊥) → Owes J F G U p k₀ e₀ p₀ f₀ W₀ k e q f memo W σ (rest (drop i turns) m)
+          go : (m : ℕ) → m ≤ 1 → (m ≡ 1 → ⊥) → Owes J strict F G U p k₀ e₀ p₀ f₀ W₀ k e q f memo W σ (rest (drop i turns) m)
           go zero l n = O
           go (suc zero) l n = absurd (n refl)
           go (suc (suc m)) l n = absurd (omega arith)
 
-      starts-due : s ≡ 1 → (i < count) × (isSettled (programFor J) (getD turns i noTurn) ≡ false) × Owes J F G U p k₀ e₀ p₀ f₀ W₀ k e q f memo W σ (next (getD turns i noTurn ∷ drop (suc i) turns) 0)
+      starts-due : s ≡ 1 → (i < count) × (isSettled (programFor J) (getD turns i noTurn) ≡ false) × Owes J strict F G U p k₀ e₀ p₀ f₀ W₀ k e q f memo W σ (next (getD turns i noTurn ∷ drop (suc i) turns) 0)
       starts-due u =
           let l = x .walks u in
           let y = proof-turn rule (l .0) i in (
             l .1,
             ap (isSettled (programFor J)) (y .1),
-            subst⁻¹ (λ (t : Turn). Owes J F G U p k₀ e₀ p₀ f₀ W₀ k e q f memo W σ (next (t ∷ drop (suc i) turns) 0)) (y .1)
-                (owes-as J F G U p {rest = rest (ofProof (y .0) ∷ drop (suc i) turns) 0} (subst (λ (ts : List Turn). Owes J F G U p k₀ e₀ p₀ f₀ W₀ k e q f memo W σ (rest ts 0)) (left-at (l .1) ∙ ap (λ (t : Turn). t ∷ drop (suc i) turns) (y .1)) O)
+            subst⁻¹ (λ (t : Turn). Owes J strict F G U p k₀ e₀ p₀ f₀ W₀ k e q f memo W σ (next (t ∷ drop (suc i) turns) 0)) (y .1)
+                (owes-as J strict F G U p {rest = rest (ofProof (y .0) ∷ drop (suc i) turns) 0} (subst (λ (ts : List Turn). Owes J strict F G U p k₀ e₀ p₀ f₀ W₀ k e q f memo W σ (rest ts 0)) (left-at (l .1) ∙ ap (λ (t : Turn). t ∷ drop (suc i) turns) (y .1)) O)
                 (advance-is (ofProof (y .0) ∷ drop (suc i) turns) 0)),
           )
 
@@ -257,11 +257,11 @@ module _ (J : List ℕ) (F G U : List ℕ) (p : ℕ) (rule : Bool) (r first seco
         nothing : drop 34 T ≡ []
         nothing = drop-of-length-le T {i = 34} (omega arith)
 
-        whole : Owes J F G U p k e q f W k e q f memo W (bindings (drop 34 T)) (rest turns 0)
-        whole = subst⁻¹ (λ (X : List ℕ). Owes J F G U p k e q f W k e q f memo W (bindings X) (rest turns 0)) nothing (record {
+        whole : Owes J strict F G U p k e q f W k e q f memo W (bindings (drop 34 T)) (rest turns 0)
+        whole = subst⁻¹ (λ (X : List ℕ). Owes J strict F G U p k e q f W k e q f memo W (bindings X) (rest turns 0)) nothing (record {
           part = λ room ps done. pure (bindings [], done);
           walks = walks-here g (λ ps done y. does-here (g .stored) refl);
-          same = λ ps done. S .step (roomOf k q) G ps (sub J F G U p (roomOf k q) ps) done (termsIn k e q f);
+          same = λ ps done. S .step (roomOf k q) strict G ps (sub J strict F G U p (roomOf k q) ps) done (termsIn k e q f);
         })
 
     -- a stage
@@ -269,34 +269,34 @@ module _ (J : List ℕ) (F G U : List ℕ) (p : ℕ) (rule : Bool) (r first seco
       pub task-ground : Ground J F G k e q f memo W
       task-ground = t .owes h v≢1 .walks .after refl .ground
 
-      module _ {k₁ e₁ p₁ : List ℕ} (c : Stage) {memo₁ W₁ : List ℕ} {X : List ℕ} (x : X ≡ drop at T) (d : Advances J F G U p rule r first second count X k e q f W i v k₁ e₁ p₁ c memo₁ W₁) where
+      module _ {k₁ e₁ p₁ : List ℕ} (c : Stage) {memo₁ W₁ : List ℕ} {X : List ℕ} (x : X ≡ drop at T) (d : Advances J strict F G U p rule r first second count X k e q f W i v k₁ e₁ p₁ c memo₁ W₁) where
         abbrev σ : List Binding
         σ = bindings (drop at T)
 
-        here : Advances J F G U p rule r first second count (drop at T) k e q f W i v k₁ e₁ p₁ c memo₁ W₁
-        here = subst (λ (Y : List ℕ). Advances J F G U p rule r first second count Y k e q f W i v k₁ e₁ p₁ c memo₁ W₁) x d
+        here : Advances J strict F G U p rule r first second count (drop at T) k e q f W i v k₁ e₁ p₁ c memo₁ W₁
+        here = subst (λ (Y : List ℕ). Advances J strict F G U p rule r first second count Y k e q f W i v k₁ e₁ p₁ c memo₁ W₁) x d
 
-        pub task-refused : (c .refusal .number ≡ 0 → ⊥) → Walks J F G U k₀ e₀ p₀ f₀ W₀ k₁ e₁ p₁ (c .fill) (c .refusal) memo₁ W₁ (λ y. y) (stepOf J F G U p)
-        task-refused n = owes-stop J F G U p (t .owes h v≢1) (stage (drop i turns) v) (next (drop i turns) v)
+        pub task-refused : (c .refusal .number ≡ 0 → ⊥) → Walks J F G U k₀ e₀ p₀ f₀ W₀ k₁ e₁ p₁ (c .fill) (c .refusal) memo₁ W₁ (λ y. y) (stepOf J strict F G U p)
+        task-refused n = owes-stop J strict F G U p (t .owes h v≢1) (stage (drop i turns) v) (next (drop i turns) v)
             (advance-is (drop i turns) v) (here .walks) n
 
-        advanced : c .refusal .number ≡ 0 → Owes J F G U p k₀ e₀ p₀ f₀ W₀ k₁ e₁ p₁ (c .fill) memo₁ W₁ (boundOver (c .binds) σ) (next (drop i turns) v)
-        advanced n = owes-then J F G U p (t .owes h v≢1) (stage (drop i turns) v) (next (drop i turns) v)
+        advanced : c .refusal .number ≡ 0 → Owes J strict F G U p k₀ e₀ p₀ f₀ W₀ k₁ e₁ p₁ (c .fill) memo₁ W₁ (boundOver (c .binds) σ) (next (drop i turns) v)
+        advanced n = owes-then J strict F G U p (t .owes h v≢1) (stage (drop i turns) v) (next (drop i turns) v)
             (advance-is (drop i turns) v) (here .walks) n
 
         -- no proof is walked: the next turn, or the end
-        after-over : c .refusal .number ≡ 0 → c .settled ≡ true → i < count → Owes J F G U p k₀ e₀ p₀ f₀ W₀ k₁ e₁ p₁ (c .fill) memo₁ W₁ (boundOver (c .binds) σ) (rest (drop (suc i) turns) 0)
+        after-over : c .refusal .number ≡ 0 → c .settled ≡ true → i < count → Owes J strict F G U p k₀ e₀ p₀ f₀ W₀ k₁ e₁ p₁ (c .fill) memo₁ W₁ (boundOver (c .binds) σ) (rest (drop (suc i) turns) 0)
         after-over n s l = go v (getD turns i noTurn) (left-at l) (sym (here .over n) ∙ s) (advanced n)
           where
             go : (w : ℕ) (u : Turn) → drop i turns ≡ u ∷ drop (suc i) turns → isOver (programFor J) (drop i turns) w ≡ true
-                → Owes J F G U p k₀ e₀ p₀ f₀ W₀ k₁ e₁ p₁ (c .fill) memo₁ W₁ (boundOver (c .binds) σ) (next (drop i turns) w)
-                → Owes J F G U p k₀ e₀ p₀ f₀ W₀ k₁ e₁ p₁ (c .fill) memo₁ W₁ (boundOver (c .binds) σ) (rest (drop (suc i) turns) 0)
-            go zero u y o O = owes-as J F G U p (subst (λ (ts : List Turn). Owes J F G U p k₀ e₀ p₀ f₀ W₀ k₁ e₁ p₁ (c .fill) memo₁ W₁ (boundOver (c .binds) σ) (next ts 0)) y O)
+                → Owes J strict F G U p k₀ e₀ p₀ f₀ W₀ k₁ e₁ p₁ (c .fill) memo₁ W₁ (boundOver (c .binds) σ) (next (drop i turns) w)
+                → Owes J strict F G U p k₀ e₀ p₀ f₀ W₀ k₁ e₁ p₁ (c .fill) memo₁ W₁ (boundOver (c .binds) σ) (rest (drop (suc i) turns) 0)
+            go zero u y o O = owes-as J strict F G U p (subst (λ (ts : List Turn). Owes J strict F G U p k₀ e₀ p₀ f₀ W₀ k₁ e₁ p₁ (c .fill) memo₁ W₁ (boundOver (c .binds) σ) (next ts 0)) y O)
                 (settled-is u (drop (suc i) turns) (sym (ap (λ (ts : List Turn). isOver (programFor J) ts 0) y) ∙ o))
-            go (suc w) u y o O = subst (λ (ts : List Turn). Owes J F G U p k₀ e₀ p₀ f₀ W₀ k₁ e₁ p₁ (c .fill) memo₁ W₁ (boundOver (c .binds) σ) (next ts (suc w))) y O
+            go (suc w) u y o O = subst (λ (ts : List Turn). Owes J strict F G U p k₀ e₀ p₀ f₀ W₀ k₁ e₁ p₁ (c .fill) memo₁ W₁ (boundOver (c .binds) σ) (next ts (suc w))) y O
 
-        after-end : c .refusal .number ≡ 0 → i ≡ count → Walks J F G U k₀ e₀ p₀ f₀ W₀ k₁ e₁ p₁ (c .fill) passed memo₁ W₁ (λ y. y) (stepOf J F G U p)
-        after-end n l = owes-none J F G U p (subst (λ (ts : List Turn). Owes J F G U p k₀ e₀ p₀ f₀ W₀ k₁ e₁ p₁ (c .fill) memo₁ W₁ (boundOver (c .binds) σ) (next ts v)) none-left (advanced n))
+        after-end : c .refusal .number ≡ 0 → i ≡ count → Walks J F G U k₀ e₀ p₀ f₀ W₀ k₁ e₁ p₁ (c .fill) passed memo₁ W₁ (λ y. y) (stepOf J strict F G U p)
+        after-end n l = owes-none J strict F G U p (subst (λ (ts : List Turn). Owes J strict F G U p k₀ e₀ p₀ f₀ W₀ k₁ e₁ p₁ (c .fill) memo₁ W₁ (boundOver (c .binds) σ) (next ts v)) none-left (advanced n))
           where
             none-left : drop i turns ≡ []
             none-left = drop-of-length-le turns {i = i} (let m = S .long in omega arith)
@@ -321,8 +321,8 @@ module _ (J : List ℕ) (F G U : List ℕ) (p : ℕ) (rule : Bool) (r first seco
             lenW = lW ∙ t .lenW;
             grown = gr;
             sane = λ u l. subst (λ (ρ : List Binding). Sane (programFor J) ρ (termsIn k₁ e₁ p₁ (c .fill))) bound (here .sane u n);
-            owes = λ l _. subst⁻¹ (λ (m : ℕ). Owes J F G U p k₀ e₀ p₀ f₀ W₀ k₁ e₁ p₁ (c .fill) memo₁ W₁ (bindings (drop at₁ T₁)) (rest (drop m turns) 0)) (add-one i)
-                (subst (λ (ρ : List Binding). Owes J F G U p k₀ e₀ p₀ f₀ W₀ k₁ e₁ p₁ (c .fill) memo₁ W₁ ρ (rest (drop (suc i) turns) 0)) bound (after-over n s (omega arith)));
+            owes = λ l _. subst⁻¹ (λ (m : ℕ). Owes J strict F G U p k₀ e₀ p₀ f₀ W₀ k₁ e₁ p₁ (c .fill) memo₁ W₁ (bindings (drop at₁ T₁)) (rest (drop m turns) 0)) (add-one i)
+                (subst (λ (ρ : List Binding). Owes J strict F G U p k₀ e₀ p₀ f₀ W₀ k₁ e₁ p₁ (c .fill) memo₁ W₁ ρ (rest (drop (suc i) turns) 0)) bound (after-over n s (omega arith)));
             due = λ u. absurd (omega arith);
             ends = λ u _. let l = t .ends u v≢1 in omega arith;
             ended = λ u. after-end n (omega arith);
@@ -351,9 +351,9 @@ module _ (J : List ℕ) (F G U : List ℕ) (p : ℕ) (rule : Bool) (r first seco
           pub task-fresh : v ≡ 0
           task-fresh = waits .1
 
-          owed : Owes J F G U p k₀ e₀ p₀ f₀ W₀ k₁ e₁ p₁ (c .fill) memo₁ W₁ (boundOver (c .binds) σ) (next (getD turns i noTurn ∷ drop (suc i) turns) 0)
-          owed = subst (λ (m : ℕ). Owes J F G U p k₀ e₀ p₀ f₀ W₀ k₁ e₁ p₁ (c .fill) memo₁ W₁ (boundOver (c .binds) σ) (next (getD turns i noTurn ∷ drop (suc i) turns) m)) (waits .1)
-              (subst (λ (ts : List Turn). Owes J F G U p k₀ e₀ p₀ f₀ W₀ k₁ e₁ p₁ (c .fill) memo₁ W₁ (boundOver (c .binds) σ) (next ts v)) (left-at (waits .0)) (advanced n))
+          owed : Owes J strict F G U p k₀ e₀ p₀ f₀ W₀ k₁ e₁ p₁ (c .fill) memo₁ W₁ (boundOver (c .binds) σ) (next (getD turns i noTurn ∷ drop (suc i) turns) 0)
+          owed = subst (λ (m : ℕ). Owes J strict F G U p k₀ e₀ p₀ f₀ W₀ k₁ e₁ p₁ (c .fill) memo₁ W₁ (boundOver (c .binds) σ) (next (getD turns i noTurn ∷ drop (suc i) turns) m)) (waits .1)
+              (subst (λ (ts : List Turn). Owes J strict F G U p k₀ e₀ p₀ f₀ W₀ k₁ e₁ p₁ (c .fill) memo₁ W₁ (boundOver (c .binds) σ) (next ts v)) (left-at (waits .0)) (advanced n))
 
           pub task-waits : length memo₁ ≡ length memo → length W₁ ≡ length W → Grown k₀ e₀ p₀ f₀ k₁ e₁ p₁ (c .fill) → Task k₀ e₀ p₀ f₀ memo₀ W₀ k₁ e₁ p₁ (c .fill) memo₁ W₁ T at i 1
           task-waits lMemo lW gr = record {
@@ -367,7 +367,7 @@ module _ (J : List ℕ) (F G U : List ℕ) (p : ℕ) (rule : Bool) (r first seco
             grown = gr;
             sane = λ u _. subst (λ (ρ : List Binding). Sane (programFor J) ρ (termsIn k₁ e₁ p₁ (c .fill))) quiet (here .sane u n);
             owes = λ _ u. absurd (u refl);
-            due = λ _. (waits .0, waits .2, subst (λ (ρ : List Binding). Owes J F G U p k₀ e₀ p₀ f₀ W₀ k₁ e₁ p₁ (c .fill) memo₁ W₁ ρ (next (getD turns i noTurn ∷ drop (suc i) turns) 0)) quiet owed);
+            due = λ _. (waits .0, waits .2, subst (λ (ρ : List Binding). Owes J strict F G U p k₀ e₀ p₀ f₀ W₀ k₁ e₁ p₁ (c .fill) memo₁ W₁ ρ (next (getD turns i noTurn ∷ drop (suc i) turns) 0)) quiet owed);
             ends = λ _ u. absurd (u refl);
             ended = λ u. let l = waits .0 in absurd (omega arith);
           }
@@ -380,26 +380,26 @@ module _ (J : List ℕ) (F G U : List ℕ) (p : ℕ) (rule : Bool) (r first seco
       pub task-next : Ground J F G k e q f memo W
       task-next = t .due v≡1 .2 .walks .after refl .ground
 
-      module _ (fuel : (room : Room) (ps : List Proposition) (x : ℕ) → x < p → (done : List ℕ) (u : List Term) → checkProofWithContext room (programFor J) (proofsFor J) (contextOf G ps) (suc x) x done u ≡ sub J F G U p room ps x done u)
+      module _ (fuel : (room : Room) (ps : List Proposition) (x : ℕ) → x < p → (done : List ℕ) (u : List Term) → checkProofWithContext room (programFor J) (proofsFor J) (contextOf G ps) strict (suc x) x done u ≡ sub J strict F G U p room ps x done u)
           {a : ℕ} (y : a ≡ proofOf (getD turns i noTurn)) {k₂ e₂ p₂ : List ℕ} {f₂ : Fill} {r₂ : Refusal} {memo₂ W₂ : List ℕ}
-          (w : Walks J F G U k e q f W k₂ e₂ p₂ f₂ r₂ memo₂ W₂ (λ d. d) (λ room ps done. checkProofWithContext room (programFor J) (proofsFor J) (contextOf G ps) (suc a) a done)) where
+          (w : Walks J F G U k e q f W k₂ e₂ p₂ f₂ r₂ memo₂ W₂ (λ d. d) (λ room ps done. checkProofWithContext room (programFor J) (proofsFor J) (contextOf G ps) strict (suc a) a done)) where
         abbrev turn : Turn
         turn = getD turns i noTurn
 
         abbrev τ : List Binding
         τ = bindings (drop at T)
 
-        walked-proof : Walks J F G U k e q f W k₂ e₂ p₂ f₂ r₂ memo₂ W₂ (λ d. d) (λ room ps done. sub J F G U p room ps (proofOf turn) done)
-        walked-proof = walks-as {o′ = λ room ps done. sub J F G U p room ps (proofOf turn) done} (λ ps done.
-            fuel (roomOf k q) ps a (let l = S .lower i task-turn in omega arith) done (termsIn k e q f) ∙ ap (λ (m : ℕ). sub J F G U p (roomOf k q) ps m done (termsIn k e q f)) y) w
+        walked-proof : Walks J F G U k e q f W k₂ e₂ p₂ f₂ r₂ memo₂ W₂ (λ d. d) (λ room ps done. sub J strict F G U p room ps (proofOf turn) done)
+        walked-proof = walks-as {o′ = λ room ps done. sub J strict F G U p room ps (proofOf turn) done} (λ ps done.
+            fuel (roomOf k q) ps a (let l = S .lower i task-turn in omega arith) done (termsIn k e q f) ∙ ap (λ (m : ℕ). sub J strict F G U p (roomOf k q) ps m done (termsIn k e q f)) y) w
 
-        pub task-walk-stops : (r₂ .number ≡ 0 → ⊥) → Walks J F G U k₀ e₀ p₀ f₀ W₀ k₂ e₂ p₂ f₂ r₂ memo₂ W₂ (λ d. d) (stepOf J F G U p)
-        task-walk-stops m = owes-stop J F G U p (t .due v≡1 .2) (walks turn) (rest (turn ∷ drop (suc i) turns) 2) (walk-is turn (drop (suc i) turns) (t .due v≡1 .1))
+        pub task-walk-stops : (r₂ .number ≡ 0 → ⊥) → Walks J F G U k₀ e₀ p₀ f₀ W₀ k₂ e₂ p₂ f₂ r₂ memo₂ W₂ (λ d. d) (stepOf J strict F G U p)
+        task-walk-stops m = owes-stop J strict F G U p (t .due v≡1 .2) (walks turn) (rest (turn ∷ drop (suc i) turns) 2) (walk-is turn (drop (suc i) turns) (t .due v≡1 .1))
             (walks-stop walked-proof (λ d. (τ, d)) (λ room ps d. pure (τ, d)) m) m
 
         module _ (m : r₂ .number ≡ 0) (lMemo : length memo₂ ≡ length memo) (lW : length W₂ ≡ length W) (gr : Grown k₀ e₀ p₀ f₀ k₂ e₂ p₂ f₂) where
-          owed-after : Owes J F G U p k₀ e₀ p₀ f₀ W₀ k₂ e₂ p₂ f₂ memo₂ W₂ τ (rest (turn ∷ drop (suc i) turns) 2)
-          owed-after = owes-then J F G U p (t .due v≡1 .2) (walks turn) (rest (turn ∷ drop (suc i) turns) 2) (walk-is turn (drop (suc i) turns) (t .due v≡1 .1))
+          owed-after : Owes J strict F G U p k₀ e₀ p₀ f₀ W₀ k₂ e₂ p₂ f₂ memo₂ W₂ τ (rest (turn ∷ drop (suc i) turns) 2)
+          owed-after = owes-then J strict F G U p (t .due v≡1 .2) (walks turn) (rest (turn ∷ drop (suc i) turns) 2) (walk-is turn (drop (suc i) turns) (t .due v≡1 .1))
               (walks-then walked-proof (λ room ps d. pure (τ, d)) m (walks-here {r = passed} (w .after m .ground) (λ ps done u. does-here (w .after m .ground .stored) refl))) refl
 
           sane-after : rule ≡ true → Sane (programFor J) τ (termsIn k₂ e₂ p₂ f₂)
@@ -416,7 +416,7 @@ module _ (J : List ℕ) (F G U : List ℕ) (p : ℕ) (rule : Bool) (r first seco
             lenW = lW ∙ t .lenW;
             grown = gr;
             sane = λ u _. sane-after u;
-            owes = λ _ _. subst⁻¹ (λ (ts : List Turn). Owes J F G U p k₀ e₀ p₀ f₀ W₀ k₂ e₂ p₂ f₂ memo₂ W₂ τ (rest ts 2)) (left-at task-turn) owed-after;
+            owes = λ _ _. subst⁻¹ (λ (ts : List Turn). Owes J strict F G U p k₀ e₀ p₀ f₀ W₀ k₂ e₂ p₂ f₂ memo₂ W₂ τ (rest ts 2)) (left-at task-turn) owed-after;
             due = λ u. absurd (omega arith);
             ends = λ u _. absurd (true≢false (sym is ∙ u));
             ended = λ u. let l = task-turn in absurd (omega arith);
@@ -439,17 +439,17 @@ module _ (J : List ℕ) (F G U : List ℕ) (p : ℕ) (rule : Bool) (r first seco
             ended = λ u. let l = task-turn in absurd (omega arith);
           }
             where
-              passed-on : Owes J F G U p k₀ e₀ p₀ f₀ W₀ k₂ e₂ p₂ f₂ memo₂ W₂ τ (rest (drop (i + 1) turns) 0)
+              passed-on : Owes J strict F G U p k₀ e₀ p₀ f₀ W₀ k₂ e₂ p₂ f₂ memo₂ W₂ τ (rest (drop (i + 1) turns) 0)
               passed-on =
                   let c = proof-turn rule is i in
-                  subst⁻¹ (λ (n : ℕ). Owes J F G U p k₀ e₀ p₀ f₀ W₀ k₂ e₂ p₂ f₂ memo₂ W₂ τ (rest (drop n turns) 0)) (add-one i)
-                  (owes-as J F G U p {rest = rest (ofProof (c .0) ∷ drop (suc i) turns) 2}
-                  (subst (λ (u : Turn). Owes J F G U p k₀ e₀ p₀ f₀ W₀ k₂ e₂ p₂ f₂ memo₂ W₂ τ (rest (u ∷ drop (suc i) turns) 2)) (c .1) owed-after) (λ room ps b u. refl))
+                  subst⁻¹ (λ (n : ℕ). Owes J strict F G U p k₀ e₀ p₀ f₀ W₀ k₂ e₂ p₂ f₂ memo₂ W₂ τ (rest (drop n turns) 0)) (add-one i)
+                  (owes-as J strict F G U p {rest = rest (ofProof (c .0) ∷ drop (suc i) turns) 2}
+                  (subst (λ (u : Turn). Owes J strict F G U p k₀ e₀ p₀ f₀ W₀ k₂ e₂ p₂ f₂ memo₂ W₂ τ (rest (u ∷ drop (suc i) turns) 2)) (c .1) owed-after) (λ room ps b u. refl))
 
 -- a plan that is refused
-pub plan-refused : (J : List ℕ) (F G U : List ℕ) (p : ℕ) {k e q : List ℕ} {f : Fill} {memo W : List ℕ} → Ground J F G k e q f memo W → {s : Plan} → Plans J p s → (s .refusal .number ≡ 0 → ⊥)
-    → Walks J F G U k e q f W k e q f (s .refusal) memo W (λ d. d) (stepOf J F G U p)
-plan-refused J F G U p {k} {e} {q} {f} g S n = walks-here g (λ ps done y. does-here (g .stored) (S .stops n (roomOf k q) G ps (sub J F G U p (roomOf k q) ps) done (termsIn k e q f)))
+pub plan-refused : (J : List ℕ) (strict : Bool) (F G U : List ℕ) (p : ℕ) {k e q : List ℕ} {f : Fill} {memo W : List ℕ} → Ground J F G k e q f memo W → {s : Plan} → Plans J p s → (s .refusal .number ≡ 0 → ⊥)
+    → Walks J F G U k e q f W k e q f (s .refusal) memo W (λ d. d) (stepOf J strict F G U p)
+plan-refused J strict F G U p {k} {e} {q} {f} g S n = walks-here g (λ ps done y. does-here (g .stored) (S .stops n (roomOf k q) strict G ps (sub J strict F G U p (roomOf k q) ps) done (termsIn k e q f)))
 
 -- what the step starts from
 pub start-sane : (J : List ℕ) (p : ℕ) {F G k e q : List ℕ} {f : Fill} {memo W : List ℕ} → Ground J F G k e q f memo W → p < sizesOf J .proofs → {rule : Bool} {r first second count : ℕ} → rule ≡ true → Planned J p rule r first second count

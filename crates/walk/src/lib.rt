@@ -67,6 +67,7 @@ fn state_at(rule: bool, count: usize, i: usize) -> usize
 // other, with a falling proof number; all else is done in `advance`, outside of their frames.
 fn justify(
     job: &[u32],
+    strict: bool,
     found: &[u32],
     globals: &[u32],
     unions: &[u32],
@@ -80,7 +81,7 @@ fn justify(
 ) -> Checked
     requires { ⌜ Ground (now job) (now found) (now globals) (now skinds) (now sends) (now spool) fill (now memo) (now scratch) ⌝ }
     requires { ⌜ p < sizesOf (now job) .proofs ⌝ }
-    ensures { λ r. ⌜ Walks (now (job .entry)) (now (found .entry)) (now (globals .entry)) (now (unions .entry)) (now (skinds .entry)) (now (sends .entry)) (now (spool .entry)) fill (now (scratch .entry)) (now (skinds .exit)) (now (sends .exit)) (now (spool .exit)) (r .fill) (r .refusal) (now (memo .exit)) (now (scratch .exit)) (λ d. d) (λ room ps done. checkJustification room (programFor (now (job .entry))) (proofsFor (now (job .entry))) (contextOf (now (globals .entry)) ps) (checkProofWithContext room (programFor (now (job .entry))) (proofsFor (now (job .entry))) (contextOf (now (globals .entry)) ps) p) p (claimAt (proofsFor (now (job .entry))) p) (getD (proofsFor (now (job .entry))) p noProof .justification) done) ⌝ }
+    ensures { λ r. ⌜ Walks (now (job .entry)) (now (found .entry)) (now (globals .entry)) (now (unions .entry)) (now (skinds .entry)) (now (sends .entry)) (now (spool .entry)) fill (now (scratch .entry)) (now (skinds .exit)) (now (sends .exit)) (now (spool .exit)) (r .fill) (r .refusal) (now (memo .exit)) (now (scratch .exit)) (λ d. d) (λ room ps done. checkJustification room (programFor (now (job .entry))) (proofsFor (now (job .entry))) (contextOf (now (globals .entry)) ps) (checkProofWithContext room (programFor (now (job .entry))) (proofsFor (now (job .entry))) (contextOf (now (globals .entry)) ps) strict p) strict p (claimAt (proofsFor (now (job .entry))) p) (getD (proofsFor (now (job .entry))) p noProof .justification) done) ⌝ }
 {
     let s = plan_step(job, p);
     if s.refusal.number != 0 {
@@ -102,6 +103,7 @@ fn justify(
             let next = reference(job, p, s.rule, s.r, s.first, s.second, count, i);
             let w = walk(
                 job,
+                strict,
                 found,
                 globals,
                 unions,
@@ -127,6 +129,7 @@ fn justify(
         }
         let c = advance(
             job,
+            strict,
             found,
             globals,
             unions,
@@ -170,6 +173,7 @@ fn justify(
 // `check_proof_with_context`: a proof that is checked already is not checked again.
 pub fn walk(
     job: &[u32],
+    strict: bool,
     found: &[u32],
     globals: &[u32],
     unions: &[u32],
@@ -183,7 +187,7 @@ pub fn walk(
 ) -> Checked
     requires { ⌜ Ground (now job) (now found) (now globals) (now skinds) (now sends) (now spool) fill (now memo) (now scratch) ⌝ }
     requires { ⌜ p < sizesOf (now job) .proofs ⌝ }
-    ensures { λ r. ⌜ Walks (now (job .entry)) (now (found .entry)) (now (globals .entry)) (now (unions .entry)) (now (skinds .entry)) (now (sends .entry)) (now (spool .entry)) fill (now (scratch .entry)) (now (skinds .exit)) (now (sends .exit)) (now (spool .exit)) (r .fill) (r .refusal) (now (memo .exit)) (now (scratch .exit)) (λ d. d) (λ room ps done. checkProofWithContext room (programFor (now (job .entry))) (proofsFor (now (job .entry))) (contextOf (now (globals .entry)) ps) (suc p) p done) ⌝ }
+    ensures { λ r. ⌜ Walks (now (job .entry)) (now (found .entry)) (now (globals .entry)) (now (unions .entry)) (now (skinds .entry)) (now (sends .entry)) (now (spool .entry)) fill (now (scratch .entry)) (now (skinds .exit)) (now (sends .exit)) (now (spool .exit)) (r .fill) (r .refusal) (now (memo .exit)) (now (scratch .exit)) (λ d. d) (λ room ps done. checkProofWithContext room (programFor (now (job .entry))) (proofsFor (now (job .entry))) (contextOf (now (globals .entry)) ps) strict (suc p) p done) ⌝ }
 {
     let cells = skinds.len();
     let at = cells + cells + wide(p);
@@ -192,6 +196,7 @@ pub fn walk(
     }
     let r = justify(
         job,
+        strict,
         found,
         globals,
         unions,

@@ -9,144 +9,105 @@ use Prim.Native.Nat.{ℕ}
 use borrow.Author.Needs.{needs}
 use Rattle.check_proof.proofs.check_proof.Statement.{statement}
 use Rattle.check_proof.proofs.check_proof.Tie as tie
-use Rattle.check_proof.proofs.check_proof.Reads as reads
-use Rattle.check_proof.proofs.check_proof.Lts as lts
-use Rattle.context.proofs.new_context.Reads as new-context-reads
-use Rattle.marks.proofs.clear.Reads as clear-reads
-use Rattle.normal_form.proofs.find_offences.Reads as find-offences-reads
-use Rattle.walk.proofs.walk.Reads as walk-reads
 
--- src/lib.rt:38:41
 slice-aggregate-find-offences : tie.Need-slice-aggregate-find-offences
 slice-aggregate-find-offences c = search needs
 
--- src/lib.rt:38:5
 find-offences-requires : tie.Need-find-offences-requires
 find-offences-requires c κs = search needs
 
--- src/lib.rt:40:13
 add-d : tie.Need-add-d
 add-d c = search needs
 
--- src/lib.rt:41:75
 slice-aggregate-new-context : tie.Need-slice-aggregate-new-context
 slice-aggregate-new-context c = search needs
 
--- src/lib.rt:41:86
 slice-relend-prefix-new-context : tie.Need-slice-relend-prefix-new-context
 slice-relend-prefix-new-context c = search needs
 
--- src/lib.rt:41:86
 slice-aggregate-new-context-2 : tie.Need-slice-aggregate-new-context-2
 slice-aggregate-new-context-2 c = let a = c .before .before .before .before .before .before .before .before .before .before .before .before .before .args in let pre = c .before .before .before .before .before .before .before .before .before .before .before .before .before .pre in let h = pre .0 .long in simp length-take (omega arith)
 
--- src/lib.rt:41:105
 slice-aggregate-new-context-3 : tie.Need-slice-aggregate-new-context-3
 slice-aggregate-new-context-3 c = search needs
 
--- src/lib.rt:41:117
 slice-aggregate-new-context-4 : tie.Need-slice-aggregate-new-context-4
 slice-aggregate-new-context-4 c = search needs
 
--- src/lib.rt:41:9
 new-context-requires : tie.Need-new-context-requires
 new-context-requires c κs = let a = c .before .before .before .before .before .before .before .before .before .before .before .before .before .before .before .args in let pre = c .before .before .before .before .before .before .before .before .before .before .before .before .before .before .before .pre in let G = pre .0 in let h = G .long in let x = G .ready .held .limits .expressions in (record { ready = G .ready; stored = G .stored; sane = G .sane; fits = omega (arith, length-replicate {A = ℕ} 8193 0); past = past-cleared 8193; cells = simp length-take (omega arith) }, (refl, refl))
 
--- src/lib.rt:45:9
 same-length : tie.Need-same-length
 same-length c = search needs
 
--- src/lib.rt:45:9
 same-length-2 : tie.Need-same-length-2
 same-length-2 c = search needs
 
--- src/lib.rt:45:9
 same-length-3 : tie.Need-same-length-3
 same-length-3 c = search needs
 
--- src/lib.rt:45:9
 same-length-4 : tie.Need-same-length-4
 same-length-4 c = search needs
 
--- src/lib.rt:45:9
 returns : tie.Need-returns
-returns c = let a = c .before .before .before .before .before .before .before .before .before .before .before .before .before .before .before .before .before .before .before .before .before .before .before .before .before .before .before .before .before .before .before .args in let pre = c .before .before .before .before .before .before .before .before .before .before .before .before .before .before .before .before .before .before .before .before .before .before .before .before .before .before .before .before .before .before .before .pre in check-stops (pre .0) (a .asked) (pre .1) (c .before .before .before .before .before .before .before .before .before .before .before .before .before .before .before .new-context .ensures) (c .before .if1 .taken)
+returns c = let a = c .before .before .before .before .before .before .before .before .before .before .before .before .before .before .before .before .before .before .before .before .before .before .before .before .before .before .before .before .before .before .before .args in let pre = c .before .before .before .before .before .before .before .before .before .before .before .before .before .before .before .before .before .before .before .before .before .before .before .before .before .before .before .before .before .before .before .pre in check-stops (pre .0) (a .strict) (a .asked) (pre .1) (c .before .before .before .before .before .before .before .before .before .before .before .before .before .before .before .new-context .ensures) (c .before .if1 .taken)
 
--- src/lib.rt:47:18
 mul-clear : tie.Need-mul-clear
 mul-clear c = search needs
 
--- src/lib.rt:47:18
 sub-clear : tie.Need-sub-clear
 sub-clear c = let a = c .before .before .before .before .before .before .before .before .before .before .before .before .before .before .before .before .before .before .before .before .before .before .before .before .before .before .before .before .before .before .args in let pre = c .before .before .before .before .before .before .before .before .before .before .before .before .before .before .before .before .before .before .before .before .before .before .before .before .before .before .before .before .before .before .pre in let h = pre .0 .long in let l = c .before .before .before .before .before .before .before .before .before .before .before .before .before .before .new-context .kept .1 .1 .1 .1 .1 .1 .0 in let q = length-take (length (a .skinds .now)) (a .scratch .now) in let lt : length (take (length (a .skinds .now)) (a .scratch .now)) ≡ length (a .skinds .now) = length-take-le (length (a .skinds .now)) (a .scratch .now) (omega arith) in simp (length-append, length-drop) (omega arith)
 
--- src/lib.rt:47:18
 part-clear-start : tie.Need-part-clear-start
 part-clear-start c = let a = c .before .before .before .before .before .before .before .before .before .before .before .before .before .before .before .before .before .before .before .before .before .before .before .before .before .before .before .before .before .before .args in let pre = c .before .before .before .before .before .before .before .before .before .before .before .before .before .before .before .before .before .before .before .before .before .before .before .before .before .before .before .before .before .before .pre in let h = pre .0 .long in let l = c .before .before .before .before .before .before .before .before .before .before .before .before .before .before .new-context .kept .1 .1 .1 .1 .1 .1 .0 in let q = length-take (length (a .skinds .now)) (a .scratch .now) in let lt : length (take (length (a .skinds .now)) (a .scratch .now)) ≡ length (a .skinds .now) = length-take-le (length (a .skinds .now)) (a .scratch .now) (omega arith) in simp (length-append, length-drop) (omega arith)
 
--- src/lib.rt:47:18
 part-clear-end : tie.Need-part-clear-end
 part-clear-end c = search needs
 
--- src/lib.rt:47:5
 clear-requires : tie.Need-clear-requires
 clear-requires c κs = search needs
 
--- src/lib.rt:50:32
 slice-aggregate-walk : tie.Need-slice-aggregate-walk
 slice-aggregate-walk c = sym (c .before .before .before .before .before .before .before .before .before .before .before .before .before .before .before .before .before .before .before .before .before .before .before .before .before .before .before .before .find-offences .kept .1 .0)
 
--- src/lib.rt:50:40
 mul-walk : tie.Need-mul-walk
 mul-walk c = search needs
 
--- src/lib.rt:50:40
 sub-walk : tie.Need-sub-walk
 sub-walk c = search needs
 
--- src/lib.rt:50:40
 part-walk-start : tie.Need-part-walk-start
 part-walk-start c = search needs
 
--- src/lib.rt:50:40
 part-walk-end : tie.Need-part-walk-end
 part-walk-end c = search needs
 
--- src/lib.rt:50:53
 array-share-prefix-unions : tie.Need-array-share-prefix-unions
 array-share-prefix-unions c = search needs
 
--- src/lib.rt:50:53
 slice-aggregate-walk-2 : tie.Need-slice-aggregate-walk-2
 slice-aggregate-walk-2 c = let u = c .before .before .before .before .before .before .before .before .before .before .before .before .before .before .before .before .before .before .before .before .before .before .new-context .ensures .unions in let l = c .before .before .before .before .before .before .before .before .before .before .before .before .before .before .before .before .before .before .before .before .before .before .new-context .kept .1 .1 .1 .1 .1 .1 .1 .1 .0 in simp length-take (omega arith)
 
--- src/lib.rt:50:95
 slice-aggregate-walk-3 : tie.Need-slice-aggregate-walk-3
 slice-aggregate-walk-3 c = search needs
 
--- src/lib.rt:50:5
 walk-requires : tie.Need-walk-requires
-walk-requires c κs = let a = c .before .before .before .before .before .before .before .before .before .before .before .before .before .before .before .before .before .before .before .before .before .before .before .before .before .before .before .before .before .before .before .before .before .before .before .before .before .before .before .before .before .before .before .args in let pre = c .before .before .before .before .before .before .before .before .before .before .before .before .before .before .before .before .before .before .before .before .before .before .before .before .before .before .before .before .before .before .before .before .before .before .before .before .before .before .before .before .before .before .before .pre in let h = pre .0 .long in let l = c .before .before .before .before .before .before .before .before .before .before .before .before .before .before .before .before .before .before .before .before .before .before .before .before .before .before .before .new-context .kept .1 .1 .1 .1 .1 .1 .0 in let q = length-take (length (a .skinds .now)) (a .scratch .now) in let lt : length (take (length (a .skinds .now)) (a .scratch .now)) ≡ length (a .skinds .now) = length-take-le (length (a .skinds .now)) (a .scratch .now) (omega arith) in let C = c .before .before .before .before .before .before .before .before .before .before .before .before .before .before .before .before .before .before .before .before .before .before .before .before .before .before .before .new-context .ensures in let x = pre .0 .ready .held .limits .expressions in let b : length (c .before .before .before .before .before .before .before .before .before .before .before .before .before .before .before .before .before .before .before .before .before .before .before .before .before .before .before .new-context .last .1 .1 .1 .1 .1 .1 .0 ++ drop (length (a .skinds .now)) (a .scratch .now)) ≡ length (a .scratch .now) = simp (length-append, length-drop) (omega arith) in let lm = c .before .before .before .before .before .before .before .before .before .before .before .before .before .before .before .before .before .before .before .before .before .before .before .before .before .before .before .new-context .kept .1 .1 .1 .1 .1 .0 in (check-ground (pre .0) (a .asked) (pre .1) C (c .before .before .before .before .before .before .before .before .before .before .before .before .before .if1 .left) (part-is (c .before .before .before .before .before .before .before .before .before .before .before .before .before .before .before .before .before .before .before .before .before .before .before .before .before .before .before .new-context .last .1 .1 .1 .1 .1 .1 .1 .0) (c .before .before .before .before .before .before .before .before .before .before .before .before .before .before .before .before .before .before .before .before .before .before .before .before .before .before .before .new-context .result .bindings) (c .before .before .before .before .before .before .before .before .before .before .before .before .before .before .before .before .before .before .before .before .before .before .before .before .before .before .before .new-context .kept .1 .1 .1 .1 .1 .1 .1 .0)) (c .before .before .before .before .before .before .before .before .before .before .before .before .before .before .before .before .before .before .before .before .before .before .before .before .before .before .before .before .before .before .before .before .before .before .before .before .find-offences .ensures) refl (omega (arith, length-replicate {A = ℕ} 8193 0)) (start-long (a .scratch .now) (c .before .before .before .before .before .before .before .before .before .before .before .before .before .before .before .before .before .before .before .before .before .before .before .before .before .before .before .new-context .last .1 .1 .1 .1 .1 .1 .0) (c .before .before .before .before .before .before .before .before .before .before .before .clear .last .0) (length (a .skinds .now)) (length (a .skinds .now)) (l ∙ lt) (omega arith) refl (omega arith) (c .before .before .before .before .before .before .before .before .before .before .before .clear .kept .0)), pre .1)
+walk-requires c κs = let a = c .before .before .before .before .before .before .before .before .before .before .before .before .before .before .before .before .before .before .before .before .before .before .before .before .before .before .before .before .before .before .before .before .before .before .before .before .before .before .before .before .before .before .before .args in let pre = c .before .before .before .before .before .before .before .before .before .before .before .before .before .before .before .before .before .before .before .before .before .before .before .before .before .before .before .before .before .before .before .before .before .before .before .before .before .before .before .before .before .before .before .pre in let h = pre .0 .long in let l = c .before .before .before .before .before .before .before .before .before .before .before .before .before .before .before .before .before .before .before .before .before .before .before .before .before .before .before .new-context .kept .1 .1 .1 .1 .1 .1 .0 in let q = length-take (length (a .skinds .now)) (a .scratch .now) in let lt : length (take (length (a .skinds .now)) (a .scratch .now)) ≡ length (a .skinds .now) = length-take-le (length (a .skinds .now)) (a .scratch .now) (omega arith) in let C = c .before .before .before .before .before .before .before .before .before .before .before .before .before .before .before .before .before .before .before .before .before .before .before .before .before .before .before .new-context .ensures in let x = pre .0 .ready .held .limits .expressions in let b : length (c .before .before .before .before .before .before .before .before .before .before .before .before .before .before .before .before .before .before .before .before .before .before .before .before .before .before .before .new-context .last .1 .1 .1 .1 .1 .1 .0 ++ drop (length (a .skinds .now)) (a .scratch .now)) ≡ length (a .scratch .now) = simp (length-append, length-drop) (omega arith) in let lm = c .before .before .before .before .before .before .before .before .before .before .before .before .before .before .before .before .before .before .before .before .before .before .before .before .before .before .before .new-context .kept .1 .1 .1 .1 .1 .0 in (check-ground (pre .0) (a .strict) (a .asked) (pre .1) C (c .before .before .before .before .before .before .before .before .before .before .before .before .before .if1 .left) (part-is (c .before .before .before .before .before .before .before .before .before .before .before .before .before .before .before .before .before .before .before .before .before .before .before .before .before .before .before .new-context .last .1 .1 .1 .1 .1 .1 .1 .0) (c .before .before .before .before .before .before .before .before .before .before .before .before .before .before .before .before .before .before .before .before .before .before .before .before .before .before .before .new-context .result .bindings) (c .before .before .before .before .before .before .before .before .before .before .before .before .before .before .before .before .before .before .before .before .before .before .before .before .before .before .before .new-context .kept .1 .1 .1 .1 .1 .1 .1 .0)) (c .before .before .before .before .before .before .before .before .before .before .before .before .before .before .before .before .before .before .before .before .before .before .before .before .before .before .before .before .before .before .before .before .before .before .before .before .find-offences .ensures) refl (omega (arith, length-replicate {A = ℕ} 8193 0)) (start-long (a .scratch .now) (c .before .before .before .before .before .before .before .before .before .before .before .before .before .before .before .before .before .before .before .before .before .before .before .before .before .before .before .new-context .last .1 .1 .1 .1 .1 .1 .0) (c .before .before .before .before .before .before .before .before .before .before .before .clear .last .0) (length (a .skinds .now)) (length (a .skinds .now)) (l ∙ lt) (omega arith) refl (omega arith) (c .before .before .before .before .before .before .before .before .before .before .before .clear .kept .0)), pre .1)
 
--- src/lib.rt:18:1
 same-length-5 : tie.Need-same-length-5
 same-length-5 c = c .before .before .before .before .before .before .before .before .before .walk .ensures .grown .lenK ∙ c .before .before .before .before .before .before .before .before .before .before .before .before .before .before .before .before .before .before .before .before .before .before .before .before .before .before .before .before .before .before .before .before .before .before .before .before .before .new-context .ensures .does .grown .lenK
 
--- src/lib.rt:18:1
 same-length-6 : tie.Need-same-length-6
 same-length-6 c = c .before .before .before .before .before .before .before .before .before .walk .ensures .grown .lenE ∙ c .before .before .before .before .before .before .before .before .before .before .before .before .before .before .before .before .before .before .before .before .before .before .before .before .before .before .before .before .before .before .before .before .before .before .before .before .before .new-context .ensures .does .grown .lenE
 
--- src/lib.rt:18:1
 same-length-7 : tie.Need-same-length-7
 same-length-7 c = c .before .before .before .before .before .before .before .before .before .walk .ensures .grown .lenP ∙ c .before .before .before .before .before .before .before .before .before .before .before .before .before .before .before .before .before .before .before .before .before .before .before .before .before .before .before .before .before .before .before .before .before .before .before .before .before .new-context .ensures .does .grown .lenP
 
--- src/lib.rt:18:1
 same-length-8 : tie.Need-same-length-8
-same-length-8 c = let a = c .before .before .before .before .before .before .before .before .before .before .before .before .before .before .before .before .before .before .before .before .before .before .before .before .before .before .before .before .before .before .before .before .before .before .before .before .before .before .before .before .before .before .before .before .before .before .before .before .before .before .before .before .before .args in let pre = c .before .before .before .before .before .before .before .before .before .before .before .before .before .before .before .before .before .before .before .before .before .before .before .before .before .before .before .before .before .before .before .before .before .before .before .before .before .before .before .before .before .before .before .before .before .before .before .before .before .before .before .before .before .pre in let h = pre .0 .long in let l = c .before .before .before .before .before .before .before .before .before .before .before .before .before .before .before .before .before .before .before .before .before .before .before .before .before .before .before .before .before .before .before .before .before .before .before .before .before .new-context .kept .1 .1 .1 .1 .1 .1 .0 in let q = length-take (length (a .skinds .now)) (a .scratch .now) in let lt : length (take (length (a .skinds .now)) (a .scratch .now)) ≡ length (a .skinds .now) = length-take-le (length (a .skinds .now)) (a .scratch .now) (omega arith) in let b : length (c .before .before .before .before .before .before .before .before .before .before .before .before .before .before .before .before .before .before .before .before .before .before .before .before .before .before .before .before .before .before .before .before .before .before .before .before .before .new-context .last .1 .1 .1 .1 .1 .1 .0 ++ drop (length (a .skinds .now)) (a .scratch .now)) ≡ length (a .scratch .now) = simp (length-append, length-drop) (omega arith) in c .before .before .before .before .before .before .before .before .before .walk .kept .1 .1 .1 .1 .1 .1 .1 .1 .1 .0 ∙ start-long (a .scratch .now) (c .before .before .before .before .before .before .before .before .before .before .before .before .before .before .before .before .before .before .before .before .before .before .before .before .before .before .before .before .before .before .before .before .before .before .before .before .before .new-context .last .1 .1 .1 .1 .1 .1 .0) (c .before .before .before .before .before .before .before .before .before .before .before .before .before .before .before .before .before .before .before .before .before .clear .last .0) (length (a .skinds .now)) (length (a .skinds .now)) (l ∙ lt) (omega arith) refl (omega arith) (c .before .before .before .before .before .before .before .before .before .before .before .before .before .before .before .before .before .before .before .before .before .clear .kept .0)
+same-length-8 c = let a = c .before .before .before .before .before .before .before .before .before .before .before .before .before .before .before .before .before .before .before .before .before .before .before .before .before .before .before .before .before .before .before .before .before .before .before .before .before .before .before .before .before .before .before .before .before .before .before .before .before .before .before .before .before .args in let pre = c .before .before .before .before .before .before .before .before .before .before .before .before .before .before .before .before .before .before .before .before .before .before .before .before .before .before .before .before .before .before .before .before .before .before .before .before .before .before .before .before .before .before .before .before .before .before .before .before .before .before .before .before .before .pre in let h = pre .0 .long in let l = c .before .before .before .before .before .before .before .before .before .before .before .before .before .before .before .before .before .before .before .before .before .before .before .before .before .before .before .before .before .before .before .before .before .before .before .before .before .new-context .kept .1 .1 .1 .1 .1 .1 .0 in let q = length-take (length (a .skinds .now)) (a .scratch .now) in let lt : length (take (length (a .skinds .now)) (a .scratch .now)) ≡ length (a .skinds .now) = length-take-le (length (a .skinds .now)) (a .scratch .now) (omega arith) in let b : length (c .before .before .before .before .before .before .before .before .before .before .before .before .before .before .before .before .before .before .before .before .before .before .before .before .before .before .before .before .before .before .before .before .before .before .before .before .before .new-context .last .1 .1 .1 .1 .1 .1 .0 ++ drop (length (a .skinds .now)) (a .scratch .now)) ≡ length (a .scratch .now) = simp (length-append, length-drop) (omega arith) in c .before .before .before .before .before .before .before .before .before .walk .kept .1 .1 .1 .1 .1 .1 .1 .1 .1 .1 .0 ∙ start-long (a .scratch .now) (c .before .before .before .before .before .before .before .before .before .before .before .before .before .before .before .before .before .before .before .before .before .before .before .before .before .before .before .before .before .before .before .before .before .before .before .before .before .new-context .last .1 .1 .1 .1 .1 .1 .0) (c .before .before .before .before .before .before .before .before .before .before .before .before .before .before .before .before .before .before .before .before .before .clear .last .0) (length (a .skinds .now)) (length (a .skinds .now)) (l ∙ lt) (omega arith) refl (omega arith) (c .before .before .before .before .before .before .before .before .before .before .before .before .before .before .before .before .before .before .before .before .before .clear .kept .0)
 
--- src/lib.rt:18:1
 returns-2 : tie.Need-returns-2
-returns-2 c = let a = c .before .before .before .before .before .before .before .before .before .before .before .before .before .before .before .before .before .before .before .before .before .before .before .before .before .before .before .before .before .before .before .before .before .before .before .before .before .before .before .before .before .before .before .before .before .before .before .before .before .before .before .before .before .args in let pre = c .before .before .before .before .before .before .before .before .before .before .before .before .before .before .before .before .before .before .before .before .before .before .before .before .before .before .before .before .before .before .before .before .before .before .before .before .before .before .before .before .before .before .before .before .before .before .before .before .before .before .before .before .before .pre in let h = pre .0 .long in let l = c .before .before .before .before .before .before .before .before .before .before .before .before .before .before .before .before .before .before .before .before .before .before .before .before .before .before .before .before .before .before .before .before .before .before .before .before .before .new-context .kept .1 .1 .1 .1 .1 .1 .0 in let q = length-take (length (a .skinds .now)) (a .scratch .now) in let lt : length (take (length (a .skinds .now)) (a .scratch .now)) ≡ length (a .skinds .now) = length-take-le (length (a .skinds .now)) (a .scratch .now) (omega arith) in let C = c .before .before .before .before .before .before .before .before .before .before .before .before .before .before .before .before .before .before .before .before .before .before .before .before .before .before .before .before .before .before .before .before .before .before .before .before .before .new-context .ensures in let b : length (c .before .before .before .before .before .before .before .before .before .before .before .before .before .before .before .before .before .before .before .before .before .before .before .before .before .before .before .before .before .before .before .before .before .before .before .before .before .new-context .last .1 .1 .1 .1 .1 .1 .0 ++ drop (length (a .skinds .now)) (a .scratch .now)) ≡ length (a .scratch .now) = simp (length-append, length-drop) (omega arith) in check-walks (pre .0) (a .asked) (pre .1) C (c .before .before .before .before .before .before .before .before .before .before .before .before .before .before .before .before .before .before .before .before .before .before .before .if1 .left) (part-is (c .before .before .before .before .before .before .before .before .before .before .before .before .before .before .before .before .before .before .before .before .before .before .before .before .before .before .before .before .before .before .before .before .before .before .before .before .before .new-context .last .1 .1 .1 .1 .1 .1 .1 .0) (c .before .before .before .before .before .before .before .before .before .before .before .before .before .before .before .before .before .before .before .before .before .before .before .before .before .before .before .before .before .before .before .before .before .before .before .before .before .new-context .result .bindings) (c .before .before .before .before .before .before .before .before .before .before .before .before .before .before .before .before .before .before .before .before .before .before .before .before .before .before .before .before .before .before .before .before .before .before .before .before .before .new-context .kept .1 .1 .1 .1 .1 .1 .1 .0)) (start-marks (a .scratch .now) (c .before .before .before .before .before .before .before .before .before .before .before .before .before .before .before .before .before .before .before .before .before .before .before .before .before .before .before .before .before .before .before .before .before .before .before .before .before .new-context .last .1 .1 .1 .1 .1 .1 .0) (c .before .before .before .before .before .before .before .before .before .before .before .before .before .before .before .before .before .before .before .before .before .clear .last .0) (length (a .skinds .now)) _ (l ∙ lt) (omega arith) (C .does .grown .lenK)) (start-flags (a .scratch .now) (c .before .before .before .before .before .before .before .before .before .before .before .before .before .before .before .before .before .before .before .before .before .before .before .before .before .before .before .before .before .before .before .before .before .before .before .before .before .new-context .last .1 .1 .1 .1 .1 .1 .0) (c .before .before .before .before .before .before .before .before .before .before .before .before .before .before .before .before .before .before .before .before .before .clear .last .0) (length (a .skinds .now)) _ (l ∙ lt) (omega arith) (C .does .grown .lenK) _ (c .before .before .before .before .before .before .before .before .before .before .before .before .before .before .before .before .before .before .before .before .before .clear .ensures)) (c .before .before .before .before .before .before .before .before .before .walk .ensures)
+returns-2 c = let a = c .before .before .before .before .before .before .before .before .before .before .before .before .before .before .before .before .before .before .before .before .before .before .before .before .before .before .before .before .before .before .before .before .before .before .before .before .before .before .before .before .before .before .before .before .before .before .before .before .before .before .before .before .before .args in let pre = c .before .before .before .before .before .before .before .before .before .before .before .before .before .before .before .before .before .before .before .before .before .before .before .before .before .before .before .before .before .before .before .before .before .before .before .before .before .before .before .before .before .before .before .before .before .before .before .before .before .before .before .before .before .pre in let h = pre .0 .long in let l = c .before .before .before .before .before .before .before .before .before .before .before .before .before .before .before .before .before .before .before .before .before .before .before .before .before .before .before .before .before .before .before .before .before .before .before .before .before .new-context .kept .1 .1 .1 .1 .1 .1 .0 in let q = length-take (length (a .skinds .now)) (a .scratch .now) in let lt : length (take (length (a .skinds .now)) (a .scratch .now)) ≡ length (a .skinds .now) = length-take-le (length (a .skinds .now)) (a .scratch .now) (omega arith) in let C = c .before .before .before .before .before .before .before .before .before .before .before .before .before .before .before .before .before .before .before .before .before .before .before .before .before .before .before .before .before .before .before .before .before .before .before .before .before .new-context .ensures in let b : length (c .before .before .before .before .before .before .before .before .before .before .before .before .before .before .before .before .before .before .before .before .before .before .before .before .before .before .before .before .before .before .before .before .before .before .before .before .before .new-context .last .1 .1 .1 .1 .1 .1 .0 ++ drop (length (a .skinds .now)) (a .scratch .now)) ≡ length (a .scratch .now) = simp (length-append, length-drop) (omega arith) in check-walks (pre .0) (a .strict) (a .asked) (pre .1) C (c .before .before .before .before .before .before .before .before .before .before .before .before .before .before .before .before .before .before .before .before .before .before .before .if1 .left) (part-is (c .before .before .before .before .before .before .before .before .before .before .before .before .before .before .before .before .before .before .before .before .before .before .before .before .before .before .before .before .before .before .before .before .before .before .before .before .before .new-context .last .1 .1 .1 .1 .1 .1 .1 .0) (c .before .before .before .before .before .before .before .before .before .before .before .before .before .before .before .before .before .before .before .before .before .before .before .before .before .before .before .before .before .before .before .before .before .before .before .before .before .new-context .result .bindings) (c .before .before .before .before .before .before .before .before .before .before .before .before .before .before .before .before .before .before .before .before .before .before .before .before .before .before .before .before .before .before .before .before .before .before .before .before .before .new-context .kept .1 .1 .1 .1 .1 .1 .1 .0)) (start-marks (a .scratch .now) (c .before .before .before .before .before .before .before .before .before .before .before .before .before .before .before .before .before .before .before .before .before .before .before .before .before .before .before .before .before .before .before .before .before .before .before .before .before .new-context .last .1 .1 .1 .1 .1 .1 .0) (c .before .before .before .before .before .before .before .before .before .before .before .before .before .before .before .before .before .before .before .before .before .clear .last .0) (length (a .skinds .now)) _ (l ∙ lt) (omega arith) (C .does .grown .lenK)) (start-flags (a .scratch .now) (c .before .before .before .before .before .before .before .before .before .before .before .before .before .before .before .before .before .before .before .before .before .before .before .before .before .before .before .before .before .before .before .before .before .before .before .before .before .new-context .last .1 .1 .1 .1 .1 .1 .0) (c .before .before .before .before .before .before .before .before .before .before .before .before .before .before .before .before .before .before .before .before .before .clear .last .0) (length (a .skinds .now)) _ (l ∙ lt) (omega arith) (C .does .grown .lenK) _ (c .before .before .before .before .before .before .before .before .before .before .before .before .before .before .before .before .before .before .before .before .before .clear .ensures)) (c .before .before .before .before .before .before .before .before .before .walk .ensures)
 
 pub check-proof-spec : {M : Type 1} → statement M
 check-proof-spec =

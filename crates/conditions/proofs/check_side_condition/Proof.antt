@@ -1,7 +1,6 @@
 use Rattle.evaluate.specs.Value.{bindingsIn}
-use Rattle.program.specs.Read.{exprFor}
 use Rattle.program.specs.Ready.{programFor}
-use Rattle.conditions.proofs.Sides.{condition-as, condition-bare}
+use Rattle.conditions.proofs.Sides.{condition-as}
 use Rattle.normal_form.proofs.Laws.{fact-by}
 use borrow.Author.Needs.{needs}
 use Rattle.conditions.proofs.check_side_condition.Statement.{statement}
@@ -19,8 +18,11 @@ enum-known-fact c = search needs
 check-equality-condition-requires : tie.Need-check-equality-condition-requires
 check-equality-condition-requires c κs = let p = c .before .before .before .before .before .before .before .before .before .before .before .before .before .before .before .before .before .pre in let b = c .before .before .before .before .before .before .before .fact-at .ensures .equal (c .before .before .before .before .before .fact .given .0 .0) (c .before .before .before .before .before .fact .given .0 .1 .0) (c .before .before .before .before .before .fact .given .1) in (p .0, (p .1 .0, (p .1 .1 .0, (p .1 .1 .1 .0, (b .0, b .1)))))
 
-enum-told : tie.Need-enum-told
-enum-told c = search needs
+enum-known-fact-2 : tie.Need-enum-known-fact-2
+enum-known-fact-2 c = search needs
+
+check-bare-condition-requires : tie.Need-check-bare-condition-requires
+check-bare-condition-requires c κs = let p = c .before .before .before .before .before .before .before .before .before .before .before .before .before .before .before .before .before .pre in (p .0, (p .1 .0, (p .1 .1 .0, (p .1 .1 .1 .0, c .before .before .before .before .before .before .before .fact-at .ensures .bare (c .before .before .before .before .before .fact2 .given .0 .0) (c .before .before .before .before .before .fact2 .given .1)))))
 
 same-length : tie.Need-same-length
 same-length c = search needs
@@ -35,10 +37,22 @@ same-length-4 : tie.Need-same-length-4
 same-length-4 c = search needs
 
 returns : tie.Need-returns
-returns c = let a = c .before .before .before .before .before .before .before .before .before .before .before .before .before .before .before .before .before .before .before .before .before .before .before .before .before .before .args in let pre = c .before .before .before .before .before .before .before .before .before .before .before .before .before .before .before .before .before .before .before .before .before .before .before .before .before .before .pre in let prog = programFor (a .job .now) in let σ = bindingsIn (a .bound .now) (a .pairs .now) (a .globals .now) in let expr = exprFor (a .job .now) in condition-as prog (a .rule) σ (fact-by (c .before .before .before .before .before .before .before .before .before .before .before .before .before .before .before .before .fact-at .ensures) (c .before .before .before .before .before .before .before .before .before .before .before .before .before .before .before .before .before .wide .ensures) (c .before .before .before .before .before .before .before .before .before .before .before .before .before .before .fact .given .1)) (c .before .before .before .before .before .before .before .before .check-equality-condition .ensures)
+returns c = let a = c .before .before .before .before .before .before .before .before .before .before .before .before .before .before .before .before .before .before .before .before .before .before .before .before .before .before .args in condition-as (programFor (a .job .now)) (a .rule) (bindingsIn (a .bound .now) (a .pairs .now) (a .globals .now)) (a .strict) (fact-by (c .before .before .before .before .before .before .before .before .before .before .before .before .before .before .before .before .fact-at .ensures) (c .before .before .before .before .before .before .before .before .before .before .before .before .before .before .before .before .before .wide .ensures) (c .before .before .before .before .before .before .before .before .before .before .before .before .before .before .fact .given .1)) (c .before .before .before .before .before .before .before .before .check-equality-condition .ensures (a .strict))
+
+same-length-5 : tie.Need-same-length-5
+same-length-5 c = search needs
+
+same-length-6 : tie.Need-same-length-6
+same-length-6 c = search needs
+
+same-length-7 : tie.Need-same-length-7
+same-length-7 c = search needs
+
+same-length-8 : tie.Need-same-length-8
+same-length-8 c = search needs
 
 returns-2 : tie.Need-returns-2
-returns-2 c = let a = c .before .before .before .before .before .before .before .before .before .before .before .before .args in let pre = c .before .before .before .before .before .before .before .before .before .before .before .before .pre in let prog = programFor (a .job .now) in let σ = bindingsIn (a .bound .now) (a .pairs .now) (a .globals .now) in let expr = exprFor (a .job .now) in condition-as prog (a .rule) σ (fact-by (c .before .before .fact-at .ensures) (c .before .before .before .wide .ensures) (c .enum-told .given .1)) (condition-bare prog (a .rule) σ (a .i) _ (pre .1 .0) (pre .1 .1 .1 .0))
+returns-2 c = let a = c .before .before .before .before .before .before .before .before .before .before .before .before .before .before .before .before .before .before .before .before .before .before .before .before .before .before .args in condition-as (programFor (a .job .now)) (a .rule) (bindingsIn (a .bound .now) (a .pairs .now) (a .globals .now)) (a .strict) (fact-by (c .before .before .before .before .before .before .before .before .before .before .before .before .before .before .before .before .fact-at .ensures) (c .before .before .before .before .before .before .before .before .before .before .before .before .before .before .before .before .before .wide .ensures) (c .before .before .before .before .before .before .before .before .before .before .before .before .before .before .fact2 .given .1)) (c .before .before .before .before .before .before .before .before .check-bare-condition .ensures)
 
 pub check-side-condition-spec : {M : Type 1} → statement M
 check-side-condition-spec =
@@ -48,10 +62,15 @@ check-side-condition-spec =
     fact-at-requires
     enum-known-fact
     check-equality-condition-requires
-    enum-told
+    enum-known-fact-2
+    check-bare-condition-requires
     same-length
     same-length-2
     same-length-3
     same-length-4
     returns
+    same-length-5
+    same-length-6
+    same-length-7
+    same-length-8
     returns-2)

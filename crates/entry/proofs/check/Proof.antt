@@ -9,7 +9,7 @@ use Rattle.entry.proofs.check.Statement.{statement}
 use Rattle.entry.proofs.check.Tie as tie
 
 returns : tie.Need-returns
-returns c = let a = c .before .before .before .before .before .before .before .args in entry-unwritten (a .job .now) (a .asked) (arraysOf (a .kinds .now) (a .ends .now) (a .pool .now)) (length (a .scratch .now)) (a .answer .now) (c .if1 .taken)
+returns c = let a = c .before .before .before .before .before .before .before .args in entry-unwritten (a .job .now) (a .asked) (a .mode) (arraysOf (a .kinds .now) (a .ends .now) (a .pool .now)) (length (a .scratch .now)) (a .answer .now) (c .if1 .taken)
 
 prepare-requires : tie.Need-prepare-requires
 prepare-requires c κs = search needs

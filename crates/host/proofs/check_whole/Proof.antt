@@ -24,7 +24,7 @@ same-length : tie.Need-same-length
 same-length c = search needs
 
 returns : tie.Need-returns
-returns c = let a = c .before .before .before .before .before .before .before .before .before .before .args in own-words _ (a .job .now) (a .asked) (c .before .before .before .before .before .before .words-of-bytes .ensures .0) (c .before .before .before .before .before .before .words-of-bytes .ensures .1 .1) (c .before .before .check-words .ensures)
+returns c = let a = c .before .before .before .before .before .before .before .before .before .before .args in own-words _ (a .job .now) (a .asked) (a .mode) (c .before .before .before .before .before .before .words-of-bytes .ensures .0) (c .before .before .before .before .before .before .words-of-bytes .ensures .1 .1) (c .before .before .check-words .ensures)
 
 pub check-whole-spec : {M : Type 1} → statement M
 check-whole-spec =

@@ -12,7 +12,7 @@ enum-told c = search needs
 
 start-requires : tie.Need-start-requires
 start-requires c κs = let a = c .before .before .before .before .before .before .before .before .before .before .args in
-    record { asked = a .asked; scratch = a .scratch; passes = loads-none (a .job .now) (a .asked) (a .kinds .now) (a .ends .now) (a .pool .now) (a .scratch) (c .before .before .before .before .before .load .ensures) (c .before .before .before .enum-told .given .1) }
+    record { asked = a .asked; mode = a .mode; scratch = a .scratch; passes = loads-none (a .job .now) (a .asked) (a .mode) (a .kinds .now) (a .ends .now) (a .pool .now) (a .scratch) (c .before .before .before .before .before .load .ensures) (c .before .before .before .enum-told .given .1) }
 
 enum-known-loaded : tie.Need-enum-known-loaded
 enum-known-loaded c = search needs
@@ -25,7 +25,7 @@ enum-known-loaded-2 c = search needs
 
 cast-refused : tie.Need-cast-refused
 cast-refused c = let a = c .before .before .before .before .before .before .before .before .args in
-    let h = cell-word (a .job .now) (a .asked) (a .kinds .now) (a .ends .now) (a .pool .now) (a .scratch) (c .before .before .before .load .ensures) _ (c .before .loaded2 .given .0 .1 .0) (c .before .loaded2 .given .1) in omega (arith, h)
+    let h = cell-word (a .job .now) (a .asked) (a .mode) (a .kinds .now) (a .ends .now) (a .pool .now) (a .scratch) (c .before .before .before .load .ensures) _ (c .before .loaded2 .given .0 .1 .0) (c .before .loaded2 .given .1) in omega (arith, h)
 
 refused-requires-2 : tie.Need-refused-requires-2
 refused-requires-2 c κs = search needs
@@ -41,15 +41,15 @@ same-length-3 c = search needs
 
 returns : tie.Need-returns
 returns c = let a = c .before .before .before .before .before .before .before .before .before .before .before .before .before .before .before .before .before .args in
-    admits (a .job .now) (a .asked) (a .kinds .now) (a .ends .now) (a .pool .now) (a .scratch) (c .before .before .before .before .before .before .before .before .before .before .before .before .load .ensures) (c .before .before .before .before .before .before .start .result) (c .before .before .before .before .before .before .before .before .before .before .enum-told .given .1) (c .before .before .before .before .before .before .start .ensures .0) (c .before .before .before .before .before .before .start .ensures .1)
+    admits (a .job .now) (a .asked) (a .mode) (a .kinds .now) (a .ends .now) (a .pool .now) (a .scratch) (c .before .before .before .before .before .before .before .before .before .before .before .before .load .ensures) (c .before .before .before .before .before .before .start .result) (c .before .before .before .before .before .before .before .before .before .before .enum-told .given .1) (c .before .before .before .before .before .before .start .ensures .0) (c .before .before .before .before .before .before .start .ensures .1)
 
 returns-2 : tie.Need-returns-2
 returns-2 c = let a = c .before .before .before .before .before .before .before .before .before .args in
-    refuses-host (a .job .now) (a .asked) (a .kinds .now) (a .ends .now) (a .pool .now) (a .scratch) (c .before .before .before .before .load .ensures) _ (c .refused .result) (c .before .before .loaded .given .1) (c .refused .ensures)
+    refuses-host (a .job .now) (a .asked) (a .mode) (a .kinds .now) (a .ends .now) (a .pool .now) (a .scratch) (c .before .before .before .before .load .ensures) _ (c .refused .result) (c .before .before .loaded .given .1) (c .refused .ensures)
 
 returns-3 : tie.Need-returns-3
 returns-3 c = let a = c .before .before .before .before .before .before .before .before .before .args in
-    refuses-writer (a .job .now) (a .asked) (a .kinds .now) (a .ends .now) (a .pool .now) (a .scratch) (c .before .before .before .before .load .ensures) _ _ (c .refused2 .result) (c .before .before .loaded2 .given .1) (c .refused2 .ensures)
+    refuses-writer (a .job .now) (a .asked) (a .mode) (a .kinds .now) (a .ends .now) (a .pool .now) (a .scratch) (c .before .before .before .before .load .ensures) _ _ (c .refused2 .result) (c .before .before .loaded2 .given .1) (c .refused2 .ensures)
 
 pub prepare-spec : {M : Type 1} → statement M
 prepare-spec =

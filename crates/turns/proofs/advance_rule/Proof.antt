@@ -64,7 +64,7 @@ same-length-5 : tie.Need-same-length-5
 same-length-5 c = let a = c .before .before .before .before .before .before .before .before .before .before .before .before .before .before .before .before .before .before .before .before .before .before .before .before .before .before .before .before .before .before .before .before .before .args in let pre = c .before .before .before .before .before .before .before .before .before .before .before .before .before .before .before .before .before .before .before .before .before .before .before .before .before .before .before .before .before .before .before .before .before .pre in let g = pre .0 in let S = pre .1 .1 .0 in part-long (a .scratch .now) (c .before .before .before .before .before .before .before .before .before .before .before .check-rule-produces-equality .last .1 .1 .1 .1 .1 .1 .1 .1 .1 .0) (length (a .skinds .now)) (c .before .before .before .before .before .before .before .before .before .before .before .check-rule-produces-equality .kept .1 .1 .1 .1 .1 .1 .1 .1 .1 .0) (let h = g .long in omega arith)
 
 returns : tie.Need-returns
-returns c = let a = c .before .before .before .before .before .before .before .before .before .before .before .before .before .before .before .before .before .before .before .before .before .before .before .before .before .before .before .before .before .before .before .before .before .args in let pre = c .before .before .before .before .before .before .before .before .before .before .before .before .before .before .before .before .before .before .before .before .before .before .before .before .before .before .before .before .before .before .before .before .before .pre in let g = pre .0 in let S = pre .1 .1 .0 in stage-head (a .job .now) (a .found .now) (a .globals .now) (a .unions .now) (a .p) (a .r) (a .name) (a .second) (a .count) (a .bound .now) g S (pre .1 .1 .1 .0 refl) (c .before .before .before .before .before .before .before .before .before .before .before .before .before .before .before .before .before .before .before .if1 .taken) (c .before .before .before .before .before .before .before .before .before .before .before .check-rule-produces-equality .result) (produces-pairs (programFor (a .job .now)) (ruleFor (a .job .now) (a .r)) (a .bound .now) (a .globals .now) (c .before .before .before .before .before .before .before .before .before .before .before .before .before .before .before .before .before .before .before .before .substitution-at .ensures .is ∙ ap (pairsFor (a .job .now)) (c .before .before .before .before .before .before .before .before .before .before .before .before .before .before .before .before .before .before .before .before .before .wide .ensures)) (claim-by (proofsFor (a .job .now)) (c .before .before .before .before .before .before .before .before .before .before .before .before .before .before .before .before .before .claim-at .ensures .is) (c .before .before .before .before .before .before .before .before .before .before .before .before .before .before .before .before .before .before .wide2 .ensures)) (c .before .before .before .before .before .before .before .before .before .before .before .check-rule-produces-equality .ensures)) (c .before .before .before .before .before .before .before .before .before .before .before .check-rule-produces-equality .kept .1 .1 .1 .1 .1 .1 .1 .1 .0) (part-long (a .scratch .now) (c .before .before .before .before .before .before .before .before .before .before .before .check-rule-produces-equality .last .1 .1 .1 .1 .1 .1 .1 .1 .1 .0) (length (a .skinds .now)) (c .before .before .before .before .before .before .before .before .before .before .before .check-rule-produces-equality .kept .1 .1 .1 .1 .1 .1 .1 .1 .1 .0) (let h = g .long in omega arith)) (part-front (a .scratch .now) (c .before .before .before .before .before .before .before .before .before .before .before .check-rule-produces-equality .last .1 .1 .1 .1 .1 .1 .1 .1 .1 .0) (length (a .skinds .now)) (c .before .before .before .before .before .before .before .before .before .before .before .check-rule-produces-equality .kept .1 .1 .1 .1 .1 .1 .1 .1 .1 .0) (let h = g .long in omega arith)) (part-back (a .scratch .now) (c .before .before .before .before .before .before .before .before .before .before .before .check-rule-produces-equality .last .1 .1 .1 .1 .1 .1 .1 .1 .1 .0) (length (a .skinds .now)) (c .before .before .before .before .before .before .before .before .before .before .before .check-rule-produces-equality .kept .1 .1 .1 .1 .1 .1 .1 .1 .1 .0) (let h = g .long in omega arith)) (c .over .ensures)
+returns c = let a = c .before .before .before .before .before .before .before .before .before .before .before .before .before .before .before .before .before .before .before .before .before .before .before .before .before .before .before .before .before .before .before .before .before .args in let pre = c .before .before .before .before .before .before .before .before .before .before .before .before .before .before .before .before .before .before .before .before .before .before .before .before .before .before .before .before .before .before .before .before .before .pre in let g = pre .0 in let S = pre .1 .1 .0 in stage-head (a .job .now) (a .strict) (a .found .now) (a .globals .now) (a .unions .now) (a .p) (a .r) (a .name) (a .second) (a .count) (a .bound .now) g S (pre .1 .1 .1 .0 refl) (c .before .before .before .before .before .before .before .before .before .before .before .before .before .before .before .before .before .before .before .if1 .taken) (c .before .before .before .before .before .before .before .before .before .before .before .check-rule-produces-equality .result) (produces-pairs (programFor (a .job .now)) (ruleFor (a .job .now) (a .r)) (a .bound .now) (a .globals .now) (c .before .before .before .before .before .before .before .before .before .before .before .before .before .before .before .before .before .before .before .before .substitution-at .ensures .is ∙ ap (pairsFor (a .job .now)) (c .before .before .before .before .before .before .before .before .before .before .before .before .before .before .before .before .before .before .before .before .before .wide .ensures)) (claim-by (proofsFor (a .job .now)) (c .before .before .before .before .before .before .before .before .before .before .before .before .before .before .before .before .before .claim-at .ensures .is) (c .before .before .before .before .before .before .before .before .before .before .before .before .before .before .before .before .before .before .wide2 .ensures)) (c .before .before .before .before .before .before .before .before .before .before .before .check-rule-produces-equality .ensures)) (c .before .before .before .before .before .before .before .before .before .before .before .check-rule-produces-equality .kept .1 .1 .1 .1 .1 .1 .1 .1 .0) (part-long (a .scratch .now) (c .before .before .before .before .before .before .before .before .before .before .before .check-rule-produces-equality .last .1 .1 .1 .1 .1 .1 .1 .1 .1 .0) (length (a .skinds .now)) (c .before .before .before .before .before .before .before .before .before .before .before .check-rule-produces-equality .kept .1 .1 .1 .1 .1 .1 .1 .1 .1 .0) (let h = g .long in omega arith)) (part-front (a .scratch .now) (c .before .before .before .before .before .before .before .before .before .before .before .check-rule-produces-equality .last .1 .1 .1 .1 .1 .1 .1 .1 .1 .0) (length (a .skinds .now)) (c .before .before .before .before .before .before .before .before .before .before .before .check-rule-produces-equality .kept .1 .1 .1 .1 .1 .1 .1 .1 .1 .0) (let h = g .long in omega arith)) (part-back (a .scratch .now) (c .before .before .before .before .before .before .before .before .before .before .before .check-rule-produces-equality .last .1 .1 .1 .1 .1 .1 .1 .1 .1 .0) (length (a .skinds .now)) (c .before .before .before .before .before .before .before .before .before .before .before .check-rule-produces-equality .kept .1 .1 .1 .1 .1 .1 .1 .1 .1 .0) (let h = g .long in omega arith)) (c .over .ensures)
 
 mul-before-premise : tie.Need-mul-before-premise
 mul-before-premise c = let a = c .before .before .before .before .before .before .before .before .before .before .before .before .before .before .before .before .before .before .before .args in let pre = c .before .before .before .before .before .before .before .before .before .before .before .before .before .before .before .before .before .before .before .pre in let g = pre .0 in let S = pre .1 .1 .0 in let x = c .before .before .before .before .before .if1 .left in let f = S .few in omega arith
@@ -85,10 +85,10 @@ same-length-8 : tie.Need-same-length-8
 same-length-8 c = c .before .before .before .before .before .before .before .before .before-premise .ensures .0 .does .grown .lenP
 
 same-length-9 : tie.Need-same-length-9
-same-length-9 c = c .before .before .before .before .before .before .before .before .before-premise .kept .1 .1 .1 .1 .1 .1 .1 .1 .1 .1 .0
+same-length-9 c = c .before .before .before .before .before .before .before .before .before-premise .kept .1 .1 .1 .1 .1 .1 .1 .1 .1 .1 .1 .0
 
 returns-2 : tie.Need-returns-2
-returns-2 c = let a = c .before .before .before .before .before .before .before .before .before .before .before .before .before .before .before .before .before .before .before .before .before .before .before .before .before .before .before .before .before .args in let pre = c .before .before .before .before .before .before .before .before .before .before .before .before .before .before .before .before .before .before .before .before .before .before .before .before .before .before .before .before .before .pre in let g = pre .0 in let S = pre .1 .1 .0 in let x = c .before .before .before .before .before .before .before .before .before .before .before .before .before .before .before .if1 .left in stage-before (a .job .now) (a .found .now) (a .globals .now) (a .unions .now) (a .p) (a .r) (a .name) (a .second) (a .count) (a .bound .now) g S (pre .1 .1 .1 .0 refl) (a .i) (fact-turn S (omega arith) (c .before .before .before .before .before .before .before .before .before .before .before .before .before .before .before .before .before .before .rule-facts-at .ensures .is) refl) (c .before .before .before .before .before .before .before .before .before .before .before .before .before .before .if2 .taken) (c .before .before .before .before .before .before .before .before .before-premise .result) (c .before .before .before .before .before .before .before .before .before .before .before .before .before .before .before .before .substitution-at .ensures .is ∙ ap (pairsFor (a .job .now)) (c .before .before .before .before .before .before .before .before .before .before .before .before .before .before .before .before .before .wide .ensures)) (let x = c .before .before .before .before .before .before .before .before .before-premise .ensures in (x .0, x .1 .0, x .1 .1 .0)) (c .before .before .before .before .before .before .before .before .before-premise .ensures .1 .1 .1) (c .before .before .before .before .before .before .before .before .before-premise .kept .1 .1 .1 .1 .1 .1 .1 .1 .1 .1 .0)
+returns-2 c = let a = c .before .before .before .before .before .before .before .before .before .before .before .before .before .before .before .before .before .before .before .before .before .before .before .before .before .before .before .before .before .args in let pre = c .before .before .before .before .before .before .before .before .before .before .before .before .before .before .before .before .before .before .before .before .before .before .before .before .before .before .before .before .before .pre in let g = pre .0 in let S = pre .1 .1 .0 in let x = c .before .before .before .before .before .before .before .before .before .before .before .before .before .before .before .if1 .left in stage-before (a .job .now) (a .strict) (a .found .now) (a .globals .now) (a .unions .now) (a .p) (a .r) (a .name) (a .second) (a .count) (a .bound .now) g S (pre .1 .1 .1 .0 refl) (a .i) (fact-turn S (omega arith) (c .before .before .before .before .before .before .before .before .before .before .before .before .before .before .before .before .before .before .rule-facts-at .ensures .is) refl) (c .before .before .before .before .before .before .before .before .before .before .before .before .before .before .if2 .taken) (c .before .before .before .before .before .before .before .before .before-premise .result) (c .before .before .before .before .before .before .before .before .before .before .before .before .before .before .before .before .substitution-at .ensures .is ∙ ap (pairsFor (a .job .now)) (c .before .before .before .before .before .before .before .before .before .before .before .before .before .before .before .before .before .wide .ensures)) (let x = c .before .before .before .before .before .before .before .before .before-premise .ensures in (x .0, x .1 .0, x .1 .1 .0)) (c .before .before .before .before .before .before .before .before .before-premise .ensures .1 .1 .1) (c .before .before .before .before .before .before .before .before .before-premise .kept .1 .1 .1 .1 .1 .1 .1 .1 .1 .1 .1 .0)
 
 wide-requires-3 : tie.Need-wide-requires-3
 wide-requires-3 c κs = search needs
@@ -134,7 +134,7 @@ same-length-13 : tie.Need-same-length-13
 same-length-13 c = c .before .before .before .before .before .before .before .before .before .check-fact-matches-proposition .kept .1 .1 .1 .1 .1 .1 .1 .1 .1 .0
 
 returns-3 : tie.Need-returns-3
-returns-3 c = let a = c .before .before .before .before .before .before .before .before .before .before .before .before .before .before .before .before .before .before .before .before .before .before .before .before .before .before .before .before .before .before .before .before .before .before .before .args in let pre = c .before .before .before .before .before .before .before .before .before .before .before .before .before .before .before .before .before .before .before .before .before .before .before .before .before .before .before .before .before .before .before .before .before .before .before .pre in let g = pre .0 in let S = pre .1 .1 .0 in let x = c .before .before .before .before .before .before .before .before .before .before .before .before .before .before .before .before .before .before .before .before .before .if1 .left in stage-after (a .job .now) (a .found .now) (a .globals .now) (a .unions .now) (a .p) (a .r) (a .name) (a .second) (a .count) (a .bound .now) g S (pre .1 .1 .1 .0 refl) (a .i) (fact-turn S (omega arith) (c .before .before .before .before .before .before .before .before .before .before .before .before .before .before .before .before .before .before .before .before .before .before .before .before .rule-facts-at .ensures .is) (sym (ap (λ (l : List ℕ). getD l (a .i) 0) (c .before .before .before .before .before .before .before .before .before .before .before .before .before .before .before .before .before .before .premises-at .ensures .is ∙ ap (premisesFor (a .job .now)) (c .before .before .before .before .before .before .before .before .before .before .before .before .before .before .before .before .before .before .before .wide3 .ensures))))) (a .walked) (c .before .before .before .before .before .before .before .before .before .before .before .before .before .before .before .before .before .before .before .before .if2 .left) (c .before .before .before .before .before .before .before .before .before .check-fact-matches-proposition .result) (matches-pairs (programFor (a .job .now)) (a .name) (a .bound .now) (a .globals .now) _ (c .before .before .before .before .before .before .before .before .before .before .before .before .before .before .before .before .before .before .before .before .before .before .substitution-at .ensures .is ∙ ap (pairsFor (a .job .now)) (c .before .before .before .before .before .before .before .before .before .before .before .before .before .before .before .before .before .before .before .before .before .before .before .wide .ensures)) (claim-by (proofsFor (a .job .now)) (c .before .before .before .before .before .before .before .before .before .before .before .before .before .before .before .claim-at2 .ensures .is) (c .before .before .before .before .before .before .before .before .before .before .before .before .before .before .before .before .wide4 .ensures)) (c .before .before .before .before .before .before .before .before .before .check-fact-matches-proposition .ensures)) (c .before .before .before .before .before .before .before .before .before .check-fact-matches-proposition .kept .1 .1 .1 .1 .1 .1 .1 .1 .1 .0) (c .over2 .ensures)
+returns-3 c = let a = c .before .before .before .before .before .before .before .before .before .before .before .before .before .before .before .before .before .before .before .before .before .before .before .before .before .before .before .before .before .before .before .before .before .before .before .args in let pre = c .before .before .before .before .before .before .before .before .before .before .before .before .before .before .before .before .before .before .before .before .before .before .before .before .before .before .before .before .before .before .before .before .before .before .before .pre in let g = pre .0 in let S = pre .1 .1 .0 in let x = c .before .before .before .before .before .before .before .before .before .before .before .before .before .before .before .before .before .before .before .before .before .if1 .left in stage-after (a .job .now) (a .strict) (a .found .now) (a .globals .now) (a .unions .now) (a .p) (a .r) (a .name) (a .second) (a .count) (a .bound .now) g S (pre .1 .1 .1 .0 refl) (a .i) (fact-turn S (omega arith) (c .before .before .before .before .before .before .before .before .before .before .before .before .before .before .before .before .before .before .before .before .before .before .before .before .rule-facts-at .ensures .is) (sym (ap (λ (l : List ℕ). getD l (a .i) 0) (c .before .before .before .before .before .before .before .before .before .before .before .before .before .before .before .before .before .before .premises-at .ensures .is ∙ ap (premisesFor (a .job .now)) (c .before .before .before .before .before .before .before .before .before .before .before .before .before .before .before .before .before .before .before .wide3 .ensures))))) (a .walked) (c .before .before .before .before .before .before .before .before .before .before .before .before .before .before .before .before .before .before .before .before .if2 .left) (c .before .before .before .before .before .before .before .before .before .check-fact-matches-proposition .result) (matches-pairs (programFor (a .job .now)) (a .name) (a .bound .now) (a .globals .now) _ (c .before .before .before .before .before .before .before .before .before .before .before .before .before .before .before .before .before .before .before .before .before .before .substitution-at .ensures .is ∙ ap (pairsFor (a .job .now)) (c .before .before .before .before .before .before .before .before .before .before .before .before .before .before .before .before .before .before .before .before .before .before .before .wide .ensures)) (claim-by (proofsFor (a .job .now)) (c .before .before .before .before .before .before .before .before .before .before .before .before .before .before .before .claim-at2 .ensures .is) (c .before .before .before .before .before .before .before .before .before .before .before .before .before .before .before .before .wide4 .ensures)) (c .before .before .before .before .before .before .before .before .before .check-fact-matches-proposition .ensures)) (c .before .before .before .before .before .before .before .before .before .check-fact-matches-proposition .kept .1 .1 .1 .1 .1 .1 .1 .1 .1 .0) (c .over2 .ensures)
 
 pub advance-rule-spec : {M : Type 1} → statement M
 advance-rule-spec =
