@@ -18,24 +18,34 @@ extern "C" {
 /* The number of words of an answer. */
 #define SIZERCOBALT_ANSWER 8
 
-/* The store that sizercobalt_check_bytes has of its own, and the longest job that it takes. */
+/* The modes. Plain is egglog's check: a rule's fact that is a bare call of a primitive whose output is a container passes unevaluated. Strict evaluates it under the
+   bindings of that moment, as a side of an equality: it passes where it has a value, any value, else the number is 45, 46, 51 or 53; it binds nothing. Another mode
+   returns 11, which is looked for right after 3: the order is 1, 2, 3, 11, 5, 6, 7, 8, 9, 10. An answer of another length than eight is 10 before them all. */
+#define SIZERCOBALT_PLAIN 0
+#define SIZERCOBALT_STRICT 1
+
+/* The store that sizercobalt_check_bytes and sizercobalt_check_bytes_mode have of their own, and the longest job that they take. */
 #define SIZERCOBALT_CELLS 4096
 #define SIZERCOBALT_POOL 16384
 #define SIZERCOBALT_BYTES 65536
 
-/* Checks proof `asked` of a job given as bytes, with a store of its own, and returns the number: 0 accepted. `answer` is eight words; another length returns 10 and
-   leaves it as it is. */
+/* Checks proof `asked` of a job given as bytes, in mode SIZERCOBALT_PLAIN, with a store of its own, and returns the number: 0 accepted. `answer` is eight words; another
+   length returns 10 and leaves it as it is. */
 uint32_t sizercobalt_check_bytes(const uint8_t *job, size_t job_length, uint32_t asked, uint32_t *answer, size_t answer_length);
+
+/* The same in the given mode. */
+uint32_t sizercobalt_check_bytes_mode(const uint8_t *job, size_t job_length, uint32_t asked, uint32_t mode, uint32_t *answer, size_t answer_length);
 
 /* The largest store that can be lent: C and W. */
 #define SIZERCOBALT_MOST_CELLS 65536
 #define SIZERCOBALT_MOST_POOL 1048576
 
-/* Checks proof `asked` of a job given as words, with a lent store: `kinds` and `ends` of C words, `pool` of W words, `scratch` of at least 2 * (C + J) words; other
-   lengths return 10. Returns the number: 0 accepted. `answer` is as above. On 0 and from 20 up the store holds the job's terms and those that the check added; below
+/* Checks proof `asked` of a job given as words in the given mode, with a lent store: `kinds` and `ends` of C words, `pool` of W words, `scratch` of at least
+   2 * (C + J) words; other lengths return 10. Returns the number: 0 accepted. `answer` is as above. On 0 and from 20 up the store holds the job's terms and those that the check added; below
    20 it is as it was. `scratch` is left with anything, and what it held before makes no difference. */
-uint32_t sizercobalt_check(const uint32_t *job, size_t job_length, uint32_t asked, uint32_t *kinds, size_t kinds_length, uint32_t *ends, size_t ends_length,
-                           uint32_t *pool, size_t pool_length, uint32_t *scratch, size_t scratch_length, uint32_t *answer, size_t answer_length);
+uint32_t sizercobalt_check(const uint32_t *job, size_t job_length, uint32_t asked, uint32_t mode, uint32_t *kinds, size_t kinds_length, uint32_t *ends,
+                           size_t ends_length, uint32_t *pool, size_t pool_length, uint32_t *scratch, size_t scratch_length, uint32_t *answer,
+                           size_t answer_length);
 
 #ifdef __cplusplus
 }

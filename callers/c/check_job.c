@@ -1,8 +1,9 @@
-/* Checks a job with both entries of sizercobalt.h and prints the eight words of the answer: check_job FILE [ASKED].
-   Without ASKED it asks for the job's last proof.
+/* Checks a job with all entries of sizercobalt.h and prints the eight words of the answer: check_job FILE [ASKED [MODE]].
+   Without ASKED it asks for the job's last proof, without MODE in mode 0. sizercobalt_check_bytes is called in mode 0 only.
 
        cc -std=c11 -Iinclude callers/c/check_job.c target/staticlib/libhost.a -o check_job
-       ./check_job examples/job_a.bin */
+       ./check_job examples/job_a.bin
+       ./check_job examples/east_flank.bin 3 1 */
 
 #include <stdio.h>
 #include <stdlib.h>
@@ -16,7 +17,7 @@
 /* Scratch for the host's number of cells and the largest number of proofs. */
 #define SCRATCH (2 * (SIZERCOBALT_CELLS + 4096))
 
-/* One byte more than the host entry takes, so that a longer file is seen to be longer. */
+/* One byte more than the host entries take, so that a longer file is seen to be longer. */
 static uint8_t bytes[SIZERCOBALT_BYTES + 1];
 static uint32_t words[SIZERCOBALT_BYTES / 4];
 
@@ -32,8 +33,8 @@ static int read_job(const char *name, size_t *length) {
   return good;
 }
 
-/* Makes `words` of the bytes, four each, the lowest first, and returns how many. What is no whole number of words, or more than the host entry takes,
-   becomes an empty job: both entries answer 1. */
+/* Makes `words` of the bytes, four each, the lowest first, and returns how many. What is no whole number of words, or more than the host entries take,
+   becomes an empty job: all entries answer 1. */
 static size_t words_of_bytes(size_t length) {
   if (length % 4 != 0 || length > SIZERCOBALT_BYTES) {
     return 0;
@@ -45,20 +46,24 @@ static size_t words_of_bytes(size_t length) {
   return length / 4;
 }
 
-/* The proof to ask for: what the text says, else the last one, or 0 without proofs. 0 where the text is no 32-bit number. */
-static int asked_proof(const char *text, size_t word_count, uint32_t *asked) {
+/* The last proof, or 0 without proofs. */
+static uint32_t last_proof(size_t word_count) {
+  return word_count > PROOFS && words[PROOFS] > 0 ? words[PROOFS] - 1 : 0;
+}
+
+/* Sets the number that the text is, or leaves it without one; 0 where the text is no 32-bit number. */
+static int read_number(const char *text, uint32_t *number) {
   if (text == NULL) {
-    *asked = word_count > PROOFS && words[PROOFS] > 0 ? words[PROOFS] - 1 : 0;
     return 1;
   }
   char *end;
-  unsigned long long number = strtoull(text, &end, 10);
-  *asked = (uint32_t)number;
-  return text[0] >= '0' && text[0] <= '9' && *end == '\0' && number <= UINT32_MAX;
+  unsigned long long read = strtoull(text, &end, 10);
+  *number = (uint32_t)read;
+  return text[0] >= '0' && text[0] <= '9' && *end == '\0' && read <= UINT32_MAX;
 }
 
 /* Calls sizercobalt_check with a lent store; 0 where there is no memory. What the lent words hold before makes no difference. */
-static int check_lent(size_t word_count, uint32_t asked, uint32_t *answer) {
+static int check_lent(size_t word_count, uint32_t asked, uint32_t mode, uint32_t *answer) {
   size_t total = 2 * SIZERCOBALT_CELLS + SIZERCOBALT_POOL + SCRATCH;
   uint32_t *kinds = malloc(total * sizeof *kinds);
   if (kinds == NULL) {
@@ -68,7 +73,7 @@ static int check_lent(size_t word_count, uint32_t asked, uint32_t *answer) {
   uint32_t *ends = kinds + SIZERCOBALT_CELLS;
   uint32_t *pool = ends + SIZERCOBALT_CELLS;
   uint32_t *scratch = pool + SIZERCOBALT_POOL;
-  sizercobalt_check(words, word_count, asked, kinds, SIZERCOBALT_CELLS, ends, SIZERCOBALT_CELLS, pool, SIZERCOBALT_POOL, scratch, SCRATCH, answer,
+  sizercobalt_check(words, word_count, asked, mode, kinds, SIZERCOBALT_CELLS, ends, SIZERCOBALT_CELLS, pool, SIZERCOBALT_POOL, scratch, SCRATCH, answer,
                     SIZERCOBALT_ANSWER);
   free(kinds);
   return 1;
@@ -79,28 +84,42 @@ static int fail(const char *message) {
   return 1;
 }
 
-int main(int count, char **arguments) {
-  size_t length;
-  uint32_t asked, answer[SIZERCOBALT_ANSWER], lent_answer[SIZERCOBALT_ANSWER];
-  if (count != 2 && count != 3) {
-    return fail("check_job FILE [ASKED]");
-  }
-  if (!read_job(arguments[1], &length)) {
-    return fail("the file cannot be read");
-  }
-  size_t word_count = words_of_bytes(length);
-  if (!asked_proof(count == 3 ? arguments[2] : NULL, word_count, &asked)) {
-    return fail("the asked proof is no number");
-  }
-  sizercobalt_check_bytes(bytes, length, asked, answer, SIZERCOBALT_ANSWER);
-  if (!check_lent(word_count, asked, lent_answer)) {
+/* Checks with all entries and prints the answer. */
+static int check_job(size_t length, size_t word_count, uint32_t asked, uint32_t mode) {
+  uint32_t answer[SIZERCOBALT_ANSWER], other[SIZERCOBALT_ANSWER];
+  sizercobalt_check_bytes_mode(bytes, length, asked, mode, answer, SIZERCOBALT_ANSWER);
+  if (!check_lent(word_count, asked, mode, other)) {
     return fail("no memory");
   }
-  if (memcmp(answer, lent_answer, sizeof answer) != 0) {
-    return fail("the two entries disagree");
+  int agree = memcmp(answer, other, sizeof answer) == 0;
+  if (mode == SIZERCOBALT_PLAIN) {
+    sizercobalt_check_bytes(bytes, length, asked, other, SIZERCOBALT_ANSWER);
+    agree = agree && memcmp(answer, other, sizeof answer) == 0;
+  }
+  if (!agree) {
+    return fail("the entries disagree");
   }
   for (size_t i = 0; i < SIZERCOBALT_ANSWER; i++) {
     printf("%lu%c", (unsigned long)answer[i], i + 1 < SIZERCOBALT_ANSWER ? ' ' : '\n');
   }
   return 0;
+}
+
+int main(int count, char **arguments) {
+  size_t length;
+  if (count < 2 || count > 4) {
+    return fail("check_job FILE [ASKED [MODE]]");
+  }
+  if (!read_job(arguments[1], &length)) {
+    return fail("the file cannot be read");
+  }
+  size_t word_count = words_of_bytes(length);
+  uint32_t asked = last_proof(word_count), mode = SIZERCOBALT_PLAIN;
+  if (!read_number(count > 2 ? arguments[2] : NULL, &asked)) {
+    return fail("the asked proof is no number");
+  }
+  if (!read_number(count > 3 ? arguments[3] : NULL, &mode)) {
+    return fail("the mode is no number");
+  }
+  return check_job(length, word_count, asked, mode);
 }

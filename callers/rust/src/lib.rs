@@ -1,17 +1,36 @@
 //! The proved checker (`include/sizercobalt.h`) as safe functions: a slice is a pointer with its length, two `&mut` do not overlap, and the call runs on a
-//! thread whose stack is enough for every job. `check_bytes_here` and `check_here` run on the caller's stack.
+//! thread whose stack is enough for every job. `check_bytes_here`, `check_bytes_mode_here` and `check_here` run on the caller's stack.
 
 use std::thread;
 
 /// The number of words of an answer.
 pub const ANSWER: usize = 8;
-/// The cells and the pool words of the store that `check_bytes` has of its own.
+/// The cells and the pool words of the store that `check_bytes` and `check_bytes_mode` have of their own.
 pub const CELLS: usize = 4_096;
 pub const POOL: usize = 16_384;
-/// The longest job that `check_bytes` takes.
+/// The longest job that they take.
 pub const BYTES: usize = 65_536;
 /// A stack that is enough for every job (README.md has what was measured).
 pub const STACK: usize = 8 << 20;
+
+/// How a rule's fact is checked that is a bare call of a primitive whose output is a container.
+#[derive(Clone, Copy, PartialEq, Eq, Debug)]
+pub enum Mode {
+    /// As egglog does: it passes unevaluated.
+    Plain,
+    /// It is evaluated under the bindings of that moment and passes where it has a value; it binds nothing.
+    Strict,
+}
+
+/// The word that the entries take; they refuse others with 11.
+impl From<Mode> for u32 {
+    fn from(mode: Mode) -> u32 {
+        match mode {
+            Mode::Plain => 0,
+            Mode::Strict => 1,
+        }
+    }
+}
 
 unsafe extern "C" {
     fn sizercobalt_check_bytes(
@@ -22,10 +41,20 @@ unsafe extern "C" {
         answer_length: usize,
     ) -> u32;
 
+    fn sizercobalt_check_bytes_mode(
+        job: *const u8,
+        job_length: usize,
+        asked: u32,
+        mode: u32,
+        answer: *mut u32,
+        answer_length: usize,
+    ) -> u32;
+
     fn sizercobalt_check(
         job: *const u32,
         job_length: usize,
         asked: u32,
+        mode: u32,
         kinds: *mut u32,
         kinds_length: usize,
         ends: *mut u32,
@@ -51,7 +80,7 @@ fn on_own_stack(call: impl FnOnce() -> u32 + Send) -> u32 {
     })
 }
 
-/// Checks proof `asked` of a job given as bytes, with a store of its own; the number, 0 where it is accepted.
+/// Checks proof `asked` of a job given as bytes, in mode `Plain`, with a store of its own; the number, 0 where it is accepted.
 ///
 /// # Panics
 /// Where no thread can be started.
@@ -77,30 +106,68 @@ pub unsafe fn check_bytes_here(job: &[u8], asked: u32, answer: &mut [u32]) -> u3
     }
 }
 
-/// Checks proof `asked` of a job given as words, with a lent store and scratch; the number, 0 where it is accepted.
+/// `check_bytes` in a mode.
 ///
 /// # Panics
 /// Where no thread can be started.
+pub fn check_bytes_mode(job: &[u8], asked: u32, mode: impl Into<u32>, answer: &mut [u32]) -> u32 {
+    let mode: u32 = mode.into();
+    // SAFETY: the thread has the stack.
+    on_own_stack(|| unsafe { check_bytes_mode_here(job, asked, mode, answer) })
+}
+
+/// `check_bytes_mode` on the caller's stack.
+///
+/// # Safety
+/// `STACK` bytes of stack are left.
+pub unsafe fn check_bytes_mode_here(
+    job: &[u8],
+    asked: u32,
+    mode: impl Into<u32>,
+    answer: &mut [u32],
+) -> u32 {
+    // SAFETY: each pointer is a slice's, with its length.
+    unsafe {
+        sizercobalt_check_bytes_mode(
+            job.as_ptr(),
+            job.len(),
+            asked,
+            mode.into(),
+            answer.as_mut_ptr(),
+            answer.len(),
+        )
+    }
+}
+
+/// Checks proof `asked` of a job given as words in a mode, with a lent store and scratch; the number, 0 where it is accepted.
+///
+/// # Panics
+/// Where no thread can be started.
+#[allow(clippy::too_many_arguments)]
 pub fn check(
     job: &[u32],
     asked: u32,
+    mode: impl Into<u32>,
     kinds: &mut [u32],
     ends: &mut [u32],
     pool: &mut [u32],
     scratch: &mut [u32],
     answer: &mut [u32],
 ) -> u32 {
+    let mode: u32 = mode.into();
     // SAFETY: the thread has the stack.
-    on_own_stack(|| unsafe { check_here(job, asked, kinds, ends, pool, scratch, answer) })
+    on_own_stack(|| unsafe { check_here(job, asked, mode, kinds, ends, pool, scratch, answer) })
 }
 
 /// `check` on the caller's stack.
 ///
 /// # Safety
 /// `STACK` bytes of stack are left.
+#[allow(clippy::too_many_arguments)]
 pub unsafe fn check_here(
     job: &[u32],
     asked: u32,
+    mode: impl Into<u32>,
     kinds: &mut [u32],
     ends: &mut [u32],
     pool: &mut [u32],
@@ -113,6 +180,7 @@ pub unsafe fn check_here(
             job.as_ptr(),
             job.len(),
             asked,
+            mode.into(),
             kinds.as_mut_ptr(),
             kinds.len(),
             ends.as_mut_ptr(),

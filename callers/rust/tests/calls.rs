@@ -1,9 +1,9 @@
-//! Both entries, called as a host calls them: jobs A and B of document 01, the tilt counts, and arrays of any length.
+//! All entries, called as a host calls them: jobs A and B of document 01, the tilt counts, the east flank in both modes, and arrays of any length.
 
 use std::fs;
 use std::path::Path;
 
-use sizercobalt::{ANSWER, BYTES, check, check_bytes};
+use sizercobalt::{ANSWER, BYTES, Mode, check, check_bytes, check_bytes_mode};
 
 /// Job B's terms as a store holds them: 7, 8, name 4 of the first, name 4 of the second.
 const TERMS_B: [&[u32]; 3] = [
@@ -59,8 +59,12 @@ impl Lent {
     }
 
     fn check(&mut self, job: &[u32], asked: u32) -> u32 {
+        self.check_mode(job, asked, Mode::Plain)
+    }
+
+    fn check_mode(&mut self, job: &[u32], asked: u32, mode: impl Into<u32>) -> u32 {
         let [kinds, ends, pool, scratch, answer] = &mut self.0;
-        check(job, asked, kinds, ends, pool, scratch, answer)
+        check(job, asked, mode, kinds, ends, pool, scratch, answer)
     }
 
     fn answer(&self) -> &[u32] {
@@ -98,6 +102,28 @@ fn bytes_give(job: &[u8], asked: u32, expected: [u32; ANSWER]) {
     let mut answer = [dirt(5, 0); ANSWER];
     assert_eq!(check_bytes(job, asked, &mut answer), expected[0]);
     assert_eq!(answer, expected);
+}
+
+#[track_caller]
+fn bytes_mode_give(job: &[u8], asked: u32, mode: impl Into<u32>, expected: [u32; ANSWER]) {
+    let mut answer = [dirt(5, 0); ANSWER];
+    assert_eq!(check_bytes_mode(job, asked, mode, &mut answer), expected[0]);
+    assert_eq!(answer, expected);
+}
+
+/// By bytes, and by words with a little more room than its terms take.
+#[track_caller]
+fn east_flank_gives(asked: u32, mode: impl Into<u32>, expected: [u32; ANSWER]) {
+    let mode: u32 = mode.into();
+    bytes_mode_give(&bytes("east_flank.bin"), asked, mode, expected);
+    let mut lent = Lent::of([6, 6, 20, 20, ANSWER]);
+    let number = lent.check_mode(&words("east_flank.bin"), asked, mode);
+    assert_eq!(number, expected[0]);
+    assert_eq!(lent.answer(), expected);
+    match number {
+        3 | 11 => lent.holds([&[]; 3]),
+        _ => lent.holds(TERMS_EAST_FLANK),
+    }
 }
 
 #[track_caller]
@@ -202,6 +228,38 @@ fn tilt_counts_without_room() {
     }
 }
 
+/// The east flank's terms: 2^24, 2^24 + 3, the narrowing of each, the singles of the first. The check adds none.
+const TERMS_EAST_FLANK: [&[u32]; 3] = [
+    &[0, 0, 2, 2, 2],
+    &[3, 6, 8, 10, 12],
+    &[2, 16_777_216, 0, 2, 16_777_219, 0, 11, 0, 11, 1, 7, 0],
+];
+
+/// The second position is exact by no row: strict mode refuses its step.
+#[test]
+fn east_flank_in_both_modes() {
+    let accepted = [[0, 5, 2, 0, 2, 0, 0, 0], [0, 5, 3, 1, 2, 0, 0, 0]];
+    east_flank_gives(1, Mode::Plain, accepted[0]);
+    east_flank_gives(3, Mode::Plain, accepted[1]);
+    east_flank_gives(1, Mode::Strict, accepted[0]);
+    east_flank_gives(3, Mode::Strict, [46, 5, 6, 0, 0, 0, 0, 0]);
+    bytes_give(&bytes("east_flank.bin"), 3, accepted[1]);
+}
+
+/// The whole word counts; 3 comes before 11, and 11 before 10 for what is lent.
+#[test]
+fn other_modes() {
+    for mode in [2, 255, 256, 257, 65_536, 1 << 31, u32::MAX] {
+        east_flank_gives(3, mode, refused(11));
+        east_flank_gives(4, mode, refused(3));
+        bytes_mode_give(&[], 0, mode, refused(1));
+        bytes_mode_give(&[0; BYTES + 4], 0, mode, refused(1));
+        let mut lent = Lent::of([0, 0, 0, 0, ANSWER]);
+        assert_eq!(lent.check_mode(&words("job_b.bin"), 0, mode), 11);
+        assert_eq!(lent.answer(), refused(11));
+    }
+}
+
 /// C and W of just the terms' size, and scratch of just 2 x (C + J) words, are enough; one word less is 10.
 #[test]
 fn just_enough_is_lent() {
@@ -225,6 +283,14 @@ fn answer_of_another_length() {
         lent.is_unwritten();
         for job in [bytes("job_b.bin"), Vec::new(), vec![0; BYTES + 1]] {
             assert_eq!(check_bytes(&job, 0, &mut lent.0[4]), 10);
+            lent.is_unwritten();
+            for mode in [0u32, 1, 2] {
+                assert_eq!(check_bytes_mode(&job, 0, mode, &mut lent.0[4]), 10);
+                lent.is_unwritten();
+            }
+        }
+        for mode in [1, 2, u32::MAX] {
+            assert_eq!(lent.check_mode(&words("job_b.bin"), 0, mode), 10);
             lent.is_unwritten();
         }
     }

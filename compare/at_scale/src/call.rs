@@ -1,6 +1,7 @@
 //! A call of an entry, and what the Rust and the library make of it.
 
 use generator::Case;
+use job::modes::PLAIN;
 use oracle::TooManySteps;
 
 use crate::variants::{Source, Variant};
@@ -9,7 +10,20 @@ use crate::variants::{Source, Variant};
 #[derive(Clone, Debug)]
 pub enum Input {
     Words(Case),
-    Bytes { job: Vec<u8>, asked: u32 },
+    /// Without a mode the host entry that takes none.
+    Bytes {
+        job: Vec<u8>,
+        asked: u32,
+        mode: Option<u32>,
+    },
+}
+
+/// What a call is held to.
+#[derive(Clone, Copy, PartialEq, Eq, Debug)]
+pub enum Judge {
+    Rust,
+    /// The library on the same call in mode 0.
+    Mode0,
 }
 
 /// A call of an entry.
@@ -17,6 +31,7 @@ pub enum Input {
 pub struct Call {
     pub source: Source,
     pub variant: Variant,
+    pub judge: Judge,
     pub input: Input,
     /// The length of the answer's buffer.
     pub answer: usize,
@@ -58,13 +73,17 @@ impl Call {
             Input::Words(case) => oracle::check(
                 &case.job,
                 case.asked,
+                case.mode,
                 &mut left.kinds,
                 &mut left.ends,
                 &mut left.pool,
                 case.scratch,
                 &mut left.answer,
             )?,
-            Input::Bytes { job, asked } => oracle::check_bytes(job, *asked, &mut left.answer)?,
+            Input::Bytes { job, asked, mode } => {
+                let mode = mode.unwrap_or(PLAIN);
+                oracle::check_bytes_mode(job, *asked, mode, &mut left.answer)?
+            }
         };
         Ok(left)
     }
@@ -78,6 +97,7 @@ impl Call {
                 sizercobalt::check_here(
                     &case.job,
                     case.asked,
+                    case.mode,
                     &mut left.kinds,
                     &mut left.ends,
                     &mut left.pool,
@@ -85,11 +105,33 @@ impl Call {
                     &mut left.answer,
                 )
             },
-            Input::Bytes { job, asked } => unsafe {
-                sizercobalt::check_bytes_here(job, *asked, &mut left.answer)
+            Input::Bytes { job, asked, mode } => unsafe {
+                match mode {
+                    Some(mode) => {
+                        sizercobalt::check_bytes_mode_here(job, *asked, *mode, &mut left.answer)
+                    }
+                    None => sizercobalt::check_bytes_here(job, *asked, &mut left.answer),
+                }
             },
         };
         left
+    }
+
+    pub fn mode(&self) -> u32 {
+        match &self.input {
+            Input::Words(case) => case.mode,
+            Input::Bytes { mode, .. } => mode.unwrap_or(PLAIN),
+        }
+    }
+
+    /// The same call in another mode.
+    pub fn in_mode(&self, other: u32) -> Call {
+        let mut call = self.clone();
+        match &mut call.input {
+            Input::Words(case) => case.mode = other,
+            Input::Bytes { mode, .. } => *mode = Some(other),
+        }
+        call
     }
 }
 

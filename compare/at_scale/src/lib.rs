@@ -2,12 +2,13 @@
 
 mod call;
 mod difference;
+mod mode_calls;
 mod progress;
 mod run;
 mod tally;
 mod variants;
 
-pub use call::{Call, Input, Left};
+pub use call::{Call, Input, Judge, Left};
 pub use difference::{Difference, Part, difference};
 pub use progress::with_progress;
 pub use run::{Report, compare_range, compare_range_counting};

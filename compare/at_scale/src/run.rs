@@ -1,10 +1,12 @@
-//! Compares the calls of a seed, those of both its cases, and of a range of seeds on all cores.
+//! Compares the calls of a seed, those of all its cases, and of a range of seeds on all cores.
 
 use std::fmt;
 use std::sync::atomic::{AtomicU64, Ordering};
 use std::thread;
 
-use crate::call::{Call, Left};
+use job::modes::PLAIN;
+
+use crate::call::{Call, Judge, Left};
 use crate::difference::{Difference, difference};
 use crate::tally::Tally;
 use crate::variants::{Source, Variant, calls};
@@ -20,10 +22,12 @@ pub struct Report {
     pub seed: u64,
     pub source: Source,
     pub variant: Variant,
+    pub judge: Judge,
+    pub mode: u32,
     /// What decided the contents of scratch.
     pub scratch: u32,
     pub difference: Difference,
-    /// Number and answer by the Rust.
+    /// Number and answer by the judge.
     pub expected: (u32, Vec<u32>),
     /// Number and answer by the library.
     pub found: (u32, Vec<u32>),
@@ -34,12 +38,16 @@ impl fmt::Display for Report {
         let Difference { part, place, .. } = self.difference;
         writeln!(
             out,
-            "seed {}, {:?}, {:?}, scratch by {}",
-            self.seed, self.source, self.variant, self.scratch
+            "seed {}, {:?}, {:?}, mode {}, scratch by {}",
+            self.seed, self.source, self.variant, self.mode, self.scratch
         )?;
         let difference = &self.difference;
+        let judge = match self.judge {
+            Judge::Rust => "Rust",
+            Judge::Mode0 => "library in mode 0",
+        };
         let sides = [
-            ("Rust", &self.expected, difference.expected),
+            (judge, &self.expected, difference.expected),
             ("library", &self.found, difference.found),
         ];
         for (side, (number, answer), word) in sides {
@@ -133,26 +141,46 @@ fn compare_call(
     library: impl Fn(&Call, u32) -> Left,
     tally: &mut Tally,
 ) -> Result<(), Box<Report>> {
-    let expected = call.by_rust();
+    let by_rust = match call.judge {
+        Judge::Rust => Some(call.by_rust()),
+        Judge::Mode0 => None,
+    };
     for &scratch in &call.scratches {
         let found = library(call, scratch);
-        let Ok(expected) = &expected else {
-            tally.too_many_steps += 1;
-            continue;
+        let expected = match &by_rust {
+            Some(Ok(expected)) => expected,
+            Some(Err(_)) => {
+                tally.too_many_steps += 1;
+                continue;
+            }
+            None => &library(&call.in_mode(PLAIN), scratch),
         };
         if let Some(difference) = difference(expected, &found) {
-            let said = |left: &Left| (left.number, left.answer.clone());
-            return Err(Box::new(Report {
-                seed,
-                source: call.source,
-                variant: call.variant,
-                scratch,
-                difference,
-                expected: said(expected),
-                found: said(&found),
-            }));
+            return Err(report(seed, call, scratch, difference, [expected, &found]));
         }
         tally.count(call.variant, found.number);
     }
     Ok(())
+}
+
+/// A difference with what was expected and what was found.
+fn report(
+    seed: u64,
+    call: &Call,
+    scratch: u32,
+    difference: Difference,
+    sides: [&Left; 2],
+) -> Box<Report> {
+    let [expected, found] = sides.map(|left| (left.number, left.answer.clone()));
+    Box::new(Report {
+        seed,
+        source: call.source,
+        variant: call.variant,
+        judge: call.judge,
+        mode: call.mode(),
+        scratch,
+        difference,
+        expected,
+        found,
+    })
 }

@@ -1,31 +1,32 @@
-//! The calls that are made for a seed: for each of the generator's two cases, the case itself and
-//! variants that the seed chooses.
+//! The calls that are made for a seed: for each of the generator's first two cases, the case itself and
+//! variants that the seed chooses; then those of `mode_calls`.
 
 use generator::{Case, Random, room};
 use job::limits::ANSWER;
 use tools::to_bytes;
 
-use crate::call::{Call, Input};
+use crate::call::{Call, Input, Judge};
+use crate::mode_calls;
 
 /// Lengths of an answer's buffer that are 10 at once.
-const OTHER_LENGTHS: [usize; 5] = [0, 1, 7, 9, 16];
+pub const OTHER_LENGTHS: [usize; 5] = [0, 1, 7, 9, 16];
 /// More than arrays are made longer by, so that scratch is not what is refused.
 const SPARE_SCRATCH: usize = 100;
 
-/// Which of a seed's two cases a call is made of.
+/// Which of a seed's three cases a call is made of.
 #[derive(Clone, Copy, PartialEq, Eq, Debug)]
 pub enum Source {
     Job,
     CountingJob,
+    ConditionJob,
 }
 
 impl Source {
-    pub const ALL: [Source; 2] = [Source::Job, Source::CountingJob];
-
-    fn case(self, seed: u64) -> Case {
+    pub fn case(self, seed: u64) -> Case {
         match self {
             Source::Job => generator::job(seed),
             Source::CountingJob => generator::counting_job(seed),
+            Source::ConditionJob => generator::condition_job(seed),
         }
     }
 }
@@ -45,10 +46,19 @@ pub enum Variant {
     HostCut,
     HostAdded,
     HostPrefix,
+    /// The case in strict mode.
+    Strict,
+    /// The same, held to the library in mode 0.
+    BothModes,
+    OtherMode,
+    /// A mode that is refused, with something else that is.
+    RefusedMode,
+    HostMode,
+    HostRefusedMode,
 }
 
 impl Variant {
-    pub const ALL: [Variant; 12] = [
+    pub const ALL: [Variant; 18] = [
         Variant::AsMade,
         Variant::AnswerLength,
         Variant::Tight,
@@ -61,32 +71,40 @@ impl Variant {
         Variant::HostCut,
         Variant::HostAdded,
         Variant::HostPrefix,
+        Variant::Strict,
+        Variant::BothModes,
+        Variant::OtherMode,
+        Variant::RefusedMode,
+        Variant::HostMode,
+        Variant::HostRefusedMode,
     ];
 }
 
 /// The calls of a seed; the same on every machine.
 pub fn calls(seed: u64) -> Vec<Call> {
     let mut random = Random::new(!seed);
-    Source::ALL
-        .into_iter()
-        .flat_map(|source| calls_of(source, seed, &mut random))
-        .collect()
+    let cases = [Source::Job, Source::CountingJob].map(|source| (source, source.case(seed)));
+    let mut calls = Vec::new();
+    for (source, case) in &cases {
+        calls.extend(calls_of(*source, case, &mut random));
+    }
+    calls.extend(mode_calls::calls(seed, &cases));
+    calls
 }
 
 /// Seven calls, two of them with scratch of two contents.
-fn calls_of(source: Source, seed: u64, random: &mut Random) -> Vec<Call> {
-    let case = source.case(seed);
+fn calls_of(source: Source, case: &Case, random: &mut Random) -> Vec<Call> {
     let mut calls = vec![
         with_other_scratch(lent(Variant::AsMade, case.clone(), random)),
         answer_length(case.clone(), random),
-        with_other_scratch(tight(&case, random)),
+        with_other_scratch(tight(case, random)),
         match random.once_in(2) {
             true => unequal_arrays(case.clone(), random),
             false => scratch_length(case.clone(), random),
         },
         other_proof(case.clone(), random),
-        host(&case, random),
-        host_damaged(&case, random),
+        host(case, random),
+        host_damaged(case, random),
     ];
     for call in &mut calls {
         call.source = source;
@@ -95,10 +113,11 @@ fn calls_of(source: Source, seed: u64, random: &mut Random) -> Vec<Call> {
 }
 
 /// A call with a lent store; whose case it is, is said afterwards.
-fn lent(variant: Variant, case: Case, random: &mut Random) -> Call {
+pub fn lent(variant: Variant, case: Case, random: &mut Random) -> Call {
     Call {
         source: Source::Job,
         variant,
+        judge: Judge::Rust,
         input: Input::Words(case),
         answer: ANSWER,
         scratches: vec![random.word() as u32],
@@ -106,7 +125,7 @@ fn lent(variant: Variant, case: Case, random: &mut Random) -> Call {
 }
 
 /// The call once more, with scratch of other contents.
-fn with_other_scratch(mut call: Call) -> Call {
+pub fn with_other_scratch(mut call: Call) -> Call {
     call.scratches.push(call.scratches[0].wrapping_add(1));
     call
 }
@@ -119,8 +138,8 @@ fn answer_length(case: Case, random: &mut Random) -> Call {
 }
 
 /// C or W is what the check takes, one short, or in between.
-fn tight(case: &Case, random: &mut Random) -> Call {
-    let mut tight = room::chosen(case.job.clone(), case.asked, random);
+pub fn tight(case: &Case, random: &mut Random) -> Call {
+    let mut tight = room::chosen(case.job.clone(), case.asked, case.mode, random);
     tight.fill = case.fill;
     lent(Variant::Tight, tight, random)
 }
@@ -152,7 +171,7 @@ fn scratch_length(mut case: Case, random: &mut Random) -> Call {
 }
 
 /// One of the job's proofs, the first one, or one that the job has not.
-fn any_proof(case: &Case, random: &mut Random) -> u32 {
+pub fn any_proof(case: &Case, random: &mut Random) -> u32 {
     let proofs = case.job.get(10).copied().unwrap_or(0);
     match random.below(8) {
         0..=3 => random.below(proofs.max(1) as usize) as u32,
@@ -168,11 +187,13 @@ fn other_proof(mut case: Case, random: &mut Random) -> Call {
 }
 
 /// A call of the host entry; whose case it is, is said afterwards.
-fn bytes(variant: Variant, job: Vec<u8>, asked: u32, random: &mut Random) -> Call {
+pub fn bytes(variant: Variant, job: Vec<u8>, asked: u32, random: &mut Random) -> Call {
+    let mode = None;
     Call {
         source: Source::Job,
         variant,
-        input: Input::Bytes { job, asked },
+        judge: Judge::Rust,
+        input: Input::Bytes { job, asked, mode },
         answer: ANSWER,
         scratches: vec![random.word() as u32],
     }

@@ -3,7 +3,7 @@
 
 use std::collections::BTreeMap;
 
-use at_scale::{Call, Input, Source, Variant};
+use at_scale::{Call, Input, Judge, Source, Variant};
 use generator::{Case, EXTREMES};
 use job::Tables;
 use job::primitives::COUNTING;
@@ -47,6 +47,7 @@ fn compare(kind: u32, places: &[usize], numbers: &mut BTreeMap<u32, usize>) {
         let call = Call {
             source: Source::CountingJob,
             variant: Variant::AsMade,
+            judge: Judge::Rust,
             input: Input::Words(Case::new(call(kind, places), 0, cells, pool)),
             answer: 8,
             scratches: vec![kind],

@@ -82,7 +82,7 @@ fn an_answer_of_another_length_that_is_written() {
     });
     assert_eq!(written.1, Part::Answer);
     let host = found_after(|call, left| {
-        if call.answer == 16 && matches!(call.input, Input::Bytes { .. }) {
+        if call.answer == 16 && matches!(call.input, Input::Bytes { mode: None, .. }) {
             left.answer[15] ^= 1;
         }
     });

@@ -4,9 +4,10 @@ use std::fs;
 use std::path::{Path, PathBuf};
 use std::process::{Command, Output};
 
-use generator::{counting_job, holding_job, job};
+use generator::{condition_job, counting_job, holding_job, job};
 use job::Tables;
 use job::limits::PROGRAM_BYTES;
+use job::modes::PLAIN;
 use tools::{print, program, to_bytes};
 
 fn root() -> PathBuf {
@@ -79,6 +80,7 @@ fn behaves(program: &Path, name: &str) {
     prints(program, &["job_b.bin"], "26 4 12 0 0 0 0 0\n");
     prints(program, &["job_b.bin", "7"], "20 4 7 0 1 1 0 0\n");
     prints(program, &["job_b.bin", "4294967295"], "3 0 0 0 0 0 0 0\n");
+    behaves_in_modes(program);
     let whole = filled(PROGRAM_BYTES);
     let longer = filled(PROGRAM_BYTES + 4);
     let inputs = [
@@ -98,8 +100,31 @@ fn behaves(program: &Path, name: &str) {
     fails(program, &["missing.bin"]);
     fails(program, &["."]);
     fails(program, &[]);
-    for asked in ["", "x", "-1", "4294967296", "1x"] {
-        fails(program, &["job_a.bin", asked]);
+    fails(program, &["job_a.bin", "0", "0", "0"]);
+    for text in ["", "x", "-1", "4294967296", "1x"] {
+        fails(program, &["job_a.bin", text]);
+        fails(program, &["job_a.bin", "0", text]);
+    }
+}
+
+/// Jobs A and B alike in both modes, the east flank not; other modes are 11, behind 3.
+fn behaves_in_modes(program: &Path) {
+    for mode in ["0", "1"] {
+        prints(program, &["job_a.bin", "1", mode], "0 1 0 0 2 0 0 0\n");
+        prints(program, &["job_b.bin", "7", mode], "20 4 7 0 1 1 0 0\n");
+        prints(program, &["job_b.bin", "13", mode], "3 0 0 0 0 0 0 0\n");
+        prints(program, &["east_flank.bin", "1", mode], "0 5 2 0 2 0 0 0\n");
+    }
+    prints(program, &["east_flank.bin"], "0 5 3 1 2 0 0 0\n");
+    prints(program, &["east_flank.bin", "3", "0"], "0 5 3 1 2 0 0 0\n");
+    prints(program, &["east_flank.bin", "3", "1"], "46 5 6 0 0 0 0 0\n");
+    for mode in ["2", "256", "257", "4294967295"] {
+        prints(
+            program,
+            &["east_flank.bin", "3", mode],
+            "11 0 0 0 0 0 0 0\n",
+        );
+        prints(program, &["east_flank.bin", "4", mode], "3 0 0 0 0 0 0 0\n");
     }
 }
 
@@ -116,7 +141,7 @@ fn the_caller_in_rust() {
 #[test]
 fn null_pointers() {
     let program = built_c("compare/at_scale/tests/nothing_lent.c", "nothing_lent");
-    prints(&program, &[], "10 1 10 1 10 10 ");
+    prints(&program, &[], "10 1 10 1 1 10 1 10 10 11 ");
 }
 
 /// A job of so many bytes that is accepted where it is not too long: literals, variables, one fiat.
@@ -153,23 +178,38 @@ fn deepest() -> Vec<u8> {
     to_bytes(&tables.words())
 }
 
+/// What a proved program prints.
+#[track_caller]
+fn printed(program: &str, input: &[u8]) -> String {
+    let path = root().join("target/bin").join(program);
+    assert!(
+        path.exists(),
+        "there is no target/bin/{program}: run `rt check` first"
+    );
+    program::printed(path.to_str().expect("a name"), input)
+}
+
 /// The proved program prints what the Rust says.
 #[track_caller]
 fn program_agrees(input: &[u8]) {
-    let path = root().join("target/bin/checkproof");
-    assert!(
-        path.exists(),
-        "there is no target/bin/checkproof: run `rt check` first"
+    let expected = program::answer(input, PLAIN).expect("few steps");
+    assert_eq!(
+        printed("checkproof", input),
+        print::answer(&expected) + "\n"
     );
-    let expected = program::answer(input).expect("few steps");
-    let printed = program::printed(path.to_str().expect("a name"), input);
-    assert_eq!(printed, print::answer(&expected) + "\n");
+}
+
+/// The jobs that stand in examples/.
+fn examples() -> Vec<Vec<u8>> {
+    ["job_a.bin", "job_b.bin", "tilt.bin", "east_flank.bin"]
+        .map(|file| fs::read(root().join("examples").join(file)).expect("an example"))
+        .into()
 }
 
 #[test]
 fn the_program_on_the_examples_and_no_job() {
-    for file in ["job_a.bin", "job_b.bin", "tilt.bin"] {
-        program_agrees(&fs::read(root().join("examples").join(file)).expect("an example"));
+    for example in examples() {
+        program_agrees(&example);
     }
     program_agrees(&[]);
     program_agrees(&[0; 47]);
@@ -207,7 +247,7 @@ fn the_program_on_a_job_cut_off() {
 
 #[test]
 fn the_program_on_generated_jobs() {
-    for made in [job, counting_job] {
+    for made in [job, counting_job, condition_job] {
         let jobs = (0..).map(|seed| to_bytes(&made(seed).job));
         let short = jobs.filter(|job| job.len() <= PROGRAM_BYTES);
         for job in short.take(300) {

@@ -9,22 +9,24 @@ mod towers;
 use generator::{Case, extremes};
 use job::Tables;
 use job::limits::{CELLS, STORE_CELLS, STORE_POOL};
+use job::modes::{PLAIN, STRICT};
 
 use crate::last_proof;
 
 pub use stacks::{Deep, by_bytes, by_words};
 
-/// A job with a number of steps, up to the most.
+/// A job with a number of steps, up to the most, in a mode.
 pub struct Hostile {
     pub name: &'static str,
     pub most: usize,
+    pub mode: u32,
     pub tables: fn(usize) -> Tables,
 }
 
 impl Hostile {
     /// The job with so many steps, and the largest store lent.
     pub fn case(&self, steps: usize) -> Case {
-        with_largest_room(&(self.tables)(steps))
+        with_largest_room(&(self.tables)(steps)).in_mode(self.mode)
     }
 }
 
@@ -38,7 +40,23 @@ fn with_largest_room(tables: &Tables) -> Case {
 const STEPS: usize = CELLS as usize - 1;
 
 const fn hostile(name: &'static str, most: usize, tables: fn(usize) -> Tables) -> Hostile {
-    Hostile { name, most, tables }
+    let mode = PLAIN;
+    Hostile {
+        name,
+        most,
+        mode,
+        tables,
+    }
+}
+
+const fn strict(name: &'static str, most: usize, tables: fn(usize) -> Tables) -> Hostile {
+    let mode = STRICT;
+    Hostile {
+        name,
+        most,
+        mode,
+        tables,
+    }
 }
 
 const TOWERS: &[Hostile] = &[
@@ -75,6 +93,16 @@ const TOWERS: &[Hostile] = &[
         "a deep container condition, 4,096 rows",
         STEPS,
         towers::rows,
+    ),
+    strict(
+        "15 deep bare conditions, strict",
+        STEPS,
+        towers::bare_conditions,
+    ),
+    strict(
+        "a deep bare condition, 4,096 rows, strict",
+        STEPS,
+        towers::bare_rows,
     ),
     hostile("64 unions of deep calls of rows", STEPS, towers::row_unions),
     hostile(

@@ -46,6 +46,7 @@ impl<'a> Lent<'a> {
                 sizercobalt::check_here(
                     &self.case.job,
                     self.case.asked,
+                    self.case.mode,
                     &mut self.kinds,
                     &mut self.ends,
                     &mut self.pool,
@@ -54,7 +55,8 @@ impl<'a> Lent<'a> {
                 )
             },
             Entry::Bytes => unsafe {
-                sizercobalt::check_bytes_here(&self.bytes, self.case.asked, &mut self.answer)
+                let Case { asked, mode, .. } = *self.case;
+                sizercobalt::check_bytes_mode_here(&self.bytes, asked, mode, &mut self.answer)
             },
         };
     }
@@ -66,7 +68,8 @@ impl<'a> Lent<'a> {
                 self.check_proof();
             }
             Entry::Bytes => {
-                oracle::check_bytes(&self.bytes, self.case.asked, &mut self.answer)
+                let Case { asked, mode, .. } = *self.case;
+                oracle::check_bytes_mode(&self.bytes, asked, mode, &mut self.answer)
                     .expect("few steps");
             }
         }
@@ -77,6 +80,7 @@ impl<'a> Lent<'a> {
         let checked = oracle::check_here(
             &self.case.job,
             self.case.asked,
+            self.case.mode,
             &mut self.kinds,
             &mut self.ends,
             &mut self.pool,

@@ -1,6 +1,7 @@
 //! The jobs of the benchmark, by sets.
 
 mod chains;
+mod conditions;
 mod counts;
 mod every_kind;
 mod names;
@@ -9,6 +10,7 @@ mod wide;
 
 use generator::{Case, extremes, holding_job};
 use job::limits::{PROGRAM_CELLS, PROGRAM_POOL};
+use job::modes::STRICT;
 use job::{Job, Table, Tables};
 
 use crate::lent::Entry;
@@ -43,6 +45,13 @@ fn one(name: &'static str, tables: Tables) -> Set {
     }
 }
 
+/// The same set in strict mode.
+fn strict(name: &'static str, tables: Tables) -> Set {
+    let Set { entry, cases, .. } = one(name, tables);
+    let cases = cases.into_iter().map(|case| case.in_mode(STRICT)).collect();
+    Set { name, entry, cases }
+}
+
 /// All sets, in the order in which they are printed. Those of terms wait for the index of request Q-4.
 pub fn all() -> Vec<Set> {
     vec![
@@ -64,6 +73,8 @@ pub fn all() -> Vec<Set> {
         one("names: 4,096 normalisers", names::normalisers(4_096)),
         one("counts: 1,000 sums", counts::computed(1_000)),
         one("counts: 1,000 sums by rows", counts::looked_up(1_000)),
+        one("conditions: 1,000 steps, mode 0", conditions::swaps(1_000)),
+        strict("conditions: 1,000 steps, strict", conditions::swaps(1_000)),
         one("terms: 2,000", terms::flat(2_000)),
         one("terms: 10,000", terms::flat(10_000)),
         one("terms: rules 1,000 deep", extremes::deep_rules(1_000)),

@@ -1,12 +1,14 @@
 //! A job together with what is lent for its check.
 
 use job::limits::{ANSWER, scratch_words};
+use job::modes::PLAIN;
 use oracle::{TooManySteps, check};
 
 #[derive(Clone, PartialEq, Eq, Debug)]
 pub struct Case {
     pub job: Vec<u32>,
     pub asked: u32,
+    pub mode: u32,
     /// The lengths of the lent arrays.
     pub kinds: usize,
     pub ends: usize,
@@ -26,18 +28,24 @@ pub struct Outcome {
 }
 
 impl Case {
-    /// A case with equal arrays and as much scratch as the check needs.
+    /// A case in mode 0, with equal arrays and as much scratch as the check needs.
     pub fn new(job: Vec<u32>, asked: u32, cells: usize, pool: usize) -> Case {
         let proofs = job.get(10).copied().unwrap_or(0) as usize;
         Case {
             job,
             asked,
+            mode: PLAIN,
             kinds: cells,
             ends: cells,
             pool,
             scratch: scratch_words(cells, proofs.min(1 << 16)),
             fill: 0,
         }
+    }
+
+    /// The same in another mode.
+    pub fn in_mode(self, mode: u32) -> Case {
+        Case { mode, ..self }
     }
 
     fn lent(&self, array: u32, length: usize) -> Vec<u32> {
@@ -70,6 +78,7 @@ impl Case {
         check(
             &self.job,
             self.asked,
+            self.mode,
             &mut outcome.kinds,
             &mut outcome.ends,
             &mut outcome.pool,

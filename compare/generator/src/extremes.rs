@@ -1,10 +1,14 @@
 //! Deep and wide jobs, and jobs with sizes at and one past their limits.
 
+mod conditions;
+
 use job::limits;
 use job::primitives::{COUNTING, DIFFERENCE, NEGATION, SUM};
 use job::{Table, Tables};
 
 use crate::random::Random;
+
+pub use conditions::{condition_towers, deep_conditions};
 
 /// The names of an application, a rule and two variables.
 pub const F: u32 = 4;

@@ -1,6 +1,7 @@
 //! Steps that are to be refused, each aimed at one number.
 
 mod bury;
+mod conditions;
 mod counts;
 mod fact_flaws;
 mod merges;
@@ -28,9 +29,15 @@ pub const AIMED_IN_GLOBALS: [u32; 3] = [45, 46, 51];
 /// The numbers that a step of a counting world is aimed at more often.
 const AIMED_BY_COUNTS: [u32; 6] = [29, 30, 42, 46, 46, 46];
 
+/// The numbers that a step of a world with conditions is aimed at more often.
+const AIMED_BY_CONDITIONS: [u32; 8] = [45, 45, 45, 46, 46, 46, 49, 51];
+
 impl World {
     /// A number that a step can be aimed at.
     pub fn any_aim(&mut self) -> u32 {
+        if self.conditions && self.random.once_in(2) {
+            return self.random.pick(&AIMED_BY_CONDITIONS);
+        }
         match self.counting && self.random.once_in(4) {
             true => self.random.pick(&AIMED_BY_COUNTS),
             false => self.random.pick(&AIMED),
@@ -39,6 +46,13 @@ impl World {
 
     /// Appends a step that is to be refused with this number.
     pub fn flawed_step(&mut self, number: u32) -> Flawed {
+        if self.conditions
+            && number == 46
+            && self.random.once_in(4)
+            && let Some(flawed) = self.instance_without_row()
+        {
+            return flawed;
+        }
         match number {
             20 => self.wrong_claim(),
             21 => self.wrong_middle(),

@@ -5,21 +5,23 @@ use job::Table;
 use crate::flaws::AIMED_IN_GLOBALS;
 use crate::names::{NEW, OLD};
 use crate::random::Random;
+use crate::setting::Setting;
 use crate::world::{Pair, World};
 
 impl World {
     /// A world with globals and the fiats that they give.
-    pub fn start(random: Random, counting: bool) -> World {
-        World::start_with(random, counting, false)
+    pub fn start(random: Random, setting: Setting) -> World {
+        World::start_with(random, setting, false)
     }
 
     /// A world whose globals have no value, aimed at one of their numbers.
-    pub fn start_with_flaw(random: Random, counting: bool) -> World {
-        World::start_with(random, counting, true)
+    pub fn start_with_flaw(random: Random, setting: Setting) -> World {
+        World::start_with(random, setting, true)
     }
 
-    fn start_with(random: Random, counting: bool, flawed: bool) -> World {
-        let mut world = World::empty(random, counting);
+    fn start_with(random: Random, setting: Setting, flawed: bool) -> World {
+        let counting = setting.counting;
+        let mut world = World::empty(random, setting);
         for _ in 0..world.random.below(4) {
             let kind = world.random.pick(&[0, 1, 1, 2, 3, 3]);
             world.new_primitive(kind);

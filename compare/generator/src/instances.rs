@@ -73,6 +73,9 @@ impl World {
 
     fn bare_premise(&mut self, expression: u32, working: &Bindings) -> Option<u32> {
         if self.is_container_call(expression) {
+            if self.conditions {
+                self.evaluate(expression, working, &mut Vec::new())?;
+            }
             return Some(self.unchecked_premise());
         }
         let value = self.evaluate(expression, working, &mut Vec::new())?;
@@ -86,7 +89,7 @@ impl World {
             .clone()
     }
 
-    fn is_container_call(&self, expression: u32) -> bool {
+    pub fn is_container_call(&self, expression: u32) -> bool {
         let cell = &self.tables.of(Table::Expressions)[expression as usize];
         cell.kind == 4 && primitives::gives_containers(self.primitive_kind(cell.words[0]))
     }

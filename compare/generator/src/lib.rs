@@ -2,6 +2,7 @@
 
 mod case;
 mod compact;
+mod conditions;
 mod count_facts;
 mod counting;
 mod counts;
@@ -18,28 +19,34 @@ mod random;
 mod roles;
 pub mod room;
 mod rules;
+mod setting;
 mod steps;
 mod world;
 
+use job::modes::{PLAIN, STRICT};
 use job::{Table, Tables};
 
 pub use case::{Case, Outcome};
 pub use counts::EXTREMES;
 pub use random::Random;
+pub use setting::OTHER_MODES;
 
+use setting::Setting;
 use world::World;
 
-/// Tells the random numbers of a seed's counting case from those of its other one.
+/// Tell the random numbers of a seed's counting case and of its case with conditions from those of its
+/// first one.
 const COUNTING: u64 = 0x636f_756e_7469_6e67;
+const CONDITIONS: u64 = 0x636f_6e64_6974_696f;
 
 /// The case of a seed; the same on every machine.
 pub fn job(seed: u64) -> Case {
     let mut random = Random::new(seed);
     let random = &mut random;
     let case = match random.below(1_000) {
-        0..=2 => extreme(extremes::at_limit(random), random),
-        3..=5 => extreme(extremes::deep_or_wide(random), random),
-        chance => in_a_world(chance, random.clone(), false),
+        0..=2 => extreme(extremes::at_limit(random), PLAIN, random),
+        3..=5 => extreme(extremes::deep_or_wide(random), PLAIN, random),
+        chance => in_a_world(chance, random.clone(), Setting::default()),
     };
     filled(case, random)
 }
@@ -50,8 +57,21 @@ pub fn counting_job(seed: u64) -> Case {
     let mut random = Random::new(seed ^ COUNTING);
     let random = &mut random;
     let case = match random.below(1_000) {
-        0..=5 => extreme(extremes::deep_counts(random), random),
-        chance => in_a_world(chance, random.clone(), true),
+        0..=5 => extreme(extremes::deep_counts(random), PLAIN, random),
+        chance => in_a_world(chance, random.clone(), Setting::counting()),
+    };
+    filled(case, random)
+}
+
+/// A case of a seed whose rules have bare container conditions, mostly in strict mode; the same on every
+/// machine.
+pub fn condition_job(seed: u64) -> Case {
+    let mut random = Random::new(seed ^ CONDITIONS);
+    let random = &mut random;
+    let setting = Setting::with_conditions(random);
+    let case = match random.below(1_000) {
+        0..=5 => extreme(extremes::deep_conditions(random), setting.mode, random),
+        chance => in_a_world(chance, random.clone(), setting),
     };
     filled(case, random)
 }
@@ -63,15 +83,15 @@ fn filled(mut case: Case, random: &mut Random) -> Case {
 }
 
 /// A case by one of the ways, as the chance says; of 1,000 chances the first six are left out.
-fn in_a_world(chance: usize, random: Random, counting: bool) -> Case {
+fn in_a_world(chance: usize, random: Random, setting: Setting) -> Case {
     match chance {
-        6..=15 => nested_job(random, counting),
-        16..=104 => malformed_job(random, counting),
-        105..=154 => damaged_words(random, counting),
-        155..=349 => damaged_cells(random, counting),
-        350..=749 => aimed(random, counting),
-        750..=784 => aimed_in_globals(random, counting),
-        _ => holding(random, counting),
+        6..=15 => nested_job(random, setting),
+        16..=104 => malformed_job(random, setting),
+        105..=154 => damaged_words(random, setting),
+        155..=349 => damaged_cells(random, setting),
+        350..=749 => aimed(random, setting),
+        750..=784 => aimed_in_globals(random, setting),
+        _ => holding(random, setting),
     }
 }
 
@@ -89,19 +109,29 @@ fn forward(mut world: World) -> World {
 
 /// A job all of whose proofs hold.
 pub fn holding_job(seed: u64) -> Case {
-    all_hold(Random::new(seed), false)
+    all_hold(Random::new(seed), Setting::default())
 }
 
 /// A job with primitives of kinds 4 to 8, all of whose proofs hold.
 pub fn holding_counting_job(seed: u64) -> Case {
-    all_hold(Random::new(seed), true)
+    all_hold(Random::new(seed), Setting::counting())
 }
 
-fn all_hold(random: Random, counting: bool) -> Case {
-    let world = forward(World::start(random, counting));
+/// A job with bare container conditions, all of whose proofs hold in strict mode.
+pub fn holding_condition_job(seed: u64) -> Case {
+    let mut random = Random::new(seed);
+    let setting = Setting {
+        mode: STRICT,
+        ..Setting::with_conditions(&mut random)
+    };
+    all_hold(random, setting)
+}
+
+fn all_hold(random: Random, setting: Setting) -> Case {
+    let world = forward(World::start(random, setting));
     let asked = world.proof_count() - 1;
     let (tables, _) = finished(world);
-    room::ample(tables.words(), asked)
+    room::ample(tables.words(), asked).in_mode(setting.mode)
 }
 
 /// The job's tables with terms left out, and the random numbers that follow.
@@ -115,15 +145,16 @@ fn finished(world: World) -> (Tables, Random) {
 }
 
 /// Some room for the job.
-fn with_room(words: Vec<u32>, asked: u32, random: &mut Random) -> Case {
-    match random.below(10) {
-        0..=2 => room::chosen(words, asked, random),
+fn with_room(words: Vec<u32>, asked: u32, mode: u32, random: &mut Random) -> Case {
+    let case = match random.below(10) {
+        0..=2 => room::chosen(words, asked, mode, random),
         3 if random.once_in(3) => room::refused(words, asked, random),
         _ => room::ample(words, asked),
-    }
+    };
+    case.in_mode(mode)
 }
 
-fn extreme(tables: Tables, random: &mut Random) -> Case {
+fn extreme(tables: Tables, mode: u32, random: &mut Random) -> Case {
     let asked = tables.count(Table::Proofs).saturating_sub(1);
     let asked = match random.once_in(8) {
         true => 0,
@@ -131,35 +162,35 @@ fn extreme(tables: Tables, random: &mut Random) -> Case {
     };
     let words = tables.words();
     match random.once_in(3) {
-        true => room::chosen(words, asked, random),
-        false => room::ample(words, asked),
+        true => room::chosen(words, asked, mode, random),
+        false => room::ample(words, asked).in_mode(mode),
     }
 }
 
-fn nested_job(mut random: Random, counting: bool) -> Case {
+fn nested_job(mut random: Random, setting: Setting) -> Case {
     let length = match random.once_in(10) {
         true => random.between(20, 200),
         false => random.between(1, 6),
     };
-    let tables = nested::nested(&mut random, length, counting);
+    let tables = nested::nested(&mut random, length, setting);
     let asked = tables.count(Table::Proofs) - 1;
-    with_room(tables.words(), asked, &mut random)
+    with_room(tables.words(), asked, setting.mode, &mut random)
 }
 
-fn holding(random: Random, counting: bool) -> Case {
-    let world = forward(World::start(random, counting));
+fn holding(random: Random, setting: Setting) -> Case {
+    let world = forward(World::start(random, setting));
     let last = world.proof_count() - 1;
     let (tables, mut random) = finished(world);
     let asked = match random.once_in(6) {
         true => random.below(last as usize + 1) as u32,
         false => last,
     };
-    with_room(tables.words(), asked, &mut random)
+    with_room(tables.words(), asked, setting.mode, &mut random)
 }
 
 /// A job with a flaw, sometimes below further steps.
-fn aimed(random: Random, counting: bool) -> Case {
-    let mut world = forward(World::start(random, counting));
+fn aimed(random: Random, setting: Setting) -> Case {
+    let mut world = forward(World::start(random, setting));
     let number = world.any_aim();
     let mut flawed = world.flawed_step(number);
     if world.random.once_in(8) {
@@ -171,44 +202,45 @@ fn aimed(random: Random, counting: bool) -> Case {
         flawed = world.bury(flawed);
     }
     let (tables, mut random) = finished(world);
-    with_room(tables.words(), flawed.proof, &mut random)
+    with_room(tables.words(), flawed.proof, setting.mode, &mut random)
 }
 
-fn aimed_in_globals(random: Random, counting: bool) -> Case {
-    let mut world = World::start_with_flaw(random, counting);
+fn aimed_in_globals(random: Random, setting: Setting) -> Case {
+    let mut world = World::start_with_flaw(random, setting);
     world.any_step();
     let asked = world.proof_count() - 1;
     let (tables, mut random) = finished(world);
-    with_room(tables.words(), asked, &mut random)
+    with_room(tables.words(), asked, setting.mode, &mut random)
 }
 
-fn damaged_cells(random: Random, counting: bool) -> Case {
-    let world = forward(World::start(random, counting));
+fn damaged_cells(random: Random, setting: Setting) -> Case {
+    let world = forward(World::start(random, setting));
     let asked = world.proof_count() - 1;
     let (mut tables, mut random) = finished(world);
-    let primitive_kind = if counting { 9 } else { 3 };
+    let primitive_kind = if setting.counting { 9 } else { 3 };
     for _ in 0..random.pick(&[1, 1, 1, 2, 3, 6]) {
         damage::damage_cell(&mut tables, primitive_kind, &mut random);
     }
-    with_room(tables.words(), asked, &mut random)
+    with_room(tables.words(), asked, setting.mode, &mut random)
 }
 
-fn damaged_words(random: Random, counting: bool) -> Case {
-    let world = forward(World::start(random, counting));
+fn damaged_words(random: Random, setting: Setting) -> Case {
+    let world = forward(World::start(random, setting));
     let asked = world.proof_count() - 1;
     let (tables, mut random) = finished(world);
     let mut words = tables.words();
     for _ in 0..random.pick(&[1, 1, 2, 4]) {
         damage::damage_word(&mut words, &mut random);
     }
-    with_room(words, asked, &mut random)
+    with_room(words, asked, setting.mode, &mut random)
 }
 
-fn malformed_job(random: Random, counting: bool) -> Case {
-    let world = forward(World::start(random, counting));
+fn malformed_job(random: Random, setting: Setting) -> Case {
+    let world = forward(World::start(random, setting));
     let asked = world.proof_count() - 1;
     let (tables, mut random) = finished(world);
     let number = random.pick(&malformed::AIMED_BY_FORM);
-    let (words, asked) = malformed::malformed(tables, asked, (number, counting), &mut random);
-    with_room(words, asked, &mut random)
+    let (words, asked) =
+        malformed::malformed(tables, asked, (number, setting.counting), &mut random);
+    with_room(words, asked, setting.mode, &mut random)
 }

@@ -5,6 +5,7 @@ use job::primitives::SUM;
 use job::{Table, Tables};
 
 use crate::random::Random;
+use crate::setting::Setting;
 
 const C: u32 = 4;
 const G: u32 = 5;
@@ -31,9 +32,9 @@ enum Premise {
 
 /// Step i proves t(i) = t(i+1) from the step below; c(t(i)) is t(i+1) by rows, and where it counts,
 /// t(i) + 1 is t(i+1).
-pub fn nested(random: &mut Random, length: usize, counting: bool) -> Tables {
+pub fn nested(random: &mut Random, length: usize, setting: Setting) -> Tables {
     let mut tables = Tables::default();
-    let least = match counting {
+    let least = match setting.counting {
         true => start_of_counts(random, length as i64 + 1),
         false => 0,
     };
@@ -47,8 +48,8 @@ pub fn nested(random: &mut Random, length: usize, counting: bool) -> Tables {
     for pair in terms.windows(2) {
         tables.row(primitive, pair[1], &pair[..1]);
     }
-    let sum = counting.then(|| tables.primitive(SUM, S));
-    let opposite = rule(&mut tables, primitive, sum, random);
+    let sum = setting.counting.then(|| tables.primitive(SUM, S));
+    let opposite = rule(&mut tables, primitive, sum, setting.conditions, random);
     assuming_rule(&mut tables);
     let mut below = tables.fiat((terms[0], terms[1]));
     for step in 1..=length {
@@ -86,11 +87,13 @@ fn start_of_counts(random: &mut Random, more: i64) -> i64 {
 }
 
 /// y = x, z = c(x) and G(x), some more than once, in any order; the head evaluates c(x) again. With a
-/// sum c is of x + 0, there are facts x + 1, and the head evaluates that.
+/// sum c is of x + 0, there are facts x + 1, and the head evaluates that. With conditions there are bare
+/// c(x), and seldom c(z).
 fn rule(
     tables: &mut Tables,
     primitive: u32,
     sum: Option<u32>,
+    conditions: bool,
     random: &mut Random,
 ) -> Vec<Premise> {
     let [x, y, z, w] = [X, Y, Z, W].map(|name| tables.variable(name));
@@ -106,6 +109,10 @@ fn rule(
     if sum.is_some() {
         facts.push((tables.bare(next), Premise::Next));
     }
+    if conditions {
+        let bare = bare_conditions(tables, container, (primitive, z), random);
+        facts.extend(bare.map(|fact| (fact, Premise::Unchecked)));
+    }
     for place in (1..facts.len()).rev() {
         facts.swap(place, random.below(place + 1));
     }
@@ -117,6 +124,27 @@ fn rule(
     let numbers: Vec<u32> = facts.iter().map(|fact| fact.0).collect();
     tables.rule(RULE, &numbers, &actions);
     facts.iter().map(|fact| fact.1).collect()
+}
+
+/// Bare conditions c(x), some one fact, and seldom one c(z).
+fn bare_conditions(
+    tables: &mut Tables,
+    container: u32,
+    (primitive, z): (u32, u32),
+    random: &mut Random,
+) -> impl Iterator<Item = u32> {
+    let mut facts = vec![tables.bare(container)];
+    for _ in 0..random.below(3) {
+        facts.push(match random.once_in(2) {
+            true => facts[0],
+            false => tables.bare(container),
+        });
+    }
+    if random.once_in(4) {
+        let call = tables.primitive_call(primitive, &[z]);
+        facts.push(tables.bare(call));
+    }
+    facts.into_iter()
 }
 
 /// The container call, and the call with the next term as its value.

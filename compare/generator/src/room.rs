@@ -22,10 +22,10 @@ pub fn ample(job: Vec<u32>, asked: u32) -> Case {
     Case::new(job, asked, terms + 900, pool + 4_000)
 }
 
-/// A case whose room is chosen with regard to what the check takes.
-pub fn chosen(job: Vec<u32>, asked: u32, random: &mut Random) -> Case {
+/// A case whose room is chosen with regard to what the check takes in this mode.
+pub fn chosen(job: Vec<u32>, asked: u32, mode: u32, random: &mut Random) -> Case {
     let (terms, pool) = own_room(&job);
-    let case = ample(job, asked);
+    let case = ample(job, asked).in_mode(mode);
     let (cells_taken, pool_taken) = match case.judge() {
         Ok(outcome) if outcome.number() == 0 || outcome.number() >= 20 => {
             (outcome.terms(), outcome.pool_words())
@@ -40,7 +40,7 @@ pub fn chosen(job: Vec<u32>, asked: u32, random: &mut Random) -> Case {
         4 => (cells_taken, random.between(pool, pool_taken)),
         _ => (cells_taken.saturating_sub(1), pool_taken.saturating_sub(1)),
     };
-    Case::new(case.job, asked, cells, pool)
+    Case::new(case.job, asked, cells, pool).in_mode(mode)
 }
 
 /// A case that 10 refuses, where nothing lower applies.

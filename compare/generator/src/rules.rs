@@ -72,8 +72,10 @@ impl World {
             0 => self.random.between(5, job::limits::FACTS),
             _ => self.random.below(4),
         };
-        for _ in 0..facts {
-            self.plan_fact(&mut plan);
+        for _ in 0..facts + usize::from(self.conditions) {
+            if plan.facts.len() < job::limits::FACTS {
+                self.plan_fact(&mut plan);
+            }
         }
         self.plan_head(&mut plan);
         plan
@@ -81,6 +83,9 @@ impl World {
 
     pub fn plan_fact(&mut self, plan: &mut Plan) {
         self.note_integers(&plan.working);
+        if self.conditions && self.random.once_in(2) {
+            return self.plan_bare_condition(plan);
+        }
         if self.counting && self.random.once_in(4) {
             let bare = self.random.once_in(3);
             return self.plan_count(plan, bare);
@@ -140,6 +145,9 @@ impl World {
 
     /// A name that is not bound; past the usual ones where chance finds none.
     pub fn fresh_name(&mut self, plan: &Plan) -> u32 {
+        if let Some(name) = self.name_in_a_call(plan) {
+            return name;
+        }
         for _ in 0..200 {
             let place = self.random.below(48);
             let name = self.names.variable(place);
@@ -236,6 +244,7 @@ impl World {
         let count = self.counting && self.random.once_in(3);
         let fact = match self.random.below(6) {
             _ if count => self.condition_on_count(plan),
+            0 if self.conditions => self.evaluated_condition(plan),
             0 => self.bare_condition(plan),
             1 => self.condition_on_known(plan),
             2 => self.condition_on_call(plan),
@@ -256,7 +265,7 @@ impl World {
         }
     }
 
-    /// A bare container call passes unevaluated, whatever is unbound in it.
+    /// In mode 0 a bare container call passes unevaluated, whatever is unbound in it.
     fn bare_condition(&mut self, plan: &mut Plan) -> Option<u32> {
         let primitive = self.some_primitive(&[2, 3]);
         let mut names = plan.names();

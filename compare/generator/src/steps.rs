@@ -19,6 +19,9 @@ pub struct Views {
 impl World {
     /// Appends a step that holds.
     pub fn any_step(&mut self) -> Proved {
+        if self.conditions && self.random.once_in(2) {
+            return self.rule_step();
+        }
         if self.counting && self.random.once_in(8) {
             return self.merge_step();
         }

@@ -8,6 +8,7 @@ use job::{Table, Tables};
 use crate::names::Names;
 use crate::random::Random;
 use crate::rules::Plan;
+use crate::setting::Setting;
 
 /// From names to terms.
 pub type Bindings = BTreeMap<u32, u32>;
@@ -50,12 +51,14 @@ pub struct World {
     assumption: Option<u32>,
     /// There are primitives of kinds 4 to 8, and integers at their extremes.
     pub counting: bool,
+    /// Rules have bare container conditions, each with a value unless it is a flaw.
+    pub conditions: bool,
     /// The names that were bound to integers when last looked at; of a counting world only.
     pub integer_names: Vec<u32>,
 }
 
 impl World {
-    pub fn empty(mut random: Random, counting: bool) -> World {
+    pub fn empty(mut random: Random, setting: Setting) -> World {
         let names = Names::any(&mut random);
         World {
             random,
@@ -70,7 +73,8 @@ impl World {
             absent_rows: HashSet::new(),
             nodes: Vec::new(),
             assumption: None,
-            counting,
+            counting: setting.counting,
+            conditions: setting.conditions,
             integer_names: Vec::new(),
         }
     }

@@ -1,9 +1,10 @@
-//! The job layout of document 01: reading it, writing it, and the refusals 1 to 10.
+//! The job layout of document 01: reading it, writing it, and the refusals 1 to 11.
 
 pub mod build;
 pub mod layout;
 pub mod limits;
 pub mod load;
+pub mod modes;
 pub mod primitives;
 pub mod tables;
 

@@ -1,4 +1,4 @@
-//! The refusals 1 to 10, from document 01 alone.
+//! The refusals 1 to 10, from document 01 alone, and 11, from request Q-1.
 
 mod duplicates;
 mod forms;
@@ -6,7 +6,7 @@ mod references;
 mod validators;
 
 use crate::layout::{Job, Table};
-use crate::limits;
+use crate::{limits, modes};
 
 /// The lengths of what the caller lends.
 #[derive(Clone, Copy, PartialEq, Eq, Debug)]
@@ -30,8 +30,8 @@ impl Refusal {
     }
 }
 
-/// The lowest number that applies among 1 to 10, if any.
-pub fn refusal(words: &[u32], asked: u32, lent: &Lent) -> Option<Refusal> {
+/// The lowest number that applies among 1 to 10, if any; 11 is looked for right after 3.
+pub fn refusal(words: &[u32], asked: u32, mode: u32, lent: &Lent) -> Option<Refusal> {
     let Some(job) = Job::read(words) else {
         return Refusal::plain(1);
     };
@@ -40,6 +40,9 @@ pub fn refusal(words: &[u32], asked: u32, lent: &Lent) -> Option<Refusal> {
     }
     if asked >= job.sizes.count(Table::Proofs) {
         return Refusal::plain(3);
+    }
+    if !modes::known(mode) {
+        return Refusal::plain(11);
     }
     if !job.ends_formed() {
         return Refusal::plain(5);

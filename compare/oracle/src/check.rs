@@ -4,13 +4,14 @@ use std::thread;
 use std::time::{Duration, Instant};
 
 use job::limits;
-use job::{Job, Lent, Table, refusal};
+use job::{Job, Lent, Table, modes, refusal};
 
 use crate::answer::{self, Answer};
 use crate::panics;
 use crate::program;
 use crate::proofs::proof_format::ProofStore;
 use crate::store;
+use crate::strict;
 use crate::util::Room;
 
 /// The text would take more steps than are waited for; there is no answer.
@@ -21,17 +22,19 @@ pub struct TooManySteps;
 const SHALLOW: usize = 64;
 const DEEP_STACK: usize = 512 << 20;
 
-/// The check with lent arrays. Writes the answer and, on 0 and from 20 up, the store's words.
+/// The check with lent arrays, in a mode. Writes the answer and, on 0 and from 20 up, the store's words.
+#[allow(clippy::too_many_arguments)]
 pub fn check(
     job: &[u32],
     asked: u32,
+    mode: u32,
     kinds: &mut [u32],
     ends: &mut [u32],
     pool: &mut [u32],
     scratch: usize,
     answer: &mut [u32],
 ) -> Result<u32, TooManySteps> {
-    let mut run = || check_here(job, asked, kinds, ends, pool, scratch, answer);
+    let mut run = || check_here(job, asked, mode, kinds, ends, pool, scratch, answer);
     let (number, _) = match is_shallow(job) {
         true => run()?,
         false => on_deep_stack(run)?,
@@ -40,9 +43,11 @@ pub fn check(
 }
 
 /// The same on the caller's stack, and what `check_proof` took of the time.
+#[allow(clippy::too_many_arguments)]
 pub fn check_here(
     job: &[u32],
     asked: u32,
+    mode: u32,
     kinds: &mut [u32],
     ends: &mut [u32],
     pool: &mut [u32],
@@ -58,22 +63,29 @@ pub fn check_here(
         pool: pool.len(),
         scratch,
     };
-    let (words, took) = match refusal(job, asked, &lent) {
+    let (words, took) = match refusal(job, asked, mode, &lent) {
         Some(refusal) => {
             let words = answer::words(refusal.number, 0, &[refusal.cell]);
             (words, Duration::ZERO)
         }
-        None => {
-            let job = Job::read(job).expect("a job that passed the load checks");
-            judge(&job, asked, kinds, ends, pool)?
-        }
+        None => judge_in_mode(job, asked, mode, kinds, ends, pool)?,
     };
     answer.copy_from_slice(&words);
     Ok((words[0], took))
 }
 
-/// The host entry: a job as bytes, with the program's own store.
+/// The host entry: a job as bytes, with the program's own store, in mode 0.
 pub fn check_bytes(bytes: &[u8], asked: u32, answer: &mut [u32]) -> Result<u32, TooManySteps> {
+    check_bytes_mode(bytes, asked, modes::PLAIN, answer)
+}
+
+/// The host entry that takes a mode.
+pub fn check_bytes_mode(
+    bytes: &[u8],
+    asked: u32,
+    mode: u32,
+    answer: &mut [u32],
+) -> Result<u32, TooManySteps> {
     if answer.len() != limits::ANSWER {
         return Ok(10);
     }
@@ -90,7 +102,7 @@ pub fn check_bytes(bytes: &[u8], asked: u32, answer: &mut [u32]) -> Result<u32, 
     let mut pool = vec![0; limits::PROGRAM_POOL];
     let scratch = limits::scratch_words(limits::PROGRAM_CELLS, limits::CELLS as usize);
     check(
-        &job, asked, &mut kinds, &mut ends, &mut pool, scratch, answer,
+        &job, asked, mode, &mut kinds, &mut ends, &mut pool, scratch, answer,
     )
 }
 
@@ -115,7 +127,25 @@ pub fn on_deep_stack<R: Send>(run: impl FnOnce() -> R + Send) -> R {
     })
 }
 
-/// Runs `check_proof` on a job that passed the load checks; what it took.
+/// Judges a job that passed the load checks; in strict mode by what it is rewritten to.
+fn judge_in_mode(
+    words: &[u32],
+    asked: u32,
+    mode: u32,
+    kinds: &mut [u32],
+    ends: &mut [u32],
+    pool: &mut [u32],
+) -> Result<(Answer, Duration), TooManySteps> {
+    let rewritten = match mode {
+        modes::STRICT => strict::rewritten(words),
+        _ => None,
+    };
+    let words = rewritten.as_deref().unwrap_or(words);
+    let job = Job::read(words).expect("a job that passed the load checks");
+    judge(&job, asked, kinds, ends, pool)
+}
+
+/// Runs `check_proof`; what it took.
 fn judge(
     job: &Job,
     asked: u32,

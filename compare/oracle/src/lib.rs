@@ -25,9 +25,10 @@ mod names;
 mod panics;
 mod program;
 mod store;
+mod strict;
 
 pub use crate::core::ResolvedCall;
-pub use check::{TooManySteps, check, check_bytes, check_here, on_deep_stack};
+pub use check::{TooManySteps, check, check_bytes, check_bytes_mode, check_here, on_deep_stack};
 pub use generic_ast::Literal;
 pub use numeric_id::{DenseIdMap, NumericId};
 pub use termdag::{Term, TermDag, TermId};

@@ -4,6 +4,7 @@ mod common;
 
 use common::{Room, answer, expect, run, run_in};
 use job::Tables;
+use job::modes::PLAIN;
 use oracle::{TooManySteps, check};
 
 const F: u32 = 4;
@@ -82,6 +83,7 @@ fn shared_expressions_have_no_answer() {
     let result = check(
         &tables.words(),
         0,
+        PLAIN,
         &mut [0; 100],
         &mut [0; 100],
         &mut [0; 300],

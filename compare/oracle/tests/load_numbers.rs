@@ -4,6 +4,7 @@ mod common;
 
 use common::{Room, WIDE, expect, run, run_asked, run_in, run_words};
 use job::limits;
+use job::modes::PLAIN;
 use job::{Table, Tables};
 use oracle::{check, check_bytes};
 
@@ -424,7 +425,10 @@ fn with_lengths(kinds: usize, ends: usize, scratch: usize, answer: &mut [u32]) -
     let (mut kinds, mut ends) = (vec![7; kinds], vec![7; ends]);
     let mut pool = [7; 3];
     let words = small().words();
-    check(&words, 0, &mut kinds, &mut ends, &mut pool, scratch, answer).expect("few steps")
+    check(
+        &words, 0, PLAIN, &mut kinds, &mut ends, &mut pool, scratch, answer,
+    )
+    .expect("few steps")
 }
 
 #[test]

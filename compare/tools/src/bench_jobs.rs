@@ -1,5 +1,5 @@
 //! Jobs A and B of document 01 as cases: the twelve marked ones and the unmarked ones. A job whose
-//! primitives compute.
+//! primitives compute, and one whose rule has a bare container condition.
 
 use generator::Case;
 use job::primitives::{PRODUCT, QUOTIENT, SUM};
@@ -166,4 +166,35 @@ fn tilt_program(tables: &mut Tables) {
     let level = tables.constructor(LEVEL, &[station]);
     let head = tables.union_action(level, by);
     tables.rule(LEVELLED, &[fact], &[head]);
+}
+
+const POSITION: u32 = 4;
+const NARROWED: u32 = 5;
+const EXACT: u32 = 6;
+const SINGLES: u32 = 7;
+const NARROWING: u32 = 11;
+
+/// A rule takes the narrowing to single precision away where the position is exact: `narrowing(x) = x`
+/// if `exact(x)`, a bare container condition. The rows say that 2^24 is; 2^24 + 3, which no single is,
+/// has none. Proof 1 is the rule's step for the first position, proof 3 that for the second: in mode 0
+/// both are accepted, in strict mode the second is refused with 46.
+pub fn east_flank() -> Tables {
+    let mut tables = Tables::default();
+    let positions = [1 << 24, (1 << 24) + 3].map(|value| tables.term_integer(value));
+    let narrowed = positions.map(|position| tables.term_application(NARROWING, &[position]));
+    let singles = tables.term_application(SINGLES, &[positions[0]]);
+    let exact = tables.primitive(3, EXACT);
+    tables.row(exact, singles, &[positions[0]]);
+    let position = tables.variable(POSITION);
+    let call = tables.primitive_call(exact, &[position]);
+    let condition = tables.bare(call);
+    let narrowing = tables.constructor(NARROWING, &[position]);
+    let head = tables.union_action(narrowing, position);
+    tables.rule(NARROWED, &[condition], &[head]);
+    for i in 0..2 {
+        let premise = tables.fiat((positions[i], positions[i]));
+        let pairs = [(POSITION, positions[i])];
+        tables.rule_step((narrowed[i], positions[i]), NARROWED, &[premise], &pairs);
+    }
+    tables
 }

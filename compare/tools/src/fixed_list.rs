@@ -6,6 +6,7 @@ use std::collections::{BTreeMap, BTreeSet};
 
 use generator::{Case, Outcome};
 use job::limits;
+use job::modes::PLAIN;
 
 use crate::bench_jobs;
 use telling::TELLING;
@@ -205,6 +206,7 @@ fn read_entry<'a>(take: &mut impl FnMut(usize) -> &'a [u32]) -> Read {
         case: Case {
             job,
             asked: head[1],
+            mode: PLAIN,
             kinds: head[2] as usize,
             ends: head[3] as usize,
             pool: head[4] as usize,

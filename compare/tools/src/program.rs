@@ -1,18 +1,18 @@
-//! The program checkproof by the Rust, and what a program prints.
+//! The programs checkproof and modes by the Rust, and what a program prints.
 
 use std::io::{ErrorKind, Write};
 use std::process::{Command, Stdio};
 
 use job::limits::ANSWER;
-use oracle::{TooManySteps, check_bytes};
+use oracle::{TooManySteps, check_bytes_mode};
 
 use crate::to_words;
 
-/// The program's answer to an input: its own store, and the last proof; without proofs 3.
-pub fn answer(input: &[u8]) -> Result<[u32; ANSWER], TooManySteps> {
+/// A program's answer to an input in a mode: its own store, and the last proof; without proofs 3.
+pub fn answer(input: &[u8], mode: u32) -> Result<[u32; ANSWER], TooManySteps> {
     let proofs = to_words(input).get(10).copied().unwrap_or(0);
     let mut answer = [0; ANSWER];
-    check_bytes(input, proofs.wrapping_sub(1), &mut answer)?;
+    check_bytes_mode(input, proofs.wrapping_sub(1), mode, &mut answer)?;
     Ok(answer)
 }
 

@@ -3,6 +3,8 @@
 use std::fs;
 use std::path::Path;
 
+use job::modes::{PLAIN, STRICT};
+use oracle::check_bytes_mode;
 use tools::{bench_jobs, doubling, program, to_bytes};
 
 /// What `checkproof` prints for a job.
@@ -22,6 +24,26 @@ fn checkproof_on_tilt_counts() {
     let example = Path::new(env!("CARGO_MANIFEST_DIR")).join("../../examples/tilt.bin");
     assert!(fs::read(example).expect("the example") == job);
     assert_eq!(printed(&job), "0 11 7 5 3 0 0 0\n");
+}
+
+/// In mode 0 both steps are accepted, in strict mode the first alone.
+#[test]
+fn checkproof_on_the_east_flank() {
+    let job = to_bytes(&bench_jobs::east_flank().words());
+    let example = Path::new(env!("CARGO_MANIFEST_DIR")).join("../../examples/east_flank.bin");
+    assert!(fs::read(example).expect("the example") == job);
+    assert_eq!(printed(&job), "0 5 3 1 2 0 0 0\n");
+    for (asked, mode, expected) in [
+        (1, PLAIN, [0, 5, 2, 0, 2, 0, 0, 0]),
+        (3, PLAIN, [0, 5, 3, 1, 2, 0, 0, 0]),
+        (1, STRICT, [0, 5, 2, 0, 2, 0, 0, 0]),
+        (3, STRICT, [46, 5, 6, 0, 0, 0, 0, 0]),
+        (3, 2, [11, 0, 0, 0, 0, 0, 0, 0]),
+    ] {
+        let mut answer = [7; 8];
+        check_bytes_mode(&job, asked, mode, &mut answer).expect("few steps");
+        assert_eq!(answer, expected);
+    }
 }
 
 #[test]

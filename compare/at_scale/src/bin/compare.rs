@@ -1,5 +1,5 @@
 //! Holds the proved library against the Rust: compare [FIRST [COUNT]], seeds 0 to 199,999 unless told otherwise,
-//! the job and the counting job of each.
+//! the job and the counting job of each, in both modes, and the job with bare container conditions of every second.
 //! One line if there is no difference; else the first one found, and status 1. Standard error says how far it is.
 //! compare FIRST COUNT details: after the line, how often each number and each variant came up.
 

@@ -4,6 +4,7 @@ use generator::Case;
 use generator::extremes::{F, RULE, X, Y, deep_symmetry};
 use job::Tables;
 use job::limits::{CELLS, PROGRAM_CELLS, PROGRAM_POOL};
+use job::modes::STRICT;
 
 use super::ground::{ONE, literal};
 use super::with_largest_room;
@@ -73,13 +74,16 @@ fn function_fact(levels: usize, steps: usize) -> Tables {
     tables
 }
 
-/// The lowest step has a condition with a container's tower on its right.
-fn condition(levels: usize, steps: usize) -> Tables {
+/// The lowest step has a condition with a container's tower on its right, or of it alone.
+fn condition(levels: usize, steps: usize, bare: bool) -> Tables {
     let mut tables = literal();
     let primitive = tables.primitive(3, BOX);
     tables.row(primitive, ONE, &[ONE]);
     let top = (0..levels).fold(ONE, |below, _| tables.primitive_call(primitive, &[below]));
-    let fact = tables.equality(ONE, top);
+    let fact = match bare {
+        true => tables.bare(top),
+        false => tables.equality(ONE, top),
+    };
     let head = tables.expression_action(ONE);
     tables.rule(LOWEST, &[fact], &[head]);
     let premise = tables.fiat((ONE, ONE));
@@ -125,18 +129,18 @@ pub fn by_words() -> Vec<Deep> {
         ),
         (
             "rule steps over a condition",
-            condition(CELLS_MOST - 2, CELLS_MOST - 2),
+            condition(CELLS_MOST - 2, CELLS_MOST - 2, false),
         ),
         (
             "rule steps over a merge",
             merge(CELLS_MOST - 3, CELLS_MOST - 2),
         ),
     ];
-    all.map(|(name, tables)| Deep {
-        name,
-        case: with_largest_room(&tables),
-    })
-    .into()
+    let strict = (
+        "rule steps over a bare condition, strict",
+        condition(CELLS_MOST - 2, CELLS_MOST - 2, true),
+    );
+    deep_jobs(all, strict, with_largest_room)
 }
 
 /// As deep as a job of 65,536 bytes may be.
@@ -148,17 +152,32 @@ pub fn by_bytes() -> Vec<Deep> {
         ("rule steps over a head, half each", head(2_000, 1_190)),
         (
             "rule steps over a condition, half each",
-            condition(2_000, 1_188),
+            condition(2_000, 1_188, false),
         ),
     ];
-    all.map(|(name, tables)| Deep {
-        name,
-        case: Case::new(
-            tables.words(),
-            last_proof(&tables),
-            PROGRAM_CELLS,
-            PROGRAM_POOL,
-        ),
+    let strict = (
+        "rule steps over a bare condition, strict",
+        condition(2_000, 1_188, true),
+    );
+    deep_jobs(all, strict, |tables| {
+        let asked = last_proof(tables);
+        Case::new(tables.words(), asked, PROGRAM_CELLS, PROGRAM_POOL)
     })
-    .into()
+}
+
+/// Jobs in mode 0, and one in strict mode behind them.
+fn deep_jobs<const COUNT: usize>(
+    plain: [(&'static str, Tables); COUNT],
+    strict: (&'static str, Tables),
+    case: fn(&Tables) -> Case,
+) -> Vec<Deep> {
+    let deep = |(name, tables): (&'static str, Tables)| Deep {
+        name,
+        case: case(&tables),
+    };
+    let mut jobs: Vec<Deep> = plain.into_iter().map(deep).collect();
+    let Deep { name, case } = deep(strict);
+    let case = case.in_mode(STRICT);
+    jobs.push(Deep { name, case });
+    jobs
 }

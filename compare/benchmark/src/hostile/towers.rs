@@ -136,9 +136,8 @@ fn boxes(tables: &mut Tables, levels: usize, width: usize) -> u32 {
     })
 }
 
-/// Steps by a rule with conditions, all but the first of so many facts; the premises opposite are not checked.
-fn climb_by_conditions(tables: &mut Tables, top: u32, facts: usize, steps: usize) {
-    let condition = tables.equality(top, top);
+/// Steps by a rule with this condition as all but the first of so many facts; the premises opposite are not checked.
+fn climb_by_conditions(tables: &mut Tables, condition: u32, facts: usize, steps: usize) {
     let mut facts = vec![condition; facts];
     facts[0] = tables.bare(ONE);
     let head = tables.expression_action(ONE);
@@ -150,7 +149,18 @@ pub fn conditions(steps: usize) -> Tables {
     let mut tables = literal();
     let top = boxes(&mut tables, LEVELS, 1);
     tables.row(0, ONE, &[ONE]);
-    climb_by_conditions(&mut tables, top, FACTS, steps);
+    let condition = tables.equality(top, top);
+    climb_by_conditions(&mut tables, condition, FACTS, steps);
+    tables
+}
+
+/// Each of 15 conditions is such a tower alone, which strict mode evaluates.
+pub fn bare_conditions(steps: usize) -> Tables {
+    let mut tables = literal();
+    let top = boxes(&mut tables, LEVELS, 1);
+    tables.row(0, ONE, &[ONE]);
+    let condition = tables.bare(top);
+    climb_by_conditions(&mut tables, condition, FACTS, steps);
     tables
 }
 
@@ -172,7 +182,17 @@ fn boxes_found_last(tables: &mut Tables) -> u32 {
 pub fn rows(steps: usize) -> Tables {
     let mut tables = literal();
     let top = boxes_found_last(&mut tables);
-    climb_by_conditions(&mut tables, top, 2, steps);
+    let condition = tables.equality(top, top);
+    climb_by_conditions(&mut tables, condition, 2, steps);
+    tables
+}
+
+/// One condition that is such a tower alone.
+pub fn bare_rows(steps: usize) -> Tables {
+    let mut tables = literal();
+    let top = boxes_found_last(&mut tables);
+    let condition = tables.bare(top);
+    climb_by_conditions(&mut tables, condition, 2, steps);
     tables
 }
 

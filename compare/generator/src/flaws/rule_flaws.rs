@@ -18,14 +18,7 @@ impl World {
         if number == 46 && self.counting && self.random.once_in(2) {
             self.bind_no_integer(&mut plan);
         }
-        match number {
-            28..=30 | 42 | 47 | 49 | 50 | 52 => self.insert_flawed_fact(&mut plan, number),
-            45 | 46 | 51 => match self.random.once_in(2) {
-                true => self.insert_flawed_fact(&mut plan, number),
-                false => self.insert_flawed_action(&mut plan, number),
-            },
-            _ => {}
-        }
+        self.insert_flaw(&mut plan, number);
         let surplus = plan.facts.len().saturating_sub(job::limits::FACTS);
         plan.facts.drain(..surplus);
         if number != 32 {
@@ -40,6 +33,25 @@ impl World {
         }
         let proof = self.push_rule_step(&plan, claimed);
         self.flawed(proof, claimed)
+    }
+
+    /// Puts the flaw into a fact or, for 45, 46 and 51, into the head; others stand elsewhere.
+    fn insert_flaw(&mut self, plan: &mut Plan, number: u32) {
+        if self.conditions && self.random.once_in(6) {
+            let other = self.random.pick(&[45, 46, 49, 51]);
+            self.insert_flawed_condition(plan, other);
+        }
+        match number {
+            45 | 46 | 49 | 51 if self.conditions && !self.random.once_in(3) => {
+                self.insert_flawed_condition(plan, number)
+            }
+            28..=30 | 42 | 47 | 49 | 50 | 52 => self.insert_flawed_fact(plan, number),
+            45 | 46 | 51 => match self.random.once_in(2) {
+                true => self.insert_flawed_fact(plan, number),
+                false => self.insert_flawed_action(plan, number),
+            },
+            _ => {}
+        }
     }
 
     /// A pair that holds, but hardly by this head; or any other pair.

@@ -2,6 +2,7 @@
 #![allow(dead_code)]
 
 use job::limits::scratch_words;
+use job::modes::{PLAIN, STRICT};
 use job::{Job, Table, Tables};
 use oracle::check;
 
@@ -44,7 +45,21 @@ pub fn run_asked(tables: &Tables, asked: u32) -> Ran {
     run_words(&tables.words(), asked, &WIDE)
 }
 
+/// Asks for the last proof in strict mode, with room enough.
+pub fn run_strict(tables: &Tables) -> Ran {
+    run_strict_in(tables, &WIDE)
+}
+
+pub fn run_strict_in(tables: &Tables, room: &Room) -> Ran {
+    let asked = tables.count(Table::Proofs) - 1;
+    run_words_mode(&tables.words(), asked, STRICT, room)
+}
+
 pub fn run_words(words: &[u32], asked: u32, room: &Room) -> Ran {
+    run_words_mode(words, asked, PLAIN, room)
+}
+
+pub fn run_words_mode(words: &[u32], asked: u32, mode: u32, room: &Room) -> Ran {
     let proofs = words.get(10).copied().unwrap_or(0).min(4_096) as usize;
     let scratch = scratch_words(room.cells, proofs);
     let mut kinds = lent(1, room.cells);
@@ -54,6 +69,7 @@ pub fn run_words(words: &[u32], asked: u32, room: &Room) -> Ran {
     let number = check(
         words,
         asked,
+        mode,
         &mut kinds,
         &mut ends,
         &mut pool,

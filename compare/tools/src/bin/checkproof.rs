@@ -3,6 +3,7 @@
 use std::io::Read;
 
 use job::limits::PROGRAM_BYTES;
+use job::modes::PLAIN;
 use tools::{print, program};
 
 fn main() {
@@ -11,7 +12,7 @@ fn main() {
         .take(PROGRAM_BYTES as u64 + 1)
         .read_to_end(&mut input)
         .expect("a readable input");
-    match program::answer(&input) {
+    match program::answer(&input, PLAIN) {
         Ok(answer) => println!("{}", print::answer(&answer)),
         Err(_) => {
             eprintln!("too many steps");

@@ -1,10 +1,10 @@
 //! How often each number is the answer: histogram [seeds], 200,000 unless told otherwise; of the seeds'
-//! jobs, then of their counting jobs.
+//! jobs, of their counting jobs, then of their jobs with bare container conditions, each in its mode.
 
 use std::collections::BTreeMap;
 use std::time::Instant;
 
-use generator::{Case, counting_job, job};
+use generator::{Case, condition_job, counting_job, job};
 
 const SEEDS: u64 = 200_000;
 
@@ -15,6 +15,7 @@ fn main() {
     };
     histogram("job", job, seeds);
     histogram("counting job", counting_job, seeds);
+    histogram("condition job", condition_job, seeds);
 }
 
 /// Prints the numbers of the cases that the seeds make.

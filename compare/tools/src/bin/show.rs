@@ -1,9 +1,10 @@
 //! Prints a job and the Rust's answer.
 //!
-//!     show FILE [ASKED]      a job as bytes, with the program's store
-//!     show --seed SEED       the generator's case of a seed
-//!     show --counting SEED   its counting case
-//!     show --fixed FILE N    the Nth job of a fixed list
+//!     show FILE [ASKED [MODE]]   a job as bytes, with the program's store
+//!     show --seed SEED           the generator's case of a seed
+//!     show --counting SEED       its counting case
+//!     show --condition SEED      its case with bare container conditions
+//!     show --fixed FILE N        the Nth job of a fixed list
 
 use std::fs;
 
@@ -18,6 +19,7 @@ fn main() {
     let case = match arguments[..] {
         ["--seed", seed] => generator::job(number(seed)),
         ["--counting", seed] => generator::counting_job(number(seed)),
+        ["--condition", seed] => generator::condition_job(number(seed)),
         ["--fixed", file, place] => {
             let words = to_words(&fs::read(file).expect("a list"));
             fixed_list::read(&words)[number(place) as usize]
@@ -26,8 +28,13 @@ fn main() {
         }
         [file] => from_file(file, None),
         [file, asked] => from_file(file, Some(number(asked) as u32)),
+        [file, asked, mode] => {
+            from_file(file, Some(number(asked) as u32)).in_mode(number(mode) as u32)
+        }
         _ => {
-            eprintln!("show FILE [ASKED] | --seed SEED | --counting SEED | --fixed FILE N");
+            eprintln!(
+                "show FILE [ASKED [MODE]] | --seed SEED | --counting SEED | --condition SEED | --fixed FILE N"
+            );
             std::process::exit(2);
         }
     };
@@ -44,8 +51,8 @@ fn from_file(file: &str, asked: Option<u32>) -> Case {
 fn show(case: &Case) {
     print!("{}", print::job(&case.job));
     println!(
-        "asked {} kinds {} ends {} pool {} scratch {}",
-        case.asked, case.kinds, case.ends, case.pool, case.scratch
+        "asked {} mode {} kinds {} ends {} pool {} scratch {}",
+        case.asked, case.mode, case.kinds, case.ends, case.pool, case.scratch
     );
     match case.judge() {
         Ok(outcome) => {
