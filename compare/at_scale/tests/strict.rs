@@ -1,6 +1,7 @@
 //! Strict mode by the library: each hand-made job in both modes, with all eight words and every word of
 //! the store, by words and by bytes; other modes, and the order of 11.
 
+#[macro_use]
 #[path = "../../oracle/tests/strict_jobs/mod.rs"]
 mod strict_jobs;
 
@@ -92,75 +93,7 @@ fn hold(jobs: Vec<HandMade>) {
     });
 }
 
-#[test]
-fn number_45() {
-    hold(strict_jobs::number_45());
-}
-
-#[test]
-fn number_46() {
-    hold(strict_jobs::number_46());
-}
-
-#[test]
-fn number_51() {
-    hold(strict_jobs::number_51());
-}
-
-#[test]
-fn number_53() {
-    hold(strict_jobs::number_53());
-}
-
-#[test]
-fn over_sums() {
-    hold(strict_jobs::over_sums());
-}
-
-#[test]
-fn any_value_passes() {
-    hold(strict_jobs::any_value());
-}
-
-#[test]
-fn under_the_bindings_of_that_moment() {
-    hold(strict_jobs::bound());
-}
-
-#[test]
-fn it_binds_nothing() {
-    hold(strict_jobs::binds_nothing());
-}
-
-#[test]
-fn facts_that_stand_twice() {
-    hold(strict_jobs::shared_facts());
-}
-
-#[test]
-fn its_premise_is_not_checked() {
-    hold(strict_jobs::unchecked_premises());
-}
-
-#[test]
-fn in_the_order_of_the_facts() {
-    hold(strict_jobs::order());
-}
-
-#[test]
-fn after_its_normal_form() {
-    hold(strict_jobs::normal_forms());
-}
-
-#[test]
-fn what_strict_mode_leaves_alone() {
-    hold(strict_jobs::left_alone());
-}
-
-#[test]
-fn more_variables_than_expressions_may_be() {
-    hold(strict_jobs::full_tables());
-}
+hold_each_list!();
 
 /// Job A, and it with one thing wrong: the words, the asked proof, and what is refused without a mode.
 fn refused_jobs() -> Vec<(Vec<u32>, u32, u32)> {

@@ -2,6 +2,7 @@
 //! all eight words and every word of the store; other modes, and the order of 11.
 
 mod common;
+#[macro_use]
 mod strict_jobs;
 
 use common::{Ran, Room, WIDE, expect, run_words_mode};
@@ -27,75 +28,7 @@ fn hold(jobs: Vec<HandMade>) {
     }
 }
 
-#[test]
-fn number_45() {
-    hold(strict_jobs::number_45());
-}
-
-#[test]
-fn number_46() {
-    hold(strict_jobs::number_46());
-}
-
-#[test]
-fn number_51() {
-    hold(strict_jobs::number_51());
-}
-
-#[test]
-fn number_53() {
-    hold(strict_jobs::number_53());
-}
-
-#[test]
-fn over_sums() {
-    hold(strict_jobs::over_sums());
-}
-
-#[test]
-fn any_value_passes() {
-    hold(strict_jobs::any_value());
-}
-
-#[test]
-fn under_the_bindings_of_that_moment() {
-    hold(strict_jobs::bound());
-}
-
-#[test]
-fn it_binds_nothing() {
-    hold(strict_jobs::binds_nothing());
-}
-
-#[test]
-fn facts_that_stand_twice() {
-    hold(strict_jobs::shared_facts());
-}
-
-#[test]
-fn its_premise_is_not_checked() {
-    hold(strict_jobs::unchecked_premises());
-}
-
-#[test]
-fn in_the_order_of_the_facts() {
-    hold(strict_jobs::order());
-}
-
-#[test]
-fn after_its_normal_form() {
-    hold(strict_jobs::normal_forms());
-}
-
-#[test]
-fn what_strict_mode_leaves_alone() {
-    hold(strict_jobs::left_alone());
-}
-
-#[test]
-fn more_variables_than_expressions_may_be() {
-    hold(strict_jobs::full_tables());
-}
+hold_each_list!();
 
 /// One literal and its fiat.
 fn small() -> Tables {

@@ -13,6 +13,24 @@ pub use bindings::{binds_nothing, bound, shared_facts};
 pub use numbers::{any_value, number_45, number_46, number_51, number_53, over_sums};
 pub use order::{full_tables, left_alone, normal_forms, order, unchecked_premises};
 
+/// One test for each list of jobs, which calls `hold` with it.
+macro_rules! hold_each_list {
+    () => {
+        hold_each_list! {
+            number_45 number_46 number_51 number_53 over_sums any_value bound binds_nothing shared_facts
+            unchecked_premises order normal_forms left_alone full_tables
+        }
+    };
+    ($($list:ident)+) => {
+        $(
+            #[test]
+            fn $list() {
+                hold(strict_jobs::$list());
+            }
+        )+
+    };
+}
+
 /// Names.
 const F: u32 = 5;
 const RULE: u32 = 6;
