@@ -40,22 +40,18 @@ fn with_largest_room(tables: &Tables) -> Case {
 const STEPS: usize = CELLS as usize - 1;
 
 const fn hostile(name: &'static str, most: usize, tables: fn(usize) -> Tables) -> Hostile {
-    let mode = PLAIN;
     Hostile {
         name,
         most,
-        mode,
+        mode: PLAIN,
         tables,
     }
 }
 
 const fn strict(name: &'static str, most: usize, tables: fn(usize) -> Tables) -> Hostile {
-    let mode = STRICT;
     Hostile {
-        name,
-        most,
-        mode,
-        tables,
+        mode: STRICT,
+        ..hostile(name, most, tables)
     }
 }
 

@@ -3,6 +3,7 @@
 use std::fs;
 use std::path::Path;
 
+use job::Tables;
 use job::modes::{PLAIN, STRICT};
 use oracle::check_bytes_mode;
 use tools::{bench_jobs, doubling, program, to_bytes};
@@ -10,6 +11,15 @@ use tools::{bench_jobs, doubling, program, to_bytes};
 /// What `checkproof` prints for a job.
 fn printed(bytes: &[u8]) -> String {
     program::printed(env!("CARGO_BIN_EXE_checkproof"), bytes)
+}
+
+/// The bytes of a bench job, which are those of its file.
+#[track_caller]
+fn example(tables: &Tables, file: &str) -> Vec<u8> {
+    let examples = Path::new(env!("CARGO_MANIFEST_DIR")).join("../../examples");
+    let bytes = to_bytes(&tables.words());
+    assert!(fs::read(examples.join(file)).expect("the example") == bytes);
+    bytes
 }
 
 #[test]
@@ -20,18 +30,14 @@ fn checkproof_on_job_a() {
 
 #[test]
 fn checkproof_on_tilt_counts() {
-    let job = to_bytes(&bench_jobs::tilt().words());
-    let example = Path::new(env!("CARGO_MANIFEST_DIR")).join("../../examples/tilt.bin");
-    assert!(fs::read(example).expect("the example") == job);
+    let job = example(&bench_jobs::tilt(), "tilt.bin");
     assert_eq!(printed(&job), "0 11 7 5 3 0 0 0\n");
 }
 
 /// In mode 0 both steps are accepted, in strict mode the first alone.
 #[test]
 fn checkproof_on_the_east_flank() {
-    let job = to_bytes(&bench_jobs::east_flank().words());
-    let example = Path::new(env!("CARGO_MANIFEST_DIR")).join("../../examples/east_flank.bin");
-    assert!(fs::read(example).expect("the example") == job);
+    let job = example(&bench_jobs::east_flank(), "east_flank.bin");
     assert_eq!(printed(&job), "0 5 3 1 2 0 0 0\n");
     for (asked, mode, expected) in [
         (1, PLAIN, [0, 5, 2, 0, 2, 0, 0, 0]),
