@@ -4,7 +4,8 @@ use mathlib.Core.Bool.{Bool}
 use mathlib.Core.List.{List, [], _++_, append-nil}
 use Prim.Native.Nat.{ℕ, suc, _+_, _-_, _<_, _≤_}
 use native.Mathlib.Omega.{arith}
-use lib.Dec.{eqb, lit<}
+use lib.Dec.{ltb, lit<}
+use borrow.Author.Tests.{ltb-false}
 use lib.ListN.{length, getD, take, drop, length-map, length-drop, length-append, drop-of-length-le}
 use lib.Seq.{getD-drop, take-take, take-at, drop-at, length-take-le}
 use borrow.Rule.Slice.PartMut.{midOf, putMid, same-len-mid, take-put}
@@ -32,13 +33,13 @@ use Rattle.normal_form.specs.Search.{Searched}
 use Rattle.evaluate.specs.Evaluation.{Sane}
 use Rattle.context.specs.Contexts.{GlobalPairs, Context}
 use Rattle.context.specs.declared.Globals.{Globals}
-use Rattle.turns.specs.Walking.{Flags, Ground, Walks, contextOf}
+use Rattle.turns.specs.Walking.{Flags, Heights, Ground, Walks, contextOf}
 use Rattle.walk.proofs.Justifying.{fuel-for}
 use Rattle.check_proof.specs.Checking.{Given}
 
 -- no proof is checked yet
 pub flags-none : (W : List ℕ) (c n m : ℕ) → c + c ≤ length W → Flags c (putMid (c + c) (length W - (c + c)) W (zeros m)) n []
-flags-none W c n m h = record { is = λ p l. ap (λ (x : ℕ). eqb x 1) (word p) }
+flags-none W c n m h = record { is = λ p l. ap (ltb 0) (word p) }
   where
     none : drop (length W - (c + c)) (drop (c + c) W) ≡ []
     none = drop-of-length-le (drop (c + c) W) {i = length W - (c + c)} (simp length-drop (omega arith))
@@ -49,6 +50,10 @@ flags-none W c n m h = record { is = λ p l. ap (λ (x : ℕ). eqb x 1) (word p)
 
     word : (p : ℕ) → getD (putMid (c + c) (length W - (c + c)) W (zeros m)) (c + c + p) 0 ≡ 0
     word p = sym (getD-drop (c + c) (putMid (c + c) (length W - (c + c)) W (zeros m)) p 0) ∙ ap (λ (x : List ℕ). getD x p 0) behind ∙ zeros-at m p
+
+-- so no height is noted
+pub heights-none : {J : List ℕ} {c : ℕ} {W : List ℕ} → Flags c W (sizesOf J .proofs) [] → Heights J c W
+heights-none {c = c} {W = W} w = record { is = λ p l z. let x = ltb-false 0 (getD W (c + c + p) 0) (w .is p l) in absurd (omega arith) }
 
 -- the marks of the global pairs stay
 pub marks-kept : (M R Z : List ℕ) (c k : ℕ) → length M ≡ c → c + c ≤ length (M ++ R) → take c (putMid (c + c) k (M ++ R) Z) ≡ M
@@ -77,8 +82,8 @@ module _ {J : List ℕ} {k e p : List ℕ} {f : Fill} {W : List ℕ} (g : Given 
     same-context : contextOf G (C .context .pairs) ≡ C .context
     same-context = ap {B = ActionContext} (λ (σ : List Binding). record { bindings = σ; pairs = C .context .pairs }) (ap readBindings gq ∙ sym (C .bindings n))
 
-    pub check-ground : {F memo W₁ : List ℕ} → Searched J F → memo ≡ memo₁ → sizesOf J .expressions + sizesOf J .expressions < length memo → length W₁ ≡ length W → Ground J F G k₁ e₁ p₁ (r .fill) memo W₁
-    check-ground {memo = memo} F mq fits lW = record {
+    pub check-ground : {F memo W₁ : List ℕ} → Searched J F → memo ≡ memo₁ → sizesOf J .expressions + sizesOf J .expressions < length memo → length W₁ ≡ length W → Flags (length k₁) W₁ (sizesOf J .proofs) [] → Ground J F G k₁ e₁ p₁ (r .fill) memo W₁
+    check-ground {memo = memo} F mq fits lW fl = record {
       ready = g .ready;
       searched = F;
       stored = C .does .grown .stored;
@@ -87,6 +92,7 @@ module _ {J : List ℕ} {k e p : List ℕ} {f : Fill} {W : List ℕ} (g : Given 
       fits = fits;
       past = subst⁻¹ Past mq (C .past n);
       long = let a = g .long in let b = C .does .grown .lenK in omega arith;
+      heights = heights-none fl;
     }
 
     pub check-walks : {F W₁ k₂ e₂ p₂ : List ℕ} {f₂ : Fill} {c : Refusal} {memo₂ W₂ : List ℕ} → take (length k₁) W₁ ≡ m₁ → Flags (length k₁) W₁ (sizesOf J .proofs) []

@@ -4,16 +4,18 @@ use context::new_context;
 use normal_form::find_offences;
 use outcome::Checked;
 use walk::walk;
+ghost use mathlib.Core.Path.{_≡_};
 ghost use Prim.Native.Nat.{_<_};
 ghost use Rattle.model.specs.Layout.{sizesOf};
 ghost use Rattle.model.specs.Walk.{claimAt, checkProof};
+ghost use Rattle.model.specs.Height.{height};
 ghost use Rattle.termdag.specs.Store.{termsIn, roomOf};
 ghost use Rattle.outcome.specs.Does.{Does};
 ghost use Rattle.program.specs.Ready.{programFor};
 ghost use Rattle.program.specs.Read.{proofsFor};
 ghost use Rattle.check_proof.specs.Checking.{Given};
 
-// The outcome of the asked proof, in strict mode or not: passed, or a refusal. Whatever scratch held makes no difference.
+// The outcome of the asked proof, in strict mode or not: passed, with its height as value, or a refusal. Whatever scratch held makes no difference.
 pub fn check_proof(
     job: &[u32],
     strict: bool,
@@ -26,7 +28,8 @@ pub fn check_proof(
 ) -> Checked
     requires { ⌜ Given (now job) (now skinds) (now sends) (now spool) fill (now scratch) ⌝ }
     requires { ⌜ asked < sizesOf (now job) .proofs ⌝ }
-    ensures { λ r. ⌜ Does (now (skinds .entry)) (now (sends .entry)) (now (spool .entry)) fill (now (skinds .exit)) (now (sends .exit)) (now (spool .exit)) (r .fill) (r .refusal) (claimAt (proofsFor (now (job .entry))) asked) (checkProof (roomOf (now (skinds .entry)) (now (spool .entry))) (programFor (now (job .entry))) (proofsFor (now (job .entry))) strict asked (termsIn (now (skinds .entry)) (now (sends .entry)) (now (spool .entry)) fill)) ⌝ }
+    ensures does { λ r. ⌜ Does (now (skinds .entry)) (now (sends .entry)) (now (spool .entry)) fill (now (skinds .exit)) (now (sends .exit)) (now (spool .exit)) (r .fill) (r .refusal) (claimAt (proofsFor (now (job .entry))) asked) (checkProof (roomOf (now (skinds .entry)) (now (spool .entry))) (programFor (now (job .entry))) (proofsFor (now (job .entry))) strict asked (termsIn (now (skinds .entry)) (now (sends .entry)) (now (spool .entry)) fill)) ⌝ }
+    ensures high { λ r. ⌜ (r .refusal .number ≡ 0 → r .value ≡ height (programFor (now (job .entry))) (proofsFor (now (job .entry))) asked) ⌝ }
 {
     let mut memo = [0u32; 8193];
     let mut found = [0u32; 4096];

@@ -12,7 +12,8 @@ use Rattle.model.specs.Program.{Proposition}
 use Rattle.model.specs.Decode.{jobOf}
 use Rattle.model.specs.Load.{isStrict, loadRefusal}
 use Rattle.model.specs.Walk.{checkProof}
-use Rattle.model.specs.Answer.{height, refusalWords, Arrays, stored, left, checkedBy, checked, loaded, lentBy, check, entry}
+use Rattle.model.specs.Height.{height}
+use Rattle.model.specs.Answer.{refusalWords, Arrays, stored, left, checkedBy, checked, loaded, lentBy, check, entry}
 use Rattle.cells.specs.declared.Fill.{Fill}
 use Rattle.termdag.proofs.Laws.{terms-length}
 use Rattle.termdag.specs.Store.{termsIn, roomOf}
@@ -84,10 +85,10 @@ module _ {ws : List ℕ} {asked mode : ℕ} {K E P : List ℕ} {scratch : ℕ} {
           let T = S .started n in
           D .outcome ∙ (λ i. checkProof (record { cells = T .lenK i; words = T .lenP i }) (job-program ws i) (job-proofs ws i) (isStrict mode) asked (T .terms i))
 
-      entry-outcome : checkedBy (jobOf ws .proofs) asked (arraysOf K E P) (outcomeOf r q s) ≡ entry ws asked mode (arraysOf K E P) scratch answer
+      entry-outcome : checkedBy (jobOf ws) asked (arraysOf K E P) (outcomeOf r q s) ≡ entry ws asked mode (arraysOf K E P) scratch answer
       unfolding check checked
       entry-outcome =
-          ap (checkedBy (jobOf ws .proofs) asked (arraysOf K E P)) job-outcome
+          ap (checkedBy (jobOf ws) asked (arraysOf K E P)) job-outcome
           ∙ ap (loaded (jobOf ws) asked (isStrict mode) (arraysOf K E P)) (sym (prepared-none n))
           ∙ sym (entry-check ws asked mode (arraysOf K E P) scratch answer eight)
 
@@ -95,15 +96,15 @@ module _ {ws : List ℕ} {asked mode : ℕ} {K E P : List ℕ} {scratch : ℕ} {
       over-lent = sym (grown-stored (S .started n) (D .grown))
 
       -- the proof passes
-      pub entry-passed : r .number ≡ 0 → left (0 ∷ g .cells ∷ q .lhs ∷ q .rhs ∷ height (proofsFor ws) asked ∷ 0 ∷ 0 ∷ 0 ∷ []) (arraysOf K₂ E₂ P₂) ≡ entry ws asked mode (arraysOf K E P) scratch answer
+      pub entry-passed : r .number ≡ 0 → left (0 ∷ g .cells ∷ q .lhs ∷ q .rhs ∷ height (programFor ws) (proofsFor ws) asked ∷ 0 ∷ 0 ∷ 0 ∷ []) (arraysOf K₂ E₂ P₂) ≡ entry ws asked mode (arraysOf K E P) scratch answer
       entry-passed h =
-          (λ i. left (0 ∷ sym (terms-length K₂ E₂ P₂ g) i ∷ q .lhs ∷ q .rhs ∷ height (job-proofs ws i) asked ∷ 0 ∷ 0 ∷ 0 ∷ []) (sym over-lent i))
-          ∙ ap (checkedBy (jobOf ws .proofs) asked (arraysOf K E P)) (sym (ok-of r q s h))
+          (λ i. left (0 ∷ sym (terms-length K₂ E₂ P₂ g) i ∷ q .lhs ∷ q .rhs ∷ height (job-program ws i) (job-proofs ws i) asked ∷ 0 ∷ 0 ∷ 0 ∷ []) (sym over-lent i))
+          ∙ ap (checkedBy (jobOf ws) asked (arraysOf K E P)) (sym (ok-of r q s h))
           ∙ entry-outcome
 
       -- the proof is refused
       pub entry-stopped : (r .number ≡ 0 → ⊥) → left (refusalWords (refusalOf r) (g .cells)) (arraysOf K₂ E₂ P₂) ≡ entry ws asked mode (arraysOf K E P) scratch answer
       entry-stopped h =
           (λ i. left (refusalWords (refusalOf r) (sym (terms-length K₂ E₂ P₂ g) i)) (sym over-lent i))
-          ∙ ap (checkedBy (jobOf ws .proofs) asked (arraysOf K E P)) (sym (refused-of r q s h))
+          ∙ ap (checkedBy (jobOf ws) asked (arraysOf K E P)) (sym (refused-of r q s h))
           ∙ entry-outcome

@@ -5,12 +5,13 @@ use Prim.Native.Nat.{ℕ, zero, suc, _<_, _^_}
 use native.Mathlib.Omega.{arith}
 use lib.ListN.{length, getD}
 use Rattle.model.specs.Term.{readTerm, Extends}
-use Rattle.model.specs.Program.{Proof}
+use Rattle.model.specs.Program.{Program, Proof}
 use Rattle.model.specs.Layout.{sizesOf, tablesOf}
 use Rattle.model.specs.Decode.{readJob}
 use Rattle.model.specs.Load.{isStrict}
 use Rattle.model.specs.Walk.{claimAt, checkProof}
-use Rattle.model.specs.Answer.{height, refusalWords, left, entry}
+use Rattle.model.specs.Height.{height}
+use Rattle.model.specs.Answer.{refusalWords, left, entry}
 use Rattle.model.proofs.Store.{extends-same}
 use Rattle.decode.specs.declared.Proposition.{Proposition}
 use Rattle.cells.specs.declared.Fill.{Fill}
@@ -27,19 +28,23 @@ use Rattle.check_proof.specs.Checking.{Given}
 use Rattle.entry.specs.Told.{toldBy, toldWords}
 
 -- the words of a refusal, and of a proof that passes
-pub told-refusal : {A : List ℕ} (r : Refusal) (terms : ℕ) (proofs : List Proof) (p : ℕ) → (r .number ≡ 0 → ⊥) → A ≡ refusalWords (refusalOf r) terms → A ≡ toldWords r terms proofs p
+pub told-refusal : {A : List ℕ} (r : Refusal) (terms : ℕ) (prog : Program) (proofs : List Proof) (p : ℕ) → (r .number ≡ 0 → ⊥) → A ≡ refusalWords (refusalOf r) terms → A ≡ toldWords r terms prog proofs p
 unfolding toldWords
-told-refusal r terms proofs p h w = w ∙ go (r .number) h
+told-refusal r terms prog proofs p h w = w ∙ go (r .number) h
   where
-    go : (n : ℕ) → (n ≡ 0 → ⊥) → refusalWords (refusalOf r) terms ≡ toldBy n r terms proofs p
+    go : (n : ℕ) → (n ≡ 0 → ⊥) → refusalWords (refusalOf r) terms ≡ toldBy n r terms prog proofs p
     go zero l = absurd (l refl)
     go (suc n) l = refl
 
-pub told-passed : {A J : List ℕ} {p : ℕ} {q : Proposition} (r : Refusal) (terms h : ℕ) → r .number ≡ 0 → ClaimAt J p q → h ≡ height (proofsFor J) p
-    → A ≡ passedWords terms (q .lhs) (q .rhs) h → A ≡ toldWords r terms (proofsFor J) p
+pub told-passed : {A J : List ℕ} {p : ℕ} {q : Proposition} (r : Refusal) (terms h : ℕ) → r .number ≡ 0 → ClaimAt J p q → h ≡ height (programFor J) (proofsFor J) p
+    → A ≡ passedWords terms (q .lhs) (q .rhs) h → A ≡ toldWords r terms (programFor J) (proofsFor J) p
 unfolding toldWords
 told-passed {J = J} {p = p} r terms h n C e w =
-    w ∙ (λ i. passedWords terms (C .is i .lhs) (C .is i .rhs) (e i)) ∙ ap (λ (m : ℕ). toldBy m r terms (proofsFor J) p) (sym n)
+    w ∙ (λ i. passedWords terms (C .is i .lhs) (C .is i .rhs) (e i)) ∙ ap (λ (m : ℕ). toldBy m r terms (programFor J) (proofsFor J) p) (sym n)
+
+-- the height of the asked proof, by its number as it was read
+pub height-asked : (J : List ℕ) {d asked h n : ℕ} → d ≡ asked → (n ≡ 0 → h ≡ height (programFor J) (proofsFor J) asked) → n ≡ 0 → h ≡ height (programFor J) (proofsFor J) d
+height-asked J e k z = k z ∙ ap (height (programFor J) (proofsFor J)) (sym e)
 
 module _ {ws : List ℕ} {asked mode : ℕ} {K E P : List ℕ} {scratch : ℕ} {K₁ E₁ P₁ : List ℕ} {p : Prepared} (S : Prepares ws asked mode K E P scratch K₁ E₁ P₁ p) where
   -- below 20
@@ -78,14 +83,14 @@ module _ {ws : List ℕ} {asked mode : ℕ} {K E P : List ℕ} {scratch : ℕ} {
       terms-word = let F = D .grown .stored .formed in let a = F .kinds in let b = F .few in omega arith
 
       -- from 20 on, and what passes
-      told : (answer : List ℕ) → length answer ≡ 8 → left (toldWords r (g .cells) (proofsFor ws) asked) (arraysOf K₂ E₂ P₂) ≡ entry ws asked mode (arraysOf K E P) scratch answer
+      told : (answer : List ℕ) → length answer ≡ 8 → left (toldWords r (g .cells) (programFor ws) (proofsFor ws) asked) (arraysOf K₂ E₂ P₂) ≡ entry ws asked mode (arraysOf K E P) scratch answer
       unfolding toldWords
       told answer eight = go (r .number) refl
         where
-          go : (m : ℕ) → r .number ≡ m → left (toldBy m r (g .cells) (proofsFor ws) asked) (arraysOf K₂ E₂ P₂) ≡ entry ws asked mode (arraysOf K E P) scratch answer
+          go : (m : ℕ) → r .number ≡ m → left (toldBy m r (g .cells) (programFor ws) (proofsFor ws) asked) (arraysOf K₂ E₂ P₂) ≡ entry ws asked mode (arraysOf K E P) scratch answer
           go zero h = entry-passed S answer eight n D h
           go (suc m) h = entry-stopped S answer eight n D (λ o. let q : suc m ≡ 0 = sym h ∙ o in omega arith)
 
-      pub tells : {x d : ℕ} {A : List ℕ} (answer : List ℕ) → length answer ≡ 8 → d ≡ asked → A ≡ toldWords r (g .cells) (proofsFor ws) d → x ≡ getD A 0 0
+      pub tells : {x d : ℕ} {A : List ℕ} (answer : List ℕ) → length answer ≡ 8 → d ≡ asked → A ≡ toldWords r (g .cells) (programFor ws) (proofsFor ws) d → x ≡ getD A 0 0
           → record { number = x; answer = A; arrays = arraysOf K₂ E₂ P₂ } ≡ entry ws asked mode (arraysOf K E P) scratch answer
-      tells answer eight q w f = left-by (arraysOf K₂ E₂ P₂) (w ∙ ap (toldWords r (g .cells) (proofsFor ws)) q) f ∙ told answer eight
+      tells answer eight q w f = left-by (arraysOf K₂ E₂ P₂) (w ∙ ap (toldWords r (g .cells) (programFor ws) (proofsFor ws)) q) f ∙ told answer eight

@@ -3,7 +3,6 @@ use answer::write_passed;
 use answer::write_refusal;
 use cells::wide;
 use check_proof::check_proof;
-use height::height;
 use outcome::Checked;
 use prepare::prepare;
 use program::read::claim_at;
@@ -11,8 +10,9 @@ ghost use mathlib.Core.Path.{_≡_};
 ghost use Prim.Native.Nat.{_<_, _^_};
 ghost use lib.ListN.{length, getD};
 ghost use Rattle.model.specs.Layout.{sizesOf};
+ghost use Rattle.model.specs.Height.{height};
 ghost use Rattle.model.specs.Answer.{entry};
-ghost use Rattle.program.specs.Ready.{Ready};
+ghost use Rattle.program.specs.Ready.{Ready, programFor};
 ghost use Rattle.program.specs.Read.{proofsFor};
 ghost use Rattle.entry.specs.Told.{toldWords};
 
@@ -22,7 +22,8 @@ fn tell(job: &[u32], asked: usize, r: Checked, answer: &mut [u32]) -> u32
     requires { ⌜ asked < sizesOf (now job) .proofs ⌝ }
     requires { ⌜ length (now answer) ≡ 8 ⌝ }
     requires { ⌜ r .fill .cells < 2 ^ 32 ⌝ }
-    ensures is { λ x. ⌜ now (answer .exit) ≡ toldWords (r .refusal) (r .fill .cells) (proofsFor (now (job .entry))) asked ⌝ }
+    requires { ⌜ (r .refusal .number ≡ 0 → r .value ≡ height (programFor (now job)) (proofsFor (now job)) asked) ⌝ }
+    ensures is { λ x. ⌜ now (answer .exit) ≡ toldWords (r .refusal) (r .fill .cells) (programFor (now (job .entry))) (proofsFor (now (job .entry))) asked ⌝ }
     ensures first { λ x. ⌜ x ≡ getD (now (answer .exit)) 0 0 ⌝ }
 {
     let terms = r.fill.cells;
@@ -31,8 +32,7 @@ fn tell(job: &[u32], asked: usize, r: Checked, answer: &mut [u32]) -> u32
         return write_refusal(answer, refusal, terms);
     }
     let q = claim_at(job, asked);
-    let h = height(job, asked);
-    write_passed(answer, terms, q.lhs, q.rhs, h)
+    write_passed(answer, terms, q.lhs, q.rhs, r.value)
 }
 
 // The check of a job's words for an asked proof in a mode, 0 as the Rust checks or 1 strict: the number returned, the answer and the lent arrays are as the definition says, for all inputs.

@@ -8,7 +8,7 @@ use lib.ListN.{length, getD, take, drop, replicate, length-replicate}
 use lib.Dec.{eqb, ltb}
 use lib.Seq.{take-at}
 use borrow.Author.Tests.{lt-ltb, le-ltb, eq-eqb, ne-eqb}
-use Rattle.model.specs.Program.{Proof, Proposition}
+use Rattle.model.specs.Program.{Proposition}
 use Rattle.model.specs.Check.{Refusal, Outcome, ok, refused}
 use Rattle.model.specs.Walk.{checkProof}
 use Rattle.model.specs.Decode.{jobOf}
@@ -23,12 +23,12 @@ pub first-word : (ws : List ℕ) (p mode : ℕ) (a : Arrays) (scratch : ℕ) →
 unfolding check checked
 first-word ws p mode a scratch = go (loadRefusal ws p mode (lentBy a scratch))
   where
-    by : (proofs : List Proof) (o : Outcome Proposition) → checkedBy proofs p a o .number ≡ getD (checkedBy proofs p a o .answer) 0 0
-    by proofs (ok q s) = refl
-    by proofs (refused r s) = refl
+    by : (o : Outcome Proposition) → checkedBy (jobOf ws) p a o .number ≡ getD (checkedBy (jobOf ws) p a o .answer) 0 0
+    by (ok q s) = refl
+    by (refused r s) = refl
 
     go : (o : Option Refusal) → loaded (jobOf ws) p (isStrict mode) a o .number ≡ getD (loaded (jobOf ws) p (isStrict mode) a o .answer) 0 0
-    go none = by (jobOf ws .proofs) (checkProof (record { cells = length (a .kinds); words = length (a .pool) }) (jobOf ws .program) (jobOf ws .proofs) (isStrict mode) p (jobOf ws .terms))
+    go none = by (checkProof (record { cells = length (a .kinds); words = length (a .pool) }) (jobOf ws .program) (jobOf ws .proofs) (isStrict mode) p (jobOf ws .terms))
     go (some r) = refl
 
 -- an entry's answer in a buffer of eight words

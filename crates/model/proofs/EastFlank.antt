@@ -42,8 +42,8 @@ exactly = record { kinds = replicate 5 0; ends = replicate 5 0; pool = replicate
 
 -- Proofs 1 and 3 in mode 0 and in strict mode; in a mode that there is not, proof 3 and a proof that there is not.
 answers : map (λ (q : ℕ × ℕ). check eastFlank (q .0) (q .1) exactly 18 .answer) ((1, 0) ∷ (3, 0) ∷ (1, 1) ∷ (3, 1) ∷ (3, 2) ∷ (4, 2) ∷ [])
-    ≡ (0 ∷ 5 ∷ 2 ∷ 0 ∷ 2 ∷ 0 ∷ 0 ∷ 0 ∷ []) ∷ (0 ∷ 5 ∷ 3 ∷ 1 ∷ 2 ∷ 0 ∷ 0 ∷ 0 ∷ []) ∷
-    (0 ∷ 5 ∷ 2 ∷ 0 ∷ 2 ∷ 0 ∷ 0 ∷ 0 ∷ []) ∷ (46 ∷ 5 ∷ 6 ∷ 0 ∷ 0 ∷ 0 ∷ 0 ∷ 0 ∷ []) ∷ (11 ∷ 0 ∷ 0 ∷ 0 ∷ 0 ∷ 0 ∷ 0 ∷ 0 ∷ []) ∷ (3 ∷ 0 ∷ 0 ∷ 0 ∷ 0 ∷ 0 ∷ 0 ∷ 0 ∷ []) ∷ []
+    ≡ (0 ∷ 5 ∷ 2 ∷ 0 ∷ 1 ∷ 0 ∷ 0 ∷ 0 ∷ []) ∷ (0 ∷ 5 ∷ 3 ∷ 1 ∷ 1 ∷ 0 ∷ 0 ∷ 0 ∷ []) ∷
+    (0 ∷ 5 ∷ 2 ∷ 0 ∷ 1 ∷ 0 ∷ 0 ∷ 0 ∷ []) ∷ (46 ∷ 5 ∷ 6 ∷ 0 ∷ 0 ∷ 0 ∷ 0 ∷ 0 ∷ []) ∷ (11 ∷ 0 ∷ 0 ∷ 0 ∷ 0 ∷ 0 ∷ 0 ∷ 0 ∷ []) ∷ (3 ∷ 0 ∷ 0 ∷ 0 ∷ 0 ∷ 0 ∷ 0 ∷ 0 ∷ []) ∷ []
 unfolding eastFlank tabulate startOf wordsAt cellsOf readTerm findTerm getTerm sizesOf kindsOf endsOf poolOf tablesOf exprIn readProgram readJob orRefuse checkThat addNode refusedIf firstMarked loadRefusal validate subtermsIn reflexive headValue evalExprs offences assertBodyProofNormalForm checkSideCondition processActions checkRuleProducesEquality checkPremises checkRule checkProofWithContext newContext checkProof checked check
 answers = refl
 
@@ -54,7 +54,7 @@ bytesOf (w ∷ ws) = w % 256 ∷ w / 256 % 256 ∷ w / 65536 % 256 ∷ w / 16777
 
 -- The program and the host entry without a mode accept proof 3; the host entry with a mode does so in mode 0, and refuses it in strict mode.
 by-bytes : programAnswer (bytesOf eastFlank) ∷ map (λ e. e .answer) (hostEntry (bytesOf eastFlank) 3 (replicate 8 0) ∷ hostEntryMode (bytesOf eastFlank) 3 0 (replicate 8 0) ∷ hostEntryMode (bytesOf eastFlank) 3 1 (replicate 8 0) ∷ [])
-    ≡ (0 ∷ 5 ∷ 3 ∷ 1 ∷ 2 ∷ 0 ∷ 0 ∷ 0 ∷ []) ∷ (0 ∷ 5 ∷ 3 ∷ 1 ∷ 2 ∷ 0 ∷ 0 ∷ 0 ∷ []) ∷ (0 ∷ 5 ∷ 3 ∷ 1 ∷ 2 ∷ 0 ∷ 0 ∷ 0 ∷ []) ∷ (46 ∷ 5 ∷ 6 ∷ 0 ∷ 0 ∷ 0 ∷ 0 ∷ 0 ∷ []) ∷ []
+    ≡ (0 ∷ 5 ∷ 3 ∷ 1 ∷ 1 ∷ 0 ∷ 0 ∷ 0 ∷ []) ∷ (0 ∷ 5 ∷ 3 ∷ 1 ∷ 1 ∷ 0 ∷ 0 ∷ 0 ∷ []) ∷ (0 ∷ 5 ∷ 3 ∷ 1 ∷ 1 ∷ 0 ∷ 0 ∷ 0 ∷ []) ∷ (46 ∷ 5 ∷ 6 ∷ 0 ∷ 0 ∷ 0 ∷ 0 ∷ 0 ∷ []) ∷ []
 unfolding eastFlank tabulate startOf wordsAt cellsOf readTerm findTerm getTerm sizesOf kindsOf endsOf poolOf tablesOf exprIn readProgram readJob orRefuse checkThat addNode refusedIf firstMarked loadRefusal validate subtermsIn reflexive headValue evalExprs offences assertBodyProofNormalForm checkSideCondition processActions checkRuleProducesEquality checkPremises checkRule checkProofWithContext newContext checkProof checked check wordsOf hostAnswer hostEntryMode
 by-bytes = refl
 

@@ -1,7 +1,7 @@
 -- Fuel beyond the number changes nothing: of an expression, of the walk. Nor does the mode, where no fact tells the two apart.
 use Prim.Native.Nat.{ℕ, zero, suc, _<_}
 use native.Mathlib.Omega.{arith}
-use mathlib.Core.Path.{_≡_, refl, sym, ap, ap₂}
+use mathlib.Core.Path.{_≡_, refl, sym, ap, ap₂, subst}
 use mathlib.Core.Logic.{_⊎_, inl, inr}
 use mathlib.Core.List.{List, [], _∷_, _++_, List·Memᴰ, List·Memᴰ·head, List·Memᴰ·tail}
 use mathlib.Core.Bool.{Bool, true, false}
@@ -17,6 +17,8 @@ use Rattle.model.specs.Check.{Outcome, Check, andThen, choose, orRefuse,
 use Rattle.model.specs.Fact.{assertBodyProofNormalForm, isContainerSideCondition, checkSideCondition, checkFactMatchesProposition}
 use Rattle.model.specs.Action.{ActionContext}
 use Rattle.model.specs.Walk.{noProof, claimAt, member, ruleOf, checkPremises, checkRule, checkMergeFn, checkTrans, checkSym, checkCongr, checkContainerNormalize, checkFiat, checkJustification, checkProofWithContext}
+use Rattle.model.specs.Height.{followUnless, followedPremises, followedBy, followed}
+use Rattle.model.proofs.Height.{followed-within}
 
 -- expressions: each argument has a lower number
 args-same : (f g : ℕ → Expr) (xs : List ℕ) → ((x : ℕ) → List·Memᴰ x xs → f x ≡ g x) → argumentsBy f xs ≡ argumentsBy g xs
@@ -46,9 +48,9 @@ module _ {A : Type 0} where
   same-refl : {o : Outcome A} → Same o o
   same-refl = record { same = refl }
 
-  same-choose : (b : Bool) (x x′ y y′ : Check A) (s : List Term) → (b ≡ true → Same (x s) (x′ s)) → Same (y s) (y′ s) → Same (choose b x y s) (choose b x′ y′ s)
+  same-choose : (b : Bool) (x x′ y y′ : Check A) (s : List Term) → (b ≡ true → Same (x s) (x′ s)) → (b ≡ false → Same (y s) (y′ s)) → Same (choose b x y s) (choose b x′ y′ s)
   same-choose true x x′ y y′ s e f = e refl
-  same-choose false x x′ y y′ s e f = f
+  same-choose false x x′ y y′ s e f = f refl
 
 module _ {A B : Type 0} where
   same-bind : {o o′ : Outcome A} {f g : A → Check B} → Same o o′ → ((a : A) (s : List Term) → Same (f a s) (g a s)) → Same (andThen o f) (andThen o′ g)
@@ -94,7 +96,7 @@ module _ (room : Room) (prog : Program) (proofs : List Proof) (ctx : ActionConte
     second : {p q : ℕ} {ps : List ℕ} → Alike sub sub′ (p ∷ q ∷ ps) → (done : List ℕ) (s : List Term) → Same (sub q done s) (sub′ q done s)
     second {q = q} a = a .at q (List·Memᴰ·tail (List·Memᴰ·head refl))
 
-    premises-same : (name : ℕ) (fs : List Fact) (ps : List ℕ) → ModesAlike room prog strict strict′ fs → Alike sub sub′ ps → (σ : List Binding) (done : List ℕ) (s : List Term)
+    premises-same : (name : ℕ) (fs : List Fact) (ps : List ℕ) → ModesAlike room prog strict strict′ fs → Alike sub sub′ (followedPremises prog fs ps) → (σ : List Binding) (done : List ℕ) (s : List Term)
         → Same (checkPremises room prog proofs ctx sub strict name fs ps σ done s) (checkPremises room prog proofs ctx sub′ strict′ name fs ps σ done s)
     unfolding checkPremises
     premises-same name [] ps m a σ done s = same-refl
@@ -102,24 +104,34 @@ module _ (room : Room) (prog : Program) (proofs : List Proof) (ctx : ActionConte
     premises-same name (f ∷ fs) (p ∷ ps) m a σ done s =
         same-after (assertBodyProofNormalForm prog name f s) λ _ s₁.
         same-choose (isContainerSideCondition prog f) _ _ _ _ s₁
-        (λ c. same-bind (record { same = m f (List·Memᴰ·head refl) c name σ s₁ }) λ τ s₂. premises-same name fs ps (λ g k. m g (List·Memᴰ·tail k)) (alike-rest a) τ done s₂)
-        (same-bind (first a done s₁) λ d s₂. same-after (checkFactMatchesProposition room prog name σ f (claimAt proofs p) s₂) λ _ s₃. premises-same name fs ps (λ g k. m g (List·Memᴰ·tail k)) (alike-rest a) σ d s₃)
+        (λ c. same-bind (record { same = m f (List·Memᴰ·head refl) c name σ s₁ }) λ τ s₂. premises-same name fs ps (λ g k. m g (List·Memᴰ·tail k)) (following c a) τ done s₂)
+        (λ c. same-bind (first (following c a) done s₁) λ d s₂. same-after (checkFactMatchesProposition room prog name σ f (claimAt proofs p) s₂) λ _ s₃. premises-same name fs ps (λ g k. m g (List·Memᴰ·tail k)) (alike-rest (following c a)) σ d s₃)
+      where
+        following : {b : Bool} → isContainerSideCondition prog f ≡ b → Alike sub sub′ (followedPremises prog (f ∷ fs) (p ∷ ps)) → Alike sub sub′ (followUnless b p (followedPremises prog fs ps))
+        following c a = subst (λ (b : Bool). Alike sub sub′ (followUnless b p (followedPremises prog fs ps))) c a
 
     justification-same : ((r : Rule) → List·Memᴰ r (prog .rules) → ModesAlike room prog strict strict′ (r .facts))
-        → (p : ℕ) (q : Proposition) (j : Justification) → Alike sub sub′ (references j) → (done : List ℕ) (s : List Term)
+        → (p : ℕ) (q : Proposition) (j : Justification) → Alike sub sub′ (followed prog j) → (done : List ℕ) (s : List Term)
         → Same (checkJustification room prog proofs ctx sub strict p q j done s) (checkJustification room prog proofs ctx sub′ strict′ p q j done s)
     unfolding checkFiat checkRule checkMergeFn checkTrans checkSym checkCongr checkContainerNormalize
     justification-same m p q fiat a done s = same-refl
     justification-same m p q (rule n ps σ) a done s =
         same-or (ruleOf (prog .rules) n) 32 (n ∷ []) s λ r e s₁.
         same-after (checkThat (eqb (length (r .facts)) (length ps)) 27 (p ∷ n ∷ length (r .facts) ∷ length ps ∷ []) s₁) λ _ s₂.
-        same-bind (premises-same n (r .facts) ps (m r (rule-of (prog .rules) n r e)) a (σ ++ ctx .bindings) done s₂) λ b s₃. same-refl
+        same-bind (premises-same n (r .facts) ps (m r (rule-of (prog .rules) n r e)) (subst (λ (o : Option Rule). Alike sub sub′ (followedBy prog o ps)) e a) (σ ++ ctx .bindings) done s₂) λ b s₃. same-refl
     justification-same m p q (mergeFn f x y) a done s = same-bind (first a done s) λ d s₁. same-bind (second a d s₁) λ e s₂. same-refl
     justification-same m p q (trans x y) a done s = same-bind (first a done s) λ d s₁. same-bind (second a d s₁) λ e s₂. same-refl
     justification-same m p q (symm x) a done s = same-bind (first a done s) λ d s₁. same-refl
     justification-same m p q (congr x i y) a done s = same-bind (first a done s) λ d s₁. same-bind (second a d s₁) λ e s₂. same-refl
     justification-same m p q (containerNormalize x) a done s = same-bind (first a done s) λ d s₁. same-refl
     justification-same m p q eval a done s = same-refl
+
+  -- NOTHING ELSE IS FOLLOWED: a step's outcome rests on the outcomes of the proofs that count for its height
+  pub followed-alone : (sub sub′ : ℕ → List ℕ → Check (List ℕ)) (strict : Bool) (p : ℕ) (q : Proposition) (j : Justification)
+      → ((x : ℕ) → List·Memᴰ x (followed prog j) → (done : List ℕ) (s : List Term) → sub x done s ≡ sub′ x done s)
+      → (done : List ℕ) (s : List Term) → checkJustification room prog proofs ctx sub strict p q j done s ≡ checkJustification room prog proofs ctx sub′ strict p q j done s
+  followed-alone sub sub′ strict p q j h done s =
+      justification-same sub sub′ strict strict (λ r i x k c name σ t. refl) p q j (record { at = λ x m d t. record { same = h x m d t } }) done s .same
 
   -- the fuel is the same, or beyond the number, where each reference has a lower number
   abbrev Enough : ℕ → ℕ → ℕ → Type 0
@@ -139,8 +151,8 @@ module _ (room : Room) (prog : Program) (proofs : List Proof) (ctx : ActionConte
   walk-same strict strict′ m (suc f) zero p (inr h) done s = let k = h .2 in absurd (omega arith)
   walk-same strict strict′ m (suc f) (suc g) p h done s =
       same-choose (member p done) _ _ _ _ s (λ _. same-refl)
-      (same-bind (justification-same (checkProofWithContext room prog proofs ctx strict f) (checkProofWithContext room prog proofs ctx strict′ g) strict strict′ m p (claimAt proofs p) (getD proofs p noProof .justification)
-      (record { at = λ q k. walk-same strict strict′ m f g q (enough-below h q k) }) done s) λ d s₁. same-refl)
+      (λ _. same-bind (justification-same (checkProofWithContext room prog proofs ctx strict f) (checkProofWithContext room prog proofs ctx strict′ g) strict strict′ m p (claimAt proofs p) (getD proofs p noProof .justification)
+      (record { at = λ q k. walk-same strict strict′ m f g q (enough-below h q (followed-within prog (getD proofs p noProof .justification) q k)) }) done s) λ d s₁. same-refl)
 
   -- the walk: each reference has a lower number
   pub walk-fuel : ((p : ℕ) → Below p (references (getD proofs p noProof .justification))) → (strict : Bool) (f g p : ℕ) → p < f → p < g → (done : List ℕ) (s : List Term)

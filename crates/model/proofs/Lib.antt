@@ -7,6 +7,8 @@ pub mod Store
 pub mod Evaluation
 pub mod Facts
 pub mod Valid
+pub mod Height
+pub mod Heights
 pub mod Fuel
 pub mod Steps
 pub mod Sound

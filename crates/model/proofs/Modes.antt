@@ -87,17 +87,17 @@ module _ {prog : Program} (none-bare : NoBareCondition prog) where
   proofs-alike room proofs strict strict′ p s = then-alike (newContext room prog s) λ ctx s₁.
       ap (λ (o : Outcome (List ℕ)). andThen o (λ _. pure (claimAt proofs p))) (walk-modes room prog proofs ctx strict strict′ (conditions-alike room strict strict′) (suc (length proofs)) p [] s₁)
 
-  loaded-alike : (job : Job) → job .program ≡ prog → (p : ℕ) (a : Arrays) (o : Option Refusal) → loaded job p false a o ≡ loaded job p true a o
-  unfolding checked
-  loaded-alike job e p a none = rw e (ap (checkedBy (job .proofs) p a) (proofs-alike _ (job .proofs) false true p (job .terms)))
-  loaded-alike job e p a (some r) = refl
+loaded-alike : (job : Job) → NoBareCondition (job .program) → (p : ℕ) (a : Arrays) (o : Option Refusal) → loaded job p false a o ≡ loaded job p true a o
+unfolding checked
+loaded-alike job none-bare p a none = ap (checkedBy job p a) (proofs-alike none-bare _ (job .proofs) false true p (job .terms))
+loaded-alike job none-bare p a (some r) = refl
 
 -- WHERE THE MODES AGREE: on a job without bare container conditions the entry returns and leaves the same in both modes, for whatever it is handed
 pub modes-alike : (ws : List ℕ) (p : ℕ) (a : Arrays) (scratch : ℕ) (answer : List ℕ) → NoBareCondition (jobOf ws .program) → entry ws p 0 a scratch answer ≡ entry ws p 1 a scratch answer
 unfolding entry check loadRefusal
 modes-alike ws p a scratch answer none-bare =
     ap (λ (c : Left). elim (eqb (length answer) 8) as (λ _. Left) [ true ↦ c | false ↦ record { number = 10; answer = answer; arrays = a } ])
-    (loaded-alike none-bare (jobOf ws) refl p a (loadRefusal ws p 0 (lentBy a scratch)))
+    (loaded-alike (jobOf ws) none-bare p a (loadRefusal ws p 0 (lentBy a scratch)))
 
 -- strict mode passes no condition that mode 0 does not pass, and binds the same
 condition-plain : (prog : Program) (rows : List TreeRow) (σ σ′ : List TreeBinding) (f : Fact) → treeCondition prog rows true σ f ≡ some σ′ → treeCondition prog rows false σ f ≡ some σ′

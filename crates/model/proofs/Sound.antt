@@ -92,7 +92,7 @@ module _ {ℓ} (R : Tree → Tree → Type ℓ) where
   checked-sound job p strict a valid closed e =
       go (checkProof (record { cells = length (a .kinds); words = length (a .pool) }) (job .program) (job .proofs) strict p (job .terms)) (check-sound _ job p valid strict R closed) e
     where
-      go : (o : Outcome Proposition) → Post o (λ _ _. ClaimRelated job R p) → checkedBy (job .proofs) p a o .number ≡ 0 → ClaimRelated job R p
+      go : (o : Outcome Proposition) → Post o (λ _ _. ClaimRelated job R p) → checkedBy job p a o .number ≡ 0 → ClaimRelated job R p
       go (ok q s) h e = h .holds
       go (refused r s) h e = absurd (not-zero (r .number) (nonzero-at (r .number) (h .holds)) e)
 

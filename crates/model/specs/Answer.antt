@@ -1,28 +1,17 @@
 -- The answer's eight words and the words of the lent store, for every input: what the entry returns and leaves.
-use Prim.Native.Nat.{ℕ, zero, suc, _+_, max}
+use Prim.Native.Nat.{ℕ, zero, suc, _+_}
 use mathlib.Core.List.{List, [], _∷_, _++_, map}
 use mathlib.Core.Bool.{Bool, true, false}
 use mathlib.Core.Option.{Option, none, some}
 use lib.ListN.{length, getD, drop}
 use lib.Dec.{eqb}
 use Rattle.model.specs.Term.{Term, termKind, termWords, width}
-use Rattle.model.specs.Program.{Proposition, Proof, references, Job}
+use Rattle.model.specs.Program.{Proposition, Job}
 use Rattle.model.specs.Check.{Refusal, Outcome, ok, refused}
 use Rattle.model.specs.Decode.{jobOf}
 use Rattle.model.specs.Load.{Lent, isStrict, loadRefusal}
 use Rattle.model.specs.Walk.{checkProof}
-
-abbrev pub maximum : List ℕ → ℕ
-maximum [] = 0
-maximum (x ∷ xs) = max x (maximum xs)
-
--- The heights of all proofs, behind those of the proofs before: one more than the greatest among the references.
-abbrev pub heightsFrom : List ℕ → List Proof → List ℕ
-heightsFrom hs [] = hs
-heightsFrom hs (q ∷ qs) = heightsFrom (hs ++ (suc (maximum (map (λ r. getD hs r 0) (references (q .justification)))) ∷ [])) qs
-
-abbrev pub height : List Proof → ℕ → ℕ
-height proofs p = getD (heightsFrom [] proofs) p 0
+use Rattle.model.specs.Height.{height}
 
 -- The first n words, unused ones 0.
 abbrev pub padded : ℕ → List ℕ → List ℕ
@@ -70,14 +59,14 @@ pub record Left : Type 0 where
 abbrev pub left : List ℕ → Arrays → Left
 left answer a = record { number = getD answer 0 0; answer = answer; arrays = a }
 
-abbrev pub checkedBy : List Proof → ℕ → Arrays → Outcome Proposition → Left
-checkedBy proofs p a (ok q s) = left (0 ∷ length s ∷ q .lhs ∷ q .rhs ∷ height proofs p ∷ 0 ∷ 0 ∷ 0 ∷ []) (stored s a)
-checkedBy proofs p a (refused r s) = left (refusalWords r (length s)) (stored s a)
+abbrev pub checkedBy : Job → ℕ → Arrays → Outcome Proposition → Left
+checkedBy job p a (ok q s) = left (0 ∷ length s ∷ q .lhs ∷ q .rhs ∷ height (job .program) (job .proofs) p ∷ 0 ∷ 0 ∷ 0 ∷ []) (stored s a)
+checkedBy job p a (refused r s) = left (refusalWords r (length s)) (stored s a)
 
 -- An admitted job, checked in the room that the arrays give.
 unfoldable pub checked : Job → ℕ → Bool → Arrays → Left
 checked job p strict a =
-    checkedBy (job .proofs) p a (checkProof (record { cells = length (a .kinds); words = length (a .pool) }) (job .program) (job .proofs) strict p (job .terms))
+    checkedBy job p a (checkProof (record { cells = length (a .kinds); words = length (a .pool) }) (job .program) (job .proofs) strict p (job .terms))
 
 -- Below 20 the terms are 0 and the store stays as it was lent.
 abbrev pub loaded : Job → ℕ → Bool → Arrays → Option Refusal → Left

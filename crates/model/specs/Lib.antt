@@ -11,6 +11,7 @@ pub mod Fact
 pub mod Action
 pub mod Normalize
 pub mod Walk
+pub mod Height
 pub mod Answer
 pub mod Host
 pub mod Tree

@@ -12,21 +12,23 @@ use lib.ListN.{length, getD, take, length-map, length-take}
 use borrow.Author.Tests.{eq-eqb, ne-eqb}
 use Rattle.model.specs.Layout.{sizesOf}
 use Rattle.model.specs.Term.{Term}
-use Rattle.model.specs.Program.{Proposition, Binding, Program, Fact, Rule, Proof, rule}
+use Rattle.model.specs.Program.{Proposition, Binding, Program, Fact, Rule, Proof, Justification, fiat, rule, mergeFn, trans, symm, congr, containerNormalize, eval, references}
 use Rattle.model.specs.Decode.{readBindings}
 use Rattle.model.specs.Check.{Outcome, refused, Check, andThen, _>>=_, pure, choose, orRefuse, checkThat, Room}
 use Rattle.model.specs.Fact.{assertBodyProofNormalForm, isContainerSideCondition, checkSideCondition}
 use Rattle.model.specs.Walk.{noProof, claimAt, ruleOf, checkRule, checkJustification}
+use Rattle.model.specs.Height.{followUnless, followedPremises, followedBy, followed}
 use Rattle.outcome.specs.Does.{passed, refusal, outcomeOf}
 use Rattle.outcome.specs.declared.Refusal.{Refusal}
 use Rattle.outcome.proofs.Laws.{ok-of, refused-of}
 use Rattle.cells.specs.declared.Found.{Found}
 use Rattle.program.specs.Ready.{programFor, ruleFor, ruleAt, FindsRule}
 use Rattle.program.specs.Read.{proofsFor, premisesFor, pairsFor}
+use Rattle.steps.specs.Concluding.{isRule}
 use Rattle.turns.specs.declared.Needs.{Needs}
 use Rattle.turns.specs.declared.Plan.{Plan}
 use Rattle.turns.specs.Walking.{contextOf, checkBody, Operates}
-use Rattle.turns.specs.Turning.{ofFact, ofProof, proofOf, noTurn, factTurns, turnsBy, takeTurns, finishStep, beforeProof, RuleStep, Planned, Plans}
+use Rattle.turns.specs.Turning.{ofFact, ofProof, proofOf, noTurn, factTurns, followedTurns, turnsBy, takeTurns, finishStep, beforeProof, RuleStep, Planned, Plans}
 use Rattle.turns.proofs.Turns.{rule-by-turns, step-by-turns}
 
 -- the turns of a rule's step, by their number
@@ -57,6 +59,26 @@ pub proof-at : (xs : List ℕ) (i : ℕ) → i < length xs → proofOf (getD (ma
 proof-at [] i h = absurd (not-suc-le-zero h)
 proof-at (x ∷ xs) zero h = refl
 proof-at (x ∷ xs) (suc i) h = proof-at xs i (le-of-suc-le-suc h)
+
+-- the proofs that turns walk are those that the step follows
+turns-followed : (prog : Program) (fs : List Fact) (ps : List ℕ) → followedTurns prog (factTurns fs ps) ≡ followedPremises prog fs ps
+turns-followed prog [] ps = refl
+turns-followed prog (f ∷ fs) [] = refl
+turns-followed prog (f ∷ fs) (p ∷ ps) = ap (followUnless (isContainerSideCondition prog f) p) (turns-followed prog fs ps)
+
+proofs-followed : (prog : Program) (xs : List ℕ) → followedTurns prog (map ofProof xs) ≡ xs
+proofs-followed prog [] = refl
+proofs-followed prog (x ∷ xs) = ap (λ (ys : List ℕ). x ∷ ys) (proofs-followed prog xs)
+
+plain-followed : (prog : Program) (j : Justification) → isRule j ≡ false → references j ≡ followed prog j
+plain-followed prog fiat o = refl
+plain-followed prog (rule n ps σ) o = absurd (true≢false o)
+plain-followed prog (mergeFn f a b) o = refl
+plain-followed prog (trans a b) o = refl
+plain-followed prog (symm a) o = refl
+plain-followed prog (congr a i b) o = refl
+plain-followed prog (containerNormalize a) o = refl
+plain-followed prog eval o = refl
 
 -- a fact before its premise
 module _ (room : Room) (prog : Program) (proofs : List Proof) (strict : Bool) (name : ℕ) (f : Fact) (y : ℕ) (σ : List Binding) (s : List Term) where
@@ -133,6 +155,7 @@ module _ {J : List ℕ} {p name : ℕ} (R : RuleStep J p name) where
     kind = λ _. R .kind;
     inside = λ _. h;
     plain = λ u. absurd (true≢false u);
+    follows = turns-followed prog (ruleFor J r .facts) premises ∙ ap (λ (o : Option Rule). followedBy prog o premises) f ∙ ap (followed prog) (sym (R .is));
     step = λ room strict G ps sub done s. rule-even room strict G ps sub done s (ruleFor J r) f l;
   }
 
@@ -148,6 +171,8 @@ plans-plain {J} {p} o O e =
       kind = λ u. absurd (true≢false (sym u));
       inside = λ u. absurd (true≢false (sym u));
       plain = λ _. c;
+      follows = ap (λ (xs : List ℕ). followedTurns (programFor J) (map ofProof xs)) (O .other e .1) ∙ proofs-followed (programFor J) (references (getD (proofsFor J) p noProof .justification))
+          ∙ plain-followed (programFor J) (getD (proofsFor J) p noProof .justification) (O .other e .0);
       step = λ room strict G ps sub done s.
           ap (λ (xs : List ℕ). (takeTurns room (programFor J) (proofsFor J) strict (o .first) sub (map ofProof xs) (readBindings G, done)
           >>= finishStep room (programFor J) (proofsFor J) ps p (claimAt (proofsFor J) p) (getD (proofsFor J) p noProof .justification) none) s) (O .other e .1)

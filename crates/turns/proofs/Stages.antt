@@ -49,7 +49,7 @@ walks-stage : {J : List ℕ} {F G U k e q : List ℕ} {f : Fill} {memo W k₁ e�
     → Walks {A = List Binding × List ℕ} J F G U k e q f W k₁ e₁ p₁ f₁ r memo₁ W₁ (λ d. (b, d)) (λ room ps done s. andThen (c room ps s) (λ τ. pure (τ, done)))
 walks-stage {b = b} c g gr d s lMemo lW front back = record {
   grown = gr;
-  after = λ n. record { ground = ground-after g gr (s n .0) (s n .1) (s n .2) lMemo lW; grows = s n .0; globals = front };
+  after = λ n. record { ground = ground-after g gr (s n .0) (s n .1) (s n .2) lMemo lW back; grows = s n .0; globals = front };
   walked = λ ps done x y. record { done = done; does = does-map (λ τ. (τ, done)) (b, done) (d ps x) (λ _. refl); flags = λ _. flags-same back y };
 }
 

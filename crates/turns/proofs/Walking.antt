@@ -4,8 +4,8 @@ use mathlib.Core.Bool.{Bool, true, false, _||_}
 use mathlib.Core.List.{List, _∷_}
 use Prim.Native.Nat.{ℕ, _+_, _<_, _≤_}
 use native.Mathlib.Omega.{arith}
-use lib.Dec.{eqb}
-use borrow.Author.Tests.{eqb-true, eqb-false}
+use lib.Dec.{eqb, ltb}
+use borrow.Author.Tests.{eqb-true, eqb-false, lt-ltb}
 use lib.ListN.{length, getD, set, take}
 use lib.Seq.{getD-set-same, getD-set-other}
 use Rattle.model.specs.Layout.{sizesOf}
@@ -13,6 +13,7 @@ use Rattle.model.specs.Program.{Proposition}
 use Rattle.model.specs.Decode.{readBindings}
 use Rattle.model.specs.Check.{Check, andThen, Room}
 use Rattle.model.specs.Walk.{member}
+use Rattle.model.specs.Height.{height}
 use Rattle.model.specs.Term.{Extends}
 use Rattle.model.proofs.Store.{extends-same, extends-then}
 use Rattle.cells.specs.declared.Fill.{Fill}
@@ -22,9 +23,10 @@ use Rattle.outcome.specs.Does.{passed, Grown, Does}
 use Rattle.outcome.specs.declared.Refusal.{Refusal}
 use Rattle.outcome.proofs.Laws.{ok-of, grown-same, grown-then, does-then, does-stop}
 use Rattle.program.specs.Ready.{programFor}
+use Rattle.program.specs.Read.{proofsFor}
 use Rattle.evaluate.specs.Evaluation.{Sane}
 use Rattle.context.specs.Contexts.{GlobalPairs}
-use Rattle.turns.specs.Walking.{Flags, Ground, After, Walks}
+use Rattle.turns.specs.Walking.{Flags, Heights, Ground, After, Walks}
 
 after-same : {J : List ℕ} {F G k e p : List ℕ} {f : Fill} {memo W : List ℕ} → Ground J F G k e p f memo W → After J F G k e p f W k e p f memo W
 after-same g = record { ground = g; grows = extends-same; globals = refl }
@@ -88,23 +90,42 @@ walks-as {k = k} {e = e} {p = p} {f = f} {k₁ = k₁} {e₁ = e₁} {p₁ = p�
 
 -- the flags of scratch whose last part is as it was
 pub flags-same : {c : ℕ} {W W′ : List ℕ} {n : ℕ} {done : List ℕ} → ((i : ℕ) → getD W′ (c + c + i) 0 ≡ getD W (c + c + i) 0) → Flags c W n done → Flags c W′ n done
-flags-same h w = record { is = λ i l. ap (λ (x : ℕ). eqb x 1) (h i) ∙ w .is i l }
+flags-same h w = record { is = λ i l. ap (ltb 0) (h i) ∙ w .is i l }
 
--- a proof that is checked
-pub flags-set : {c : ℕ} {W : List ℕ} {n : ℕ} {done : List ℕ} (p : ℕ) → p < n → c + c + n ≤ length W → Flags c W n done → Flags c (set W (c + c + p) 1) n (p ∷ done)
-flags-set {c} {W} {n} {done} p h l w = record { is = λ i u. go i u (eqb i p) refl }
-  where
-    go : (i : ℕ) → i < n → (b : Bool) → eqb i p ≡ b → eqb (getD (set W (c + c + p) 1) (c + c + i) 0) 1 ≡ (eqb i p || member i done)
-    go i u true q =
-        let j : i ≡ p = eqb-true i p q in
-        ap (λ (m : ℕ). eqb (getD (set W (c + c + p) 1) (c + c + m) 0) 1) j
-        ∙ ap (λ (x : ℕ). eqb x 1) (getD-set-same W (c + c + p) 1 0 (omega arith))
-        ∙ ap (λ (b : Bool). b || member i done) (sym q)
-    go i u false q =
-        let j = eqb-false i p q in
-        ap (λ (x : ℕ). eqb x 1) (getD-set-other W (c + c + p) (c + c + i) 1 0 (λ y. j (omega arith)))
-        ∙ w .is i u
-        ∙ ap (λ (b : Bool). b || member i done) (sym q)
+-- and the heights
+heights-same : {J : List ℕ} {c d : ℕ} {W W′ : List ℕ} → d ≡ c → ((i : ℕ) → getD W′ (c + c + i) 0 ≡ getD W (c + c + i) 0) → Heights J c W → Heights J d W′
+heights-same {J} {c} {d} {W} {W′} q h w = subst⁻¹ (λ (m : ℕ). Heights J m W′) q (record { is = λ i l u. h i ∙ w .is i l (subst (λ (x : ℕ). 0 < x) (h i) u) })
+
+-- a proof that is checked, and its height
+module _ {c : ℕ} {W : List ℕ} {n h : ℕ} (p : ℕ) (lt : p < n) (l : c + c + n ≤ length W) where
+  pub flags-set : {done : List ℕ} → 0 < h → Flags c W n done → Flags c (set W (c + c + p) h) n (p ∷ done)
+  flags-set {done} z w = record { is = λ i u. go i u (eqb i p) refl }
+    where
+      go : (i : ℕ) → i < n → (b : Bool) → eqb i p ≡ b → ltb 0 (getD (set W (c + c + p) h) (c + c + i) 0) ≡ (eqb i p || member i done)
+      go i u true q =
+          let j : i ≡ p = eqb-true i p q in
+          ap (λ (m : ℕ). ltb 0 (getD (set W (c + c + p) h) (c + c + m) 0)) j
+          ∙ ap (ltb 0) (getD-set-same W (c + c + p) h 0 (omega arith))
+          ∙ lt-ltb 0 h z
+          ∙ ap (λ (b : Bool). b || member i done) (sym q)
+      go i u false q =
+          let j = eqb-false i p q in
+          ap (ltb 0) (getD-set-other W (c + c + p) (c + c + i) h 0 (λ y. j (omega arith)))
+          ∙ w .is i u
+          ∙ ap (λ (b : Bool). b || member i done) (sym q)
+
+  pub heights-set : {J : List ℕ} → n ≡ sizesOf J .proofs → h ≡ height (programFor J) (proofsFor J) p → Heights J c W → Heights J c (set W (c + c + p) h)
+  heights-set {J} m e w = record { is = λ i u. go i u (eqb i p) refl }
+    where
+      go : (i : ℕ) → i < sizesOf J .proofs → (b : Bool) → eqb i p ≡ b → 0 < getD (set W (c + c + p) h) (c + c + i) 0 → getD (set W (c + c + p) h) (c + c + i) 0 ≡ height (programFor J) (proofsFor J) i
+      go i u true q z =
+          let j : i ≡ p = eqb-true i p q in
+          ap (λ (m : ℕ). getD (set W (c + c + p) h) (c + c + m) 0) j
+          ∙ getD-set-same W (c + c + p) h 0 (omega arith) ∙ e ∙ ap (height (programFor J) (proofsFor J)) (sym j)
+      go i u false q z =
+          let j = eqb-false i p q in
+          let o = getD-set-other W (c + c + p) (c + c + i) h 0 (λ y. j (omega arith)) in
+          o ∙ w .is i u (subst (λ (x : ℕ). 0 < x) o z)
 
 -- a check that passed
 pub walks-passed : {J : List ℕ} {F G U k e p : List ℕ} {f : Fill} {W k₁ e₁ p₁ : List ℕ} {f₁ : Fill} {memo₁ W₁ : List ℕ} {A : Type 0} {r : Refusal} {a : List ℕ → A} {o : Room → List Proposition → List ℕ → Check A}
@@ -122,8 +143,8 @@ walks-passed {k₁ = k₁} {e₁ = e₁} {p₁ = p₁} {f₁ = f₁} {r = r} {a 
 -- what is handed on
 pub ground-after : {J : List ℕ} {F G k e p : List ℕ} {f : Fill} {memo W k₁ e₁ p₁ : List ℕ} {f₁ : Fill} {memo₁ W₁ : List ℕ} → Ground J F G k e p f memo W
     → Grown k e p f k₁ e₁ p₁ f₁ → Extends (termsIn k e p f) (termsIn k₁ e₁ p₁ f₁) → Sane (programFor J) (readBindings G) (termsIn k₁ e₁ p₁ f₁) → Past memo₁ → length memo₁ ≡ length memo → length W₁ ≡ length W
-    → Ground J F G k₁ e₁ p₁ f₁ memo₁ W₁
-ground-after g w x s q a b = record {
+    → ((i : ℕ) → getD W₁ (length k + length k + i) 0 ≡ getD W (length k + length k + i) 0) → Ground J F G k₁ e₁ p₁ f₁ memo₁ W₁
+ground-after g w x s q a b back = record {
   ready = g .ready;
   searched = g .searched;
   stored = w .stored;
@@ -132,4 +153,5 @@ ground-after g w x s q a b = record {
   fits = let u = g .fits in omega arith;
   past = q;
   long = let u = g .long in let v = w .lenK in omega arith;
+  heights = heights-same (w .lenK) back (g .heights);
 }

@@ -13,6 +13,7 @@ use Rattle.model.specs.Check.{Check, _>>=_, pure, choose, Room}
 use Rattle.model.specs.Fact.{assertBodyProofNormalForm, isContainerSideCondition, checkSideCondition, checkFactMatchesProposition}
 use Rattle.model.specs.Action.{checkRuleProducesEquality}
 use Rattle.model.specs.Walk.{noProof, claimAt, checkJustification}
+use Rattle.model.specs.Height.{followUnless, followed}
 use Rattle.cells.specs.declared.Fill.{Fill}
 use Rattle.termdag.specs.Store.{termsIn}
 use Rattle.outcome.specs.Does.{outcomeOf}
@@ -46,6 +47,11 @@ factTurns (f ∷ fs) (p ∷ ps) = ofFact f p ∷ factTurns fs ps
 abbrev pub isSettled : Program → Turn → Bool
 isSettled prog (ofFact f p) = isContainerSideCondition prog f
 isSettled prog (ofProof p) = false
+
+-- The proofs that turns walk.
+abbrev pub followedTurns : Program → List Turn → List ℕ
+followedTurns prog [] = []
+followedTurns prog (t ∷ ts) = followUnless (isSettled prog t) (proofOf t) (followedTurns prog ts)
 
 module _ (room : Room) (prog : Program) (proofs : List Proof) (strict : Bool) (name : ℕ) where
   -- Before the proof: the normal form and a side condition; the bindings then.
@@ -104,6 +110,7 @@ pub record Planned (J : List ℕ) (p : ℕ) (rule : Bool) (r first second count 
   pub kind : rule ≡ true → proofCell J p .kind ≡ 1
   pub inside : rule ≡ true → r < sizesOf J .rules
   pub plain : rule ≡ false → count ≤ 2
+  pub follows : followedTurns (programFor J) (turnsBy J p rule r first second count) ≡ followed (programFor J) (getD (proofsFor J) p noProof .justification)
   pub step : (room : Room) (strict : Bool) (G : List ℕ) (ps : List Proposition) (sub : ℕ → List ℕ → Check (List ℕ)) (done : List ℕ) (s : List Term)
       → (takeTurns room (programFor J) (proofsFor J) strict first sub (turnsBy J p rule r first second count) (bindingsBy J p rule [] G, done)
       >>= finishStep room (programFor J) (proofsFor J) ps p (claimAt (proofsFor J) p) (getD (proofsFor J) p noProof .justification) (headBy J rule r)) s

@@ -1,10 +1,10 @@
 -- The contract of the walk over the proofs. Scratch has a mark for each cell of the store, for the global pairs; one more for each, for the head at hand; and a word for each
--- proof, 1 where it is checked.
+-- proof: its height where it is checked, else 0.
 use Prim.Native.Nat.{ℕ, _+_, _<_, _≤_}
 use mathlib.Core.Path.{_≡_}
 use mathlib.Core.List.{List, [], _∷_, map}
 use mathlib.Core.Bool.{Bool, true, false}
-use lib.Dec.{eqb}
+use lib.Dec.{ltb}
 use lib.ListN.{length, getD, take}
 use Rattle.model.specs.Layout.{sizesOf}
 use Rattle.model.specs.Term.{readTerm, Extends}
@@ -13,6 +13,7 @@ use Rattle.model.specs.Decode.{readBindings}
 use Rattle.model.specs.Check.{Outcome, Check, _>>=_, pure, Room}
 use Rattle.model.specs.Action.{ActionContext, checkRuleProducesEquality}
 use Rattle.model.specs.Walk.{noProof, member, checkPremises}
+use Rattle.model.specs.Height.{height}
 use Rattle.cells.specs.declared.Fill.{Fill}
 use Rattle.termdag.specs.Store.{termsIn, Stored, roomOf}
 use Rattle.memo.specs.Memo.{Past}
@@ -28,7 +29,11 @@ use Rattle.turns.specs.declared.Needs.{Needs}
 
 -- Of n proofs those in `done` are checked, by the words of W behind two for each of c cells.
 pub record Flags (c : ℕ) (W : List ℕ) (n : ℕ) (done : List ℕ) : Type 0 where
-  pub is : (p : ℕ) → p < n → eqb (getD W (c + c + p) 0) 1 ≡ member p done
+  pub is : (p : ℕ) → p < n → ltb 0 (getD W (c + c + p) 0) ≡ member p done
+
+-- The word of a proof that is checked is its height.
+pub record Heights (J : List ℕ) (c : ℕ) (W : List ℕ) : Type 0 where
+  pub is : (p : ℕ) → p < sizesOf J .proofs → 0 < getD W (c + c + p) 0 → getD W (c + c + p) 0 ≡ height (programFor J) (proofsFor J) p
 
 -- What the walk is handed: an admitted job with its offences F and the global bindings G, a store that has the job's terms and is sane, a memo, and scratch.
 pub record Ground (J : List ℕ) (F G k e p : List ℕ) (f : Fill) (memo W : List ℕ) : Type 0 where
@@ -40,6 +45,7 @@ pub record Ground (J : List ℕ) (F G k e p : List ℕ) (f : Fill) (memo W : Lis
   pub fits : sizesOf J .expressions + sizesOf J .expressions < length memo
   pub past : Past memo
   pub long : length k + length k + sizesOf J .proofs ≤ length W
+  pub heights : Heights J (length k) W
 
 -- The context of the global bindings and pairs.
 abbrev pub contextOf : List ℕ → List Proposition → ActionContext

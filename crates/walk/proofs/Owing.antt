@@ -3,7 +3,7 @@ use mathlib.Core.Path.{_≡_, refl, sym, ap, subst, subst⁻¹, _∙_}
 use mathlib.Core.Bool.{Bool, true, false, true≢false}
 use mathlib.Core.List.{List, [], _∷_, map, nil≢cons, head-eq-of-cons-eq}
 use mathlib.Core.Option.{Option}
-use Prim.Native.Nat.{ℕ, zero, suc, _+_, _-_, _<_, _≤_}
+use Prim.Native.Nat.{ℕ, zero, suc, _+_, _-_, _<_, _≤_, max}
 use native.Mathlib.Numerals.{add-one}
 use native.Mathlib.Omega.{arith}
 use native.Mathlib.Decide.{decLt}
@@ -14,12 +14,13 @@ use Rattle.model.specs.Term.{Term}
 use Rattle.model.specs.Program.{Proposition, Binding, Program, Rule, Proof, Justification}
 use Rattle.model.specs.Check.{Outcome, ok, refused, Check, andThen, _>>=_, pure, choose, Room}
 use Rattle.model.specs.Walk.{noProof, claimAt, checkJustification, checkProofWithContext}
+use Rattle.model.specs.Height.{followUnless, followed, maximum, height}
 use Rattle.cells.specs.declared.Fill.{Fill}
 use Rattle.termdag.specs.Store.{termsIn, roomOf}
 use Rattle.outcome.specs.Does.{passed, Grown}
 use Rattle.outcome.specs.declared.Refusal.{Refusal}
 use Rattle.outcome.proofs.Laws.{does-here, grown-same}
-use Rattle.program.specs.Ready.{programFor}
+use Rattle.program.specs.Ready.{Ready, programFor}
 use Rattle.program.specs.Read.{proofsFor, pairsFor}
 use Rattle.evaluate.specs.Evaluation.{Sane}
 use Rattle.actions.specs.Acting.{effectBindings, Pushed}
@@ -34,7 +35,8 @@ use Rattle.turns.specs.declared.Stage.{Stage}
 use Rattle.turns.proofs.Tying.{sane-substitution}
 use Rattle.turns.specs.Walking.{Ground, Walks, contextOf}
 use Rattle.walk.specs.Start.{Starts}
-use Rattle.turns.specs.Turning.{Turn, ofProof, proofOf, noTurn, isSettled, beforeProof, afterProof, walkProof, takeTurns, endStep, finishStep, stageOf, isOver, turnsBy, headBy, bindingsBy, Planned, Plans, Advances}
+use Rattle.walk.proofs.Justifying.{height-for, height-few}
+use Rattle.turns.specs.Turning.{Turn, ofProof, proofOf, noTurn, isSettled, followedTurns, beforeProof, afterProof, walkProof, takeTurns, endStep, finishStep, stageOf, isOver, turnsBy, headBy, bindingsBy, Planned, Plans, Advances}
 use Rattle.turns.proofs.Walking.{walks-here, walks-then, walks-stop, walks-as, walks-passed}
 use Rattle.model.proofs.Sequence.{then-assoc, then-alike}
 
@@ -195,8 +197,34 @@ module _ (J : List ℕ) (strict : Bool) (F G U : List ℕ) (p : ℕ) (rule : Boo
       go (x ∷ xs) zero = (x, refl)
       go (x ∷ xs) (suc j) = go xs j
 
-  -- the step came to its turn i. In state 0 the turn is at its start, in state 1 its proof is to be walked, in state 2 it was
-  pub record Task (k₀ e₀ p₀ : List ℕ) (f₀ : Fill) (memo₀ W₀ k e q : List ℕ) (f : Fill) (memo W T : List ℕ) (at i s : ℕ) : Type 0 where
+  -- the greatest height among the proofs that turns walk
+  abbrev highest : List Turn → ℕ
+  highest ts = maximum (map (height (programFor J) (proofsFor J)) (followedTurns (programFor J) ts))
+
+  highest-settled : (t : Turn) (ts : List Turn) → isSettled (programFor J) t ≡ true → highest (t ∷ ts) ≡ highest ts
+  highest-settled t ts e = ap (λ (b : Bool). maximum (map (height (programFor J) (proofsFor J)) (followUnless b (proofOf t) (followedTurns (programFor J) ts)))) e
+
+  highest-walked : (t : Turn) (ts : List Turn) → isSettled (programFor J) t ≡ false → highest (t ∷ ts) ≡ max (height (programFor J) (proofsFor J) (proofOf t)) (highest ts)
+  highest-walked t ts e = ap (λ (b : Bool). maximum (map (height (programFor J) (proofsFor J)) (followUnless b (proofOf t) (followedTurns (programFor J) ts)))) e
+
+  -- the first turn whose proof may still be walked
+  abbrev reached : ℕ → ℕ → ℕ
+  reached i zero = i
+  reached i (suc zero) = i
+  reached i (suc (suc s)) = suc i
+
+  reached-low : (i s : ℕ) → s ≤ 1 → reached i s ≡ i
+  reached-low i zero l = refl
+  reached-low i (suc zero) l = refl
+  reached-low i (suc (suc s)) l = absurd (omega arith)
+
+  reached-least : (i s : ℕ) → i ≤ reached i s
+  reached-least i zero = omega arith
+  reached-least i (suc zero) = omega arith
+  reached-least i (suc (suc s)) = omega arith
+
+  -- the step came to its turn i. In state 0 the turn is at its start, in state 1 its proof is to be walked, in state 2 it was; `most` is the greatest height of those that were
+  pub record Task (k₀ e₀ p₀ : List ℕ) (f₀ : Fill) (memo₀ W₀ k e q : List ℕ) (f : Fill) (memo W T : List ℕ) (at most i s : ℕ) : Type 0 where
     pub few : s ≤ 2
     pub upto : i ≤ suc count
     pub full : length T ≡ 34
@@ -209,6 +237,7 @@ module _ (J : List ℕ) (strict : Bool) (F G U : List ℕ) (p : ℕ) (rule : Boo
     pub owes : i ≤ count → (s ≡ 1 → ⊥) → Owes J strict F G U p k₀ e₀ p₀ f₀ W₀ k e q f memo W (bindings (drop at T)) (rest (drop i turns) s)
     pub due : s ≡ 1 → (i < count) × (isSettled (programFor J) (getD turns i noTurn) ≡ false) × Owes J strict F G U p k₀ e₀ p₀ f₀ W₀ k e q f memo W (bindings (drop at T)) (next (getD turns i noTurn ∷ drop (suc i) turns) 0)
     pub ends : rule ≡ false → (s ≡ 1 → ⊥) → count ≤ i
+    pub high : max most (highest (drop (reached i s) turns)) ≡ highest turns
     pub ended : i ≡ suc count → Walks J F G U k₀ e₀ p₀ f₀ W₀ k e q f passed memo W (λ d. d) (stepOf J strict F G U p)
 
   module _ (S : Planned J p rule r first second count) where
@@ -237,7 +266,7 @@ module _ (J : List ℕ) (strict : Bool) (F G U : List ℕ) (p : ℕ) (rule : Boo
           )
 
     pub task-start : {k e q : List ℕ} {f : Fill} {memo W T : List ℕ} {s : ℕ} → Ground J F G k e q f memo W → (rule ≡ true → Sane (programFor J) (bindings []) (termsIn k e q f)) → length T ≡ 34 → Starts rule count 0 s
-        → Task k e q f memo W k e q f memo W T 34 0 s
+        → Task k e q f memo W k e q f memo W T 34 0 0 s
     task-start {k} {e} {q} {f} {memo} {W} {T} {s} g w l x = record {
       few = let m = x .few in omega arith;
       upto = omega arith;
@@ -251,6 +280,7 @@ module _ (J : List ℕ) (strict : Bool) (F G U : List ℕ) (p : ℕ) (rule : Boo
       owes = λ _. starts-owes whole x;
       due = starts-due whole x;
       ends = x .ends;
+      high = let m = ap (λ (n : ℕ). highest (drop n turns)) (reached-low 0 s (x .few)) in omega arith;
       ended = λ u. absurd (omega arith);
     }
       where
@@ -265,7 +295,7 @@ module _ (J : List ℕ) (strict : Bool) (F G U : List ℕ) (p : ℕ) (rule : Boo
         })
 
     -- a stage
-    module _ {k₀ e₀ p₀ : List ℕ} {f₀ : Fill} {memo₀ W₀ k e q : List ℕ} {f : Fill} {memo W T : List ℕ} {at i v : ℕ} (t : Task k₀ e₀ p₀ f₀ memo₀ W₀ k e q f memo W T at i v) (h : i ≤ count) (v≢1 : v ≡ 1 → ⊥) where
+    module _ {k₀ e₀ p₀ : List ℕ} {f₀ : Fill} {memo₀ W₀ k e q : List ℕ} {f : Fill} {memo W T : List ℕ} {at most i v : ℕ} (t : Task k₀ e₀ p₀ f₀ memo₀ W₀ k e q f memo W T at most i v) (h : i ≤ count) (v≢1 : v ≡ 1 → ⊥) where
       pub task-ground : Ground J F G k e q f memo W
       task-ground = t .owes h v≢1 .walks .after refl .ground
 
@@ -301,6 +331,21 @@ module _ (J : List ℕ) (strict : Bool) (F G U : List ℕ) (p : ℕ) (rule : Boo
             none-left : drop i turns ≡ []
             none-left = drop-of-length-le turns {i = i} (let m = S .long in omega arith)
 
+        over-high : c .refusal .number ≡ 0 → c .settled ≡ true → highest (drop (reached i v) turns) ≡ highest (drop (suc i) turns)
+        over-high n s = by (decLt i count)
+          where
+            go : (w : ℕ) → (w ≡ 1 → ⊥) → drop i turns ≡ getD turns i noTurn ∷ drop (suc i) turns → isOver (programFor J) (drop i turns) w ≡ true → highest (drop (reached i w) turns) ≡ highest (drop (suc i) turns)
+            go zero m e o = ap highest e ∙ highest-settled (getD turns i noTurn) (drop (suc i) turns) (sym (ap (λ (ts : List Turn). isOver (programFor J) ts 0) e) ∙ o)
+            go (suc zero) m e o = absurd (m refl)
+            go (suc (suc w)) m e o = refl
+
+            none-left : (m : ℕ) → count ≤ m → drop m turns ≡ []
+            none-left m l = drop-of-length-le turns {i = m} (let x = S .long in omega arith)
+
+            by : Dec (i < count) → highest (drop (reached i v) turns) ≡ highest (drop (suc i) turns)
+            by (yes l) = go v v≢1 (left-at l) (sym (here .over n) ∙ s)
+            by (no l) = let b = reached-least i v in ap highest (none-left (reached i v) (omega arith) ∙ sym (none-left (suc i) (omega arith)))
+
         module _ {y : Effect} {T₁ : List ℕ} {at₁ : ℕ} (ps : Pushed T at y T₁ at₁) (b : (ρ : List Binding) → effectBindings y ρ ≡ boundOver (c .binds) ρ) where
           bound : boundOver (c .binds) σ ≡ bindings (drop at₁ T₁)
           bound = go rule refl
@@ -310,7 +355,7 @@ module _ (J : List ℕ) (strict : Bool) (F G U : List ℕ) (p : ℕ) (rule : Boo
               go false e = ap (λ (w : Binds). boundOver w (bindingsBy J p false (drop at T) G)) (here .plain e)
 
           pub task-settles : c .refusal .number ≡ 0 → c .settled ≡ true → length T₁ ≡ length T → length memo₁ ≡ length memo → length W₁ ≡ length W → Grown k₀ e₀ p₀ f₀ k₁ e₁ p₁ (c .fill)
-              → Task k₀ e₀ p₀ f₀ memo₀ W₀ k₁ e₁ p₁ (c .fill) memo₁ W₁ T₁ at₁ (i + 1) 0
+              → Task k₀ e₀ p₀ f₀ memo₀ W₀ k₁ e₁ p₁ (c .fill) memo₁ W₁ T₁ at₁ most (i + 1) 0
           task-settles n s lT lMemo lW gr = record {
             few = omega arith;
             upto = omega arith;
@@ -325,6 +370,7 @@ module _ (J : List ℕ) (strict : Bool) (F G U : List ℕ) (p : ℕ) (rule : Boo
                 (subst (λ (ρ : List Binding). Owes J strict F G U p k₀ e₀ p₀ f₀ W₀ k₁ e₁ p₁ (c .fill) memo₁ W₁ ρ (rest (drop (suc i) turns) 0)) bound (after-over n s (omega arith)));
             due = λ u. absurd (omega arith);
             ends = λ u _. let l = t .ends u v≢1 in omega arith;
+            high = ap (λ (m : ℕ). max most (highest (drop m turns))) (add-one i) ∙ ap (max most) (sym (over-high n s)) ∙ t .high;
             ended = λ u. after-end n (omega arith);
           }
 
@@ -355,7 +401,7 @@ module _ (J : List ℕ) (strict : Bool) (F G U : List ℕ) (p : ℕ) (rule : Boo
           owed = subst (λ (m : ℕ). Owes J strict F G U p k₀ e₀ p₀ f₀ W₀ k₁ e₁ p₁ (c .fill) memo₁ W₁ (boundOver (c .binds) σ) (next (getD turns i noTurn ∷ drop (suc i) turns) m)) (waits .1)
               (subst (λ (ts : List Turn). Owes J strict F G U p k₀ e₀ p₀ f₀ W₀ k₁ e₁ p₁ (c .fill) memo₁ W₁ (boundOver (c .binds) σ) (next ts v)) (left-at (waits .0)) (advanced n))
 
-          pub task-waits : length memo₁ ≡ length memo → length W₁ ≡ length W → Grown k₀ e₀ p₀ f₀ k₁ e₁ p₁ (c .fill) → Task k₀ e₀ p₀ f₀ memo₀ W₀ k₁ e₁ p₁ (c .fill) memo₁ W₁ T at i 1
+          pub task-waits : length memo₁ ≡ length memo → length W₁ ≡ length W → Grown k₀ e₀ p₀ f₀ k₁ e₁ p₁ (c .fill) → Task k₀ e₀ p₀ f₀ memo₀ W₀ k₁ e₁ p₁ (c .fill) memo₁ W₁ T at most i 1
           task-waits lMemo lW gr = record {
             few = omega arith;
             upto = t .upto;
@@ -369,11 +415,12 @@ module _ (J : List ℕ) (strict : Bool) (F G U : List ℕ) (p : ℕ) (rule : Boo
             owes = λ _ u. absurd (u refl);
             due = λ _. (waits .0, waits .2, subst (λ (ρ : List Binding). Owes J strict F G U p k₀ e₀ p₀ f₀ W₀ k₁ e₁ p₁ (c .fill) memo₁ W₁ ρ (next (getD turns i noTurn ∷ drop (suc i) turns) 0)) quiet owed);
             ends = λ _ u. absurd (u refl);
+            high = subst (λ (m : ℕ). max most (highest (drop (reached i m) turns)) ≡ highest turns) (waits .1) (t .high);
             ended = λ u. let l = waits .0 in absurd (omega arith);
           }
 
     -- the proof is walked
-    module _ {k₀ e₀ p₀ : List ℕ} {f₀ : Fill} {memo₀ W₀ k e q : List ℕ} {f : Fill} {memo W T : List ℕ} {at i v : ℕ} (t : Task k₀ e₀ p₀ f₀ memo₀ W₀ k e q f memo W T at i v) (v≡1 : v ≡ 1) where
+    module _ {k₀ e₀ p₀ : List ℕ} {f₀ : Fill} {memo₀ W₀ k e q : List ℕ} {f : Fill} {memo W T : List ℕ} {at most i v : ℕ} (t : Task k₀ e₀ p₀ f₀ memo₀ W₀ k e q f memo W T at most i v) (v≡1 : v ≡ 1) where
       pub task-turn : i < count
       task-turn = t .due v≡1 .0
 
@@ -397,7 +444,7 @@ module _ (J : List ℕ) (strict : Bool) (F G U : List ℕ) (p : ℕ) (rule : Boo
         task-walk-stops m = owes-stop J strict F G U p (t .due v≡1 .2) (walks turn) (rest (turn ∷ drop (suc i) turns) 2) (walk-is turn (drop (suc i) turns) (t .due v≡1 .1))
             (walks-stop walked-proof (λ d. (τ, d)) (λ room ps d. pure (τ, d)) m) m
 
-        module _ (m : r₂ .number ≡ 0) (lMemo : length memo₂ ≡ length memo) (lW : length W₂ ≡ length W) (gr : Grown k₀ e₀ p₀ f₀ k₂ e₂ p₂ f₂) where
+        module _ {h most₂ : ℕ} (hq : h ≡ height (programFor J) (proofsFor J) a) (mq : most₂ ≡ max most h) (m : r₂ .number ≡ 0) (lMemo : length memo₂ ≡ length memo) (lW : length W₂ ≡ length W) (gr : Grown k₀ e₀ p₀ f₀ k₂ e₂ p₂ f₂) where
           owed-after : Owes J strict F G U p k₀ e₀ p₀ f₀ W₀ k₂ e₂ p₂ f₂ memo₂ W₂ τ (rest (turn ∷ drop (suc i) turns) 2)
           owed-after = owes-then J strict F G U p (t .due v≡1 .2) (walks turn) (rest (turn ∷ drop (suc i) turns) 2) (walk-is turn (drop (suc i) turns) (t .due v≡1 .1))
               (walks-then walked-proof (λ room ps d. pure (τ, d)) m (walks-here {r = passed} (w .after m .ground) (λ ps done u. does-here (w .after m .ground .stored) refl))) refl
@@ -405,7 +452,14 @@ module _ (J : List ℕ) (strict : Bool) (F G U : List ℕ) (p : ℕ) (rule : Boo
           sane-after : rule ≡ true → Sane (programFor J) τ (termsIn k₂ e₂ p₂ f₂)
           sane-after u = sane-fewer (t .sane u (let l = task-turn in omega arith)) (w .after m .grows) (w .after m .ground .sane)
 
-          pub task-walks : rule ≡ true → Task k₀ e₀ p₀ f₀ memo₀ W₀ k₂ e₂ p₂ f₂ memo₂ W₂ T at i 2
+          high-after : max most₂ (highest (drop (suc i) turns)) ≡ highest turns
+          high-after =
+              let x : max most (highest (drop i turns)) ≡ highest turns = subst (λ (n : ℕ). max most (highest (drop (reached i n) turns)) ≡ highest turns) v≡1 (t .high) in
+              let z : highest (drop i turns) ≡ max (height (programFor J) (proofsFor J) (proofOf turn)) (highest (drop (suc i) turns)) = ap highest (left-at task-turn) ∙ highest-walked turn (drop (suc i) turns) (t .due v≡1 .1) in
+              let o : h ≡ height (programFor J) (proofsFor J) (proofOf turn) = hq ∙ ap (height (programFor J) (proofsFor J)) y in
+              omega (arith, x, z, o, mq)
+
+          pub task-walks : rule ≡ true → Task k₀ e₀ p₀ f₀ memo₀ W₀ k₂ e₂ p₂ f₂ memo₂ W₂ T at most₂ i 2
           task-walks is = record {
             few = omega arith;
             upto = t .upto;
@@ -419,11 +473,12 @@ module _ (J : List ℕ) (strict : Bool) (F G U : List ℕ) (p : ℕ) (rule : Boo
             owes = λ _ _. subst⁻¹ (λ (ts : List Turn). Owes J strict F G U p k₀ e₀ p₀ f₀ W₀ k₂ e₂ p₂ f₂ memo₂ W₂ τ (rest ts 2)) (left-at task-turn) owed-after;
             due = λ u. absurd (omega arith);
             ends = λ u _. absurd (true≢false (sym is ∙ u));
+            high = high-after;
             ended = λ u. let l = task-turn in absurd (omega arith);
           }
 
-          pub task-passes : rule ≡ false → {s : ℕ} → Starts rule count (i + 1) s → Task k₀ e₀ p₀ f₀ memo₀ W₀ k₂ e₂ p₂ f₂ memo₂ W₂ T at (i + 1) s
-          task-passes is x = record {
+          pub task-passes : rule ≡ false → {s : ℕ} → Starts rule count (i + 1) s → Task k₀ e₀ p₀ f₀ memo₀ W₀ k₂ e₂ p₂ f₂ memo₂ W₂ T at most₂ (i + 1) s
+          task-passes is {s} x = record {
             few = let n = x .few in omega arith;
             upto = let l = task-turn in omega arith;
             full = t .full;
@@ -436,6 +491,7 @@ module _ (J : List ℕ) (strict : Bool) (F G U : List ℕ) (p : ℕ) (rule : Boo
             owes = λ _. starts-owes passed-on x;
             due = starts-due passed-on x;
             ends = x .ends;
+            high = ap (λ (n : ℕ). max most₂ (highest (drop n turns))) (reached-low (i + 1) s (x .few) ∙ add-one i) ∙ high-after;
             ended = λ u. let l = task-turn in absurd (omega arith);
           }
             where
@@ -445,6 +501,22 @@ module _ (J : List ℕ) (strict : Bool) (F G U : List ℕ) (p : ℕ) (rule : Boo
                   subst⁻¹ (λ (n : ℕ). Owes J strict F G U p k₀ e₀ p₀ f₀ W₀ k₂ e₂ p₂ f₂ memo₂ W₂ τ (rest (drop n turns) 0)) (add-one i)
                   (owes-as J strict F G U p {rest = rest (ofProof (c .0) ∷ drop (suc i) turns) 2}
                   (subst (λ (u : Turn). Owes J strict F G U p k₀ e₀ p₀ f₀ W₀ k₂ e₂ p₂ f₂ memo₂ W₂ τ (rest (u ∷ drop (suc i) turns) 2)) (c .1) owed-after) (λ room ps b u. refl))
+
+    -- the height, at the end
+    pub task-height : Ready J → p < sizesOf J .proofs → {k₀ e₀ p₀ : List ℕ} {f₀ : Fill} {memo₀ W₀ k e q : List ℕ} {f : Fill} {memo W T : List ℕ} {at most i s : ℕ} → Task k₀ e₀ p₀ f₀ memo₀ W₀ k e q f memo W T at most i s → i ≡ suc count
+        → most + 1 ≡ height (programFor J) (proofsFor J) p
+    task-height R l {most = most} {i = i} {s = s} t u =
+        let a = reached-least i s in
+        let b : highest (drop (reached i s) turns) ≡ 0 = ap highest (drop-of-length-le turns {i = reached i s} (let m = S .long in omega arith)) in
+        let c = t .high in
+        let d : highest turns ≡ maximum (map (height (programFor J) (proofsFor J)) (followed (programFor J) (getD (proofsFor J) p noProof .justification))) = ap (λ (xs : List ℕ). maximum (map (height (programFor J) (proofsFor J)) xs)) (S .follows) in
+        let e = height-for R p l in
+        omega (arith, b, c, d, e)
+
+    -- it is a word
+    pub task-word : Ready J → p < sizesOf J .proofs → {k₀ e₀ p₀ : List ℕ} {f₀ : Fill} {memo₀ W₀ k e q : List ℕ} {f : Fill} {memo W T : List ℕ} {at most i s : ℕ} → Task k₀ e₀ p₀ f₀ memo₀ W₀ k e q f memo W T at most i s → i ≡ suc count
+        → most + 1 ≤ 4096
+    task-word R l t u = let h = task-height R l t u in let f = height-few R p in omega arith
 
 -- a plan that is refused
 pub plan-refused : (J : List ℕ) (strict : Bool) (F G U : List ℕ) (p : ℕ) {k e q : List ℕ} {f : Fill} {memo W : List ℕ} → Ground J F G k e q f memo W → {s : Plan} → Plans J p s → (s .refusal .number ≡ 0 → ⊥)
@@ -461,6 +533,6 @@ start-sane J p {G = G} {k = k} {e = e} {q = q} {f = f} g h {rule} u S =
 pub sane-part-by : (J : List ℕ) (p : ℕ) (G : List ℕ) (rule : Bool) {X Y : List ℕ} {s : List Term} → X ≡ Y → Sane (programFor J) (bindingsBy J p rule Y G) s → Sane (programFor J) (bindingsBy J p rule X G) s
 sane-part-by J p G rule {s = s} x w = subst⁻¹ (λ (X : List ℕ). Sane (programFor J) (bindingsBy J p rule X G) s) x w
 
-pub passed-as : {J : List ℕ} {F G U k e q : List ℕ} {f : Fill} {W k₁ e₁ p₁ : List ℕ} {f₁ : Fill} {memo₁ W₁ : List ℕ} {o : Room → List Proposition → List ℕ → Check (List ℕ)} {c : Checked} → c ≡ record { refusal = passed; value = 0; fill = f₁ }
+pub passed-as : {J : List ℕ} {F G U k e q : List ℕ} {f : Fill} {W k₁ e₁ p₁ : List ℕ} {f₁ : Fill} {memo₁ W₁ : List ℕ} {o : Room → List Proposition → List ℕ → Check (List ℕ)} {v : ℕ} {c : Checked} → c ≡ record { refusal = passed; value = v; fill = f₁ }
     → Walks J F G U k e q f W k₁ e₁ p₁ f₁ passed memo₁ W₁ (λ d. d) o → Walks J F G U k e q f W k₁ e₁ p₁ (c .fill) (c .refusal) memo₁ W₁ (λ d. d) o
 passed-as {J} {F} {G} {U} {k} {e} {q} {f} {W} {k₁} {e₁} {p₁} {memo₁ = memo₁} {W₁ = W₁} {o = o} h w = subst⁻¹ (λ (x : Checked). Walks J F G U k e q f W k₁ e₁ p₁ (x .fill) (x .refusal) memo₁ W₁ (λ d. d) o) h w

@@ -11,12 +11,12 @@ use turns::plan_step;
 use turns::reference;
 ghost use mathlib.Core.Path.{_≡_};
 ghost use mathlib.Core.List.{List};
-ghost use Prim.Native.Nat.{suc, _+_, _<_};
-ghost use lib.Dec.{eqb};
+ghost use Prim.Native.Nat.{suc, _+_, _<_, max};
 ghost use lib.ListN.{length, getD, set};
 ghost use Rattle.model.specs.Layout.{sizesOf};
 ghost use Rattle.model.specs.Program.{Binding};
 ghost use Rattle.model.specs.Walk.{noProof, claimAt, checkJustification, checkProofWithContext};
+ghost use Rattle.model.specs.Height.{height};
 ghost use Rattle.program.specs.Ready.{programFor};
 ghost use Rattle.program.specs.Read.{proofsFor};
 ghost use Rattle.actions.specs.Acting.{effectBindings};
@@ -24,20 +24,30 @@ ghost use Rattle.conditions.specs.Bound.{boundOver};
 ghost use Rattle.turns.specs.Walking.{Ground, Walks, contextOf};
 ghost use Rattle.walk.specs.Start.{Starts};
 
-// Proof p's word in scratch: 1 where it is checked.
-fn is_checked(scratch: &[u32], at: usize) -> bool
+// A proof's word in scratch: its height where it is checked, else 0.
+fn height_noted(scratch: &[u32], at: usize) -> u32
     requires { ⌜ at < length (now scratch) ⌝ }
-    ensures { λ r. ⌜ r ≡ eqb (getD (now (scratch .entry)) at 0) 1 ⌝ }
+    ensures { λ r. ⌜ r ≡ getD (now (scratch .entry)) at 0 ⌝ }
 {
-    scratch[at] == 1
+    scratch[at]
 }
 
-// Notes that a proof is checked.
-fn set_checked(scratch: &mut [u32], at: usize)
+// Notes the height of a proof that is checked.
+fn note_height(scratch: &mut [u32], at: usize, height: u32)
     requires { ⌜ at < length (now scratch) ⌝ }
-    ensures { λ _. ⌜ now (scratch .exit) ≡ set (now (scratch .entry)) at 1 ⌝ }
+    ensures { λ _. ⌜ now (scratch .exit) ≡ set (now (scratch .entry)) at height ⌝ }
 {
-    scratch[at] = 1;
+    scratch[at] = height;
+}
+
+// The greater of two.
+fn greater(a: u32, b: u32) -> u32
+    ensures { λ r. ⌜ r ≡ max a b ⌝ }
+{
+    if a < b {
+        return b;
+    }
+    a
 }
 
 // What a condition bound, as an action would.
@@ -63,8 +73,8 @@ fn state_at(rule: bool, count: usize, i: usize) -> usize
     0
 }
 
-// The step of proof p, a rule's too, turn by turn: each proof that it needs is walked, between what is done before it and after it. The walk and this check call each
-// other, with a falling proof number; all else is done in `advance`, outside of their frames.
+// The step of proof p, a rule's too, turn by turn: each proof that it needs is walked, between what is done before it and after it. The value is the height: one more than
+// the greatest among the proofs walked. The walk and this check call each other, with a falling proof number; all else is done in `advance`, outside of their frames.
 fn justify(
     job: &[u32],
     strict: bool,
@@ -81,7 +91,8 @@ fn justify(
 ) -> Checked
     requires { ⌜ Ground (now job) (now found) (now globals) (now skinds) (now sends) (now spool) fill (now memo) (now scratch) ⌝ }
     requires { ⌜ p < sizesOf (now job) .proofs ⌝ }
-    ensures { λ r. ⌜ Walks (now (job .entry)) (now (found .entry)) (now (globals .entry)) (now (unions .entry)) (now (skinds .entry)) (now (sends .entry)) (now (spool .entry)) fill (now (scratch .entry)) (now (skinds .exit)) (now (sends .exit)) (now (spool .exit)) (r .fill) (r .refusal) (now (memo .exit)) (now (scratch .exit)) (λ d. d) (λ room ps done. checkJustification room (programFor (now (job .entry))) (proofsFor (now (job .entry))) (contextOf (now (globals .entry)) ps) (checkProofWithContext room (programFor (now (job .entry))) (proofsFor (now (job .entry))) (contextOf (now (globals .entry)) ps) strict p) strict p (claimAt (proofsFor (now (job .entry))) p) (getD (proofsFor (now (job .entry))) p noProof .justification) done) ⌝ }
+    ensures does { λ r. ⌜ Walks (now (job .entry)) (now (found .entry)) (now (globals .entry)) (now (unions .entry)) (now (skinds .entry)) (now (sends .entry)) (now (spool .entry)) fill (now (scratch .entry)) (now (skinds .exit)) (now (sends .exit)) (now (spool .exit)) (r .fill) (r .refusal) (now (memo .exit)) (now (scratch .exit)) (λ d. d) (λ room ps done. checkJustification room (programFor (now (job .entry))) (proofsFor (now (job .entry))) (contextOf (now (globals .entry)) ps) (checkProofWithContext room (programFor (now (job .entry))) (proofsFor (now (job .entry))) (contextOf (now (globals .entry)) ps) strict p) strict p (claimAt (proofsFor (now (job .entry))) p) (getD (proofsFor (now (job .entry))) p noProof .justification) done) ⌝ }
+    ensures high { λ r. ⌜ (r .refusal .number ≡ 0 → r .value ≡ height (programFor (now (job .entry))) (proofsFor (now (job .entry))) p) ⌝ }
 {
     let s = plan_step(job, p);
     if s.refusal.number != 0 {
@@ -96,6 +107,7 @@ fn justify(
     let mut bound = [0u32; 34];
     let mut at = 34;
     let mut have = fill;
+    let mut most = 0;
     let mut i = 0;
     let mut state = state_at(s.rule, count, i);
     while i <= count {
@@ -119,6 +131,7 @@ fn justify(
                 return w;
             }
             have = w.fill;
+            most = greater(most, w.value);
             if s.rule {
                 state = 2;
                 continue;
@@ -167,10 +180,10 @@ fn justify(
         }
         state = 1;
     }
-    pass(0, have)
+    pass(most + 1, have)
 }
 
-// `check_proof_with_context`: a proof that is checked already is not checked again.
+// `check_proof_with_context`: a proof that is checked already is not checked again. The value is the proof's height.
 pub fn walk(
     job: &[u32],
     strict: bool,
@@ -187,12 +200,14 @@ pub fn walk(
 ) -> Checked
     requires { ⌜ Ground (now job) (now found) (now globals) (now skinds) (now sends) (now spool) fill (now memo) (now scratch) ⌝ }
     requires { ⌜ p < sizesOf (now job) .proofs ⌝ }
-    ensures { λ r. ⌜ Walks (now (job .entry)) (now (found .entry)) (now (globals .entry)) (now (unions .entry)) (now (skinds .entry)) (now (sends .entry)) (now (spool .entry)) fill (now (scratch .entry)) (now (skinds .exit)) (now (sends .exit)) (now (spool .exit)) (r .fill) (r .refusal) (now (memo .exit)) (now (scratch .exit)) (λ d. d) (λ room ps done. checkProofWithContext room (programFor (now (job .entry))) (proofsFor (now (job .entry))) (contextOf (now (globals .entry)) ps) strict (suc p) p done) ⌝ }
+    ensures does { λ r. ⌜ Walks (now (job .entry)) (now (found .entry)) (now (globals .entry)) (now (unions .entry)) (now (skinds .entry)) (now (sends .entry)) (now (spool .entry)) fill (now (scratch .entry)) (now (skinds .exit)) (now (sends .exit)) (now (spool .exit)) (r .fill) (r .refusal) (now (memo .exit)) (now (scratch .exit)) (λ d. d) (λ room ps done. checkProofWithContext room (programFor (now (job .entry))) (proofsFor (now (job .entry))) (contextOf (now (globals .entry)) ps) strict (suc p) p done) ⌝ }
+    ensures high { λ r. ⌜ (r .refusal .number ≡ 0 → r .value ≡ height (programFor (now (job .entry))) (proofsFor (now (job .entry))) p) ⌝ }
 {
     let cells = skinds.len();
     let at = cells + cells + wide(p);
-    if is_checked(scratch, at) {
-        return pass(0, fill);
+    let known = height_noted(scratch, at);
+    if known != 0 {
+        return pass(known, fill);
     }
     let r = justify(
         job,
@@ -211,6 +226,7 @@ pub fn walk(
     if r.refusal.number != 0 {
         return r;
     }
-    set_checked(scratch, at);
-    pass(0, r.fill)
+    let height = r.value;
+    note_height(scratch, at, height);
+    pass(height, r.fill)
 }

@@ -3,7 +3,7 @@ use native.Mathlib.Omega.{arith}
 use lib.ListN.{length}
 use Rattle.prepare.specs.Prepares.{arraysOf}
 use Rattle.entry.proofs.Ending.{entry-unwritten}
-use Rattle.entry.proofs.Laws.{refuses, job-given, job-asked, job-ready, terms-word, tells}
+use Rattle.entry.proofs.Laws.{refuses, job-given, job-asked, job-ready, terms-word, height-asked, tells}
 use borrow.Author.Needs.{needs}
 use Rattle.entry.proofs.check.Statement.{statement}
 use Rattle.entry.proofs.check.Tie as tie
@@ -39,16 +39,16 @@ wide-requires : tie.Need-wide-requires
 wide-requires c κs = search needs
 
 tell-requires : tie.Need-tell-requires
-tell-requires c κs = let S = c .before .before .before .before .before .before .before .before .before .before .before .before .before .before .before .before .before .before .before .before .before .before .before .before .prepare .ensures in let n = c .before .before .before .before .before .before .before .before .before .before .before .before .before .before .before .before .if2 .left in (job-ready S n, (omega (arith, c .before .wide .ensures, job-asked S n), (c .before .before .before .before .before .before .before .before .before .before .before .before .before .before .before .before .before .before .before .before .before .before .before .before .before .before .before .before .if1 .left, terms-word S n (c .before .before .before .before .before .before .before .before .before .before .check-proof .ensures))))
+tell-requires c κs = let S = c .before .before .before .before .before .before .before .before .before .before .before .before .before .before .before .before .before .before .before .before .before .before .before .before .prepare .ensures in let n = c .before .before .before .before .before .before .before .before .before .before .before .before .before .before .before .before .if2 .left in (job-ready S n, (omega (arith, c .before .wide .ensures, job-asked S n), (c .before .before .before .before .before .before .before .before .before .before .before .before .before .before .before .before .before .before .before .before .before .before .before .before .before .before .before .before .if1 .left, (terms-word S n (c .before .before .before .before .before .before .before .before .before .before .check-proof .ensures .0), height-asked (c .before .before .before .before .before .before .before .before .before .before .before .before .before .before .before .before .before .before .before .before .before .before .before .before .before .before .before .before .before .before .before .before .before .before .before .args .job .now) (c .before .wide .ensures) (c .before .before .before .before .before .before .before .before .before .before .check-proof .ensures .1)))))
 
 same-length-5 : tie.Need-same-length-5
-same-length-5 c = c .before .before .before .before .before .before .before .before .before .before .before .before .before .check-proof .ensures .grown .lenK ∙ c .before .before .before .before .before .before .before .before .before .before .before .before .before .before .before .before .before .before .before .before .before .before .before .before .before .before .before .prepare .ensures .started (c .before .before .before .before .before .before .before .before .before .before .before .before .before .before .before .before .before .before .before .if2 .left) .lenK
+same-length-5 c = c .before .before .before .before .before .before .before .before .before .before .before .before .before .check-proof .ensures .0 .grown .lenK ∙ c .before .before .before .before .before .before .before .before .before .before .before .before .before .before .before .before .before .before .before .before .before .before .before .before .before .before .before .prepare .ensures .started (c .before .before .before .before .before .before .before .before .before .before .before .before .before .before .before .before .before .before .before .if2 .left) .lenK
 
 same-length-6 : tie.Need-same-length-6
-same-length-6 c = c .before .before .before .before .before .before .before .before .before .before .before .before .before .check-proof .ensures .grown .lenE ∙ c .before .before .before .before .before .before .before .before .before .before .before .before .before .before .before .before .before .before .before .before .before .before .before .before .before .before .before .prepare .ensures .started (c .before .before .before .before .before .before .before .before .before .before .before .before .before .before .before .before .before .before .before .if2 .left) .lenE
+same-length-6 c = c .before .before .before .before .before .before .before .before .before .before .before .before .before .check-proof .ensures .0 .grown .lenE ∙ c .before .before .before .before .before .before .before .before .before .before .before .before .before .before .before .before .before .before .before .before .before .before .before .before .before .before .before .prepare .ensures .started (c .before .before .before .before .before .before .before .before .before .before .before .before .before .before .before .before .before .before .before .if2 .left) .lenE
 
 same-length-7 : tie.Need-same-length-7
-same-length-7 c = c .before .before .before .before .before .before .before .before .before .before .before .before .before .check-proof .ensures .grown .lenP ∙ c .before .before .before .before .before .before .before .before .before .before .before .before .before .before .before .before .before .before .before .before .before .before .before .before .before .before .before .prepare .ensures .started (c .before .before .before .before .before .before .before .before .before .before .before .before .before .before .before .before .before .before .before .if2 .left) .lenP
+same-length-7 c = c .before .before .before .before .before .before .before .before .before .before .before .before .before .check-proof .ensures .0 .grown .lenP ∙ c .before .before .before .before .before .before .before .before .before .before .before .before .before .before .before .before .before .before .before .before .before .before .before .before .before .before .before .prepare .ensures .started (c .before .before .before .before .before .before .before .before .before .before .before .before .before .before .before .before .before .before .before .if2 .left) .lenP
 
 same-length-8 : tie.Need-same-length-8
 same-length-8 c = search needs
@@ -57,7 +57,7 @@ same-length-9 : tie.Need-same-length-9
 same-length-9 c = search needs
 
 returns-3 : tie.Need-returns-3
-returns-3 c = tells (c .before .before .before .before .before .before .before .before .before .before .before .before .before .before .before .before .before .before .before .before .before .before .before .before .before .before .before .prepare .ensures) (c .before .before .before .before .before .before .before .before .before .before .before .before .before .before .before .before .before .before .before .if2 .left) (c .before .before .before .before .before .before .before .before .before .before .before .before .before .check-proof .ensures) (c .before .before .before .before .before .before .before .before .before .before .before .before .before .before .before .before .before .before .before .before .before .before .before .before .before .before .before .before .before .before .before .before .before .before .before .before .before .before .args .answer .now) (c .before .before .before .before .before .before .before .before .before .before .before .before .before .before .before .before .before .before .before .before .before .before .before .before .before .before .before .before .before .before .before .if1 .left) (c .before .before .before .before .wide .ensures) (c .before .before .tell .ensures .0) (c .before .before .tell .ensures .1)
+returns-3 c = tells (c .before .before .before .before .before .before .before .before .before .before .before .before .before .before .before .before .before .before .before .before .before .before .before .before .before .before .before .prepare .ensures) (c .before .before .before .before .before .before .before .before .before .before .before .before .before .before .before .before .before .before .before .if2 .left) (c .before .before .before .before .before .before .before .before .before .before .before .before .before .check-proof .ensures .0) (c .before .before .before .before .before .before .before .before .before .before .before .before .before .before .before .before .before .before .before .before .before .before .before .before .before .before .before .before .before .before .before .before .before .before .before .before .before .before .args .answer .now) (c .before .before .before .before .before .before .before .before .before .before .before .before .before .before .before .before .before .before .before .before .before .before .before .before .before .before .before .before .before .before .before .if1 .left) (c .before .before .before .before .wide .ensures) (c .before .before .tell .ensures .0) (c .before .before .tell .ensures .1)
 
 pub check-spec : {M : Type 1} → statement M
 check-spec =

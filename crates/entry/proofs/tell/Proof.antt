@@ -10,13 +10,10 @@ same-length : tie.Need-same-length
 same-length c = search needs
 
 returns : tie.Need-returns
-returns c = let a = c .before .before .before .before .before .before .before .before .before .args in (told-refusal (a .r .refusal) (a .r .fill .cells) _ (a .asked) (c .before .before .before .before .before .if1 .taken) (c .before .before .write-refusal .ensures .0), c .before .before .write-refusal .ensures .1)
+returns c = let a = c .before .before .before .before .before .before .before .before .before .args in (told-refusal (a .r .refusal) (a .r .fill .cells) _ _ (a .asked) (c .before .before .before .before .before .if1 .taken) (c .before .before .write-refusal .ensures .0), c .before .before .write-refusal .ensures .1)
 
 claim-at-requires : tie.Need-claim-at-requires
 claim-at-requires c κs = search needs
-
-height-requires : tie.Need-height-requires
-height-requires c κs = search needs
 
 write-passed-requires : tie.Need-write-passed-requires
 write-passed-requires c κs = search needs
@@ -25,7 +22,7 @@ same-length-2 : tie.Need-same-length-2
 same-length-2 c = search needs
 
 returns-2 : tie.Need-returns-2
-returns-2 c = let a = c .before .before .before .before .before .before .before .before .before .before .args in (told-passed (a .r .refusal) (a .r .fill .cells) (c .before .before .before .before .height .result) (c .before .before .before .before .before .before .if1 .left) (c .before .before .before .before .before .claim-at .ensures) (c .before .before .before .before .height .ensures) (c .before .before .write-passed .ensures .0), c .before .before .write-passed .ensures .1)
+returns-2 c = let a = c .before .before .before .before .before .before .before .before .before .args in (told-passed (a .r .refusal) (a .r .fill .cells) (a .r .value) (c .before .before .before .before .before .if1 .left) (c .before .before .before .before .claim-at .ensures) (c .before .before .before .before .before .before .before .before .before .pre .1 .1 .1 .1 (c .before .before .before .before .before .if1 .left)) (c .before .before .write-passed .ensures .0), c .before .before .write-passed .ensures .1)
 
 pub tell-spec : {M : Type 1} → statement M
 tell-spec =
@@ -35,7 +32,6 @@ tell-spec =
     same-length
     returns
     claim-at-requires
-    height-requires
     write-passed-requires
     same-length-2
     returns-2)
