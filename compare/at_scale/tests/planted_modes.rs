@@ -2,7 +2,7 @@
 
 use std::collections::BTreeSet;
 
-use at_scale::{Call, Input, Left, Report, Source, Variant, compare_range};
+use at_scale::{Call, Input, Left, Part, Report, Source, Variant, compare_range};
 use job::limits::{FACTS, PAIRS};
 use job::modes::{PLAIN, STRICT, bare_containers};
 use job::{Job, Table, Tables};
@@ -242,10 +242,14 @@ fn add_premise(
     }
 }
 
+/// Not by the height, to which the new fact adds.
 #[test]
 fn a_premise_that_is_checked() {
     let report = with_job(with_premises_checked);
-    assert_eq!(report.mode, STRICT);
+    assert_eq!(
+        (report.mode, report.difference.part),
+        (STRICT, Part::Number)
+    );
 }
 
 /// What is not in normal form is taken for a unit literal, where the condition is then refused.

@@ -113,10 +113,10 @@ fn behaves_in_modes(program: &Path) {
         prints(program, &["job_a.bin", "1", mode], "0 1 0 0 2 0 0 0\n");
         prints(program, &["job_b.bin", "7", mode], "20 4 7 0 1 1 0 0\n");
         prints(program, &["job_b.bin", "13", mode], "3 0 0 0 0 0 0 0\n");
-        prints(program, &["east_flank.bin", "1", mode], "0 5 2 0 2 0 0 0\n");
+        prints(program, &["east_flank.bin", "1", mode], "0 5 2 0 1 0 0 0\n");
     }
-    prints(program, &["east_flank.bin"], "0 5 3 1 2 0 0 0\n");
-    prints(program, &["east_flank.bin", "3", "0"], "0 5 3 1 2 0 0 0\n");
+    prints(program, &["east_flank.bin"], "0 5 3 1 1 0 0 0\n");
+    prints(program, &["east_flank.bin", "3", "0"], "0 5 3 1 1 0 0 0\n");
     prints(program, &["east_flank.bin", "3", "1"], "46 5 6 0 0 0 0 0\n");
     for mode in ["2", "256", "257", "4294967295"] {
         prints(

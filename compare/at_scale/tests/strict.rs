@@ -93,7 +93,7 @@ fn hold(jobs: Vec<HandMade>) {
     });
 }
 
-hold_each_list!();
+each_list!(hold_each_list);
 
 /// Job A, and it with one thing wrong: the words, the asked proof, and what is refused without a mode.
 fn refused_jobs() -> Vec<(Vec<u32>, u32, u32)> {
@@ -207,9 +207,9 @@ fn number_1_of_the_host_entry() {
 fn the_east_flank() {
     let words = tools::bench_jobs::east_flank().words();
     for (asked, mode, answer) in [
-        (1, PLAIN, [0, 5, 2, 0, 2, 0, 0, 0]),
-        (3, PLAIN, [0, 5, 3, 1, 2, 0, 0, 0]),
-        (1, STRICT, [0, 5, 2, 0, 2, 0, 0, 0]),
+        (1, PLAIN, [0, 5, 2, 0, 1, 0, 0, 0]),
+        (3, PLAIN, [0, 5, 3, 1, 1, 0, 0, 0]),
+        (1, STRICT, [0, 5, 2, 0, 1, 0, 0, 0]),
         (3, STRICT, [46, 5, 6, 0, 0, 0, 0, 0]),
     ] {
         let case = Case::new(words.clone(), asked, PROGRAM_CELLS, PROGRAM_POOL).in_mode(mode);

@@ -143,13 +143,23 @@ const LISTS: &[Hostile] = &[
     hostile(
         "proofs that nothing needs, 4,096 premises",
         1,
-        lists::heights,
+        lists::unneeded_premises,
+    ),
+    hostile(
+        "4,094 steps that nothing needs, 4,096 rules",
+        1,
+        lists::unneeded_steps,
     ),
     hostile("32 pairs", 1_500, lists::pairs),
     hostile(
         "proofs doubling 4,094 times",
         STEPS - 1,
         extremes::shared_proofs,
+    ),
+    hostile(
+        "premises times 16, 4,095 times",
+        STEPS,
+        lists::shared_premises,
     ),
 ];
 /// All jobs, in the order in which they are run.

@@ -16,8 +16,16 @@ const HOSTILE: [&str; 4] = [
     "4,096 of each table",
 ];
 
-/// The answer's number on a stack of 8 MiB; an overflow ends the test.
-fn number(case: &Case, entry: Entry) -> u32 {
+/// Those for which a height could be counted too often, or for too many proofs; and the height.
+const HEIGHTS: [(&str, u32); 4] = [
+    ("proofs doubling 4,094 times", 4_095),
+    ("premises times 16, 4,095 times", 4_096),
+    ("proofs that nothing needs, 4,096 premises", 1),
+    ("4,094 steps that nothing needs, 4,096 rules", 1),
+];
+
+/// The answer on a stack of 8 MiB; an overflow ends the test.
+fn answer(case: &Case, entry: Entry) -> [u32; 8] {
     let mut lent = Lent::new(case);
     thread::scope(|scope| {
         thread::Builder::new()
@@ -27,12 +35,12 @@ fn number(case: &Case, entry: Entry) -> u32 {
             .join()
             .expect("an answer");
     });
-    lent.answer[0]
+    lent.answer
 }
 
 fn all_accepted(jobs: Vec<Deep>, entry: Entry) {
     for deep in jobs {
-        assert_eq!(number(&deep.case, entry), 0, "{}", deep.name);
+        assert_eq!(answer(&deep.case, entry)[0], 0, "{}", deep.name);
     }
 }
 
@@ -46,15 +54,24 @@ fn deepest_by_bytes() {
     all_accepted(by_bytes(), Entry::Bytes);
 }
 
+/// What the hostile job of this name is answered with all its steps.
+fn hostile_answer(name: &str) -> [u32; 8] {
+    let hostile = all().into_iter().find(|hostile| hostile.name == name);
+    let hostile = hostile.expect("a job of this name");
+    answer(&hostile.case(hostile.most), Entry::Words)
+}
+
 #[test]
 fn hostile_by_words() {
     for name in HOSTILE {
-        let hostile = all().into_iter().find(|hostile| hostile.name == name);
-        let hostile = hostile.expect("a job of this name");
-        assert_eq!(
-            number(&hostile.case(hostile.most), Entry::Words),
-            0,
-            "{name}"
-        );
+        assert_eq!(hostile_answer(name)[0], 0, "{name}");
+    }
+}
+
+#[test]
+fn hostile_heights() {
+    for (name, height) in HEIGHTS {
+        let answer = hostile_answer(name);
+        assert_eq!((answer[0], answer[4]), (0, height), "{name}");
     }
 }

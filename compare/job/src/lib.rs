@@ -1,6 +1,7 @@
 //! The job layout of document 01: reading it, writing it, and the refusals 1 to 11.
 
 pub mod build;
+pub mod conditions;
 pub mod layout;
 pub mod limits;
 pub mod load;

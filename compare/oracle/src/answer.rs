@@ -1,9 +1,10 @@
 //! From the text's result to the eight words.
 
+use job::Job;
 use job::limits::ANSWER;
-use job::{Job, Table};
 
 use crate::NumericId;
+use crate::height::height;
 use crate::names::number as name;
 use crate::panics::Unwound;
 use crate::proofs::proof_checker::{ProofCheckError, ProofCheckErrorKind};
@@ -25,26 +26,6 @@ pub fn words(number: u32, terms: usize, fields: &[u32]) -> Answer {
 pub fn accepted(job: &Job, asked: u32, proved: &Proposition, terms: usize) -> Answer {
     let fields = [term(proved.lhs), term(proved.rhs), height(job, asked)];
     words(0, terms, &fields)
-}
-
-/// The height over all references, premises opposite side conditions included.
-fn height(job: &Job, asked: u32) -> u32 {
-    let mut heights: Vec<u32> = Vec::new();
-    for cell in job.cells(Table::Proofs).take(asked as usize + 1) {
-        let rest = &cell.words[2..];
-        let references: &[u32] = match cell.kind {
-            1 => &rest[2..2 + rest[1] as usize],
-            2 => &rest[1..],
-            5 => &[rest[0], rest[2]],
-            _ => rest,
-        };
-        let greatest = references
-            .iter()
-            .map(|&proof| heights[proof as usize])
-            .max();
-        heights.push(greatest.unwrap_or(0) + 1);
-    }
-    heights[asked as usize]
 }
 
 /// 51 to 53. Too many steps are no answer.

@@ -21,6 +21,7 @@ mod answer;
 mod check;
 pub mod counts;
 mod expressions;
+mod height;
 mod names;
 mod panics;
 mod program;

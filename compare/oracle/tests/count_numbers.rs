@@ -697,7 +697,7 @@ fn calls_in_a_side_condition() {
         let fact = tables.equality(left, right);
         with_fact(tables, fact, (0, 0), x)
     };
-    let passes = [ONE, ONE, 2];
+    let passes = [ONE, ONE, 1];
     // c(1 + 2) is 2, whatever side it stands on; it binds X.
     for x in [None, Some(TWO)] {
         expect(condition(CONTAINER, VARIABLE, x), 0, 4, &passes, NOTHING);
@@ -720,7 +720,7 @@ fn a_call_opposite_a_container_call() {
         with_fact(tables, fact, (0, 0), None)
     };
     let ran = opposite([LITERAL_ONE, LITERAL_ONE]);
-    expect(ran, 0, 4, &[ONE, ONE, 2], NOTHING);
+    expect(ran, 0, 4, &[ONE, ONE, 1], NOTHING);
     let ran = opposite([LITERAL_TWO, LITERAL_TWO]);
     expect_literals(ran, 42, 4, &[RULE, 0, TWO, 4], &[4]);
 }
@@ -752,7 +752,7 @@ fn no_value_in_a_bare_condition() {
     let call = tables.primitive_call(1, &[inner]);
     let fact = tables.bare(call);
     let ran = with_fact(tables, fact, (0, 0), None);
-    expect(ran, 0, 4, &[ONE, ONE, 2], NOTHING);
+    expect(ran, 0, 4, &[ONE, ONE, 1], NOTHING);
 }
 
 /// Let, union, set and expression: the pairs that they give.

@@ -42,6 +42,53 @@ fn as_many_rule_steps_as_a_job_holds_one_under_another() {
     expect(run(&tables), 0, 1, &[0, 0, 4_096], &[]);
 }
 
+/// Each transitivity refers twice to the one below: 2^4,095 ways, on which each height is counted once.
+#[test]
+fn as_many_transitivities_as_double() {
+    let mut tables = start();
+    let mut proof = tables.fiat((0, 0));
+    for _ in 0..4_095 {
+        proof = tables.transitivity((0, 0), proof, proof);
+    }
+    expect(run(&tables), 0, 1, &[0, 0, 4_096], &[]);
+}
+
+/// A bare container condition, which passes unevaluated.
+fn condition(tables: &mut Tables) -> u32 {
+    let container = tables.primitive(3, F);
+    let call = tables.primitive_call(container, &[]);
+    tables.bare(call)
+}
+
+/// As many steps as a job holds by a rule with these facts; each has the one below opposite all of them.
+fn steps_by(mut tables: Tables, facts: &[u32]) -> Tables {
+    let head = tables.expression_action(0);
+    tables.rule(RULE, facts, &[head]);
+    let mut proof = tables.fiat((0, 0));
+    for _ in 0..4_095 {
+        proof = tables.rule_step((0, 0), RULE, &vec![proof; facts.len()], &[]);
+    }
+    tables
+}
+
+/// 16 facts, of which every second is a condition.
+#[test]
+fn as_many_rule_steps_with_shared_premises() {
+    let mut tables = start();
+    let facts = [tables.bare(0), condition(&mut tables)].repeat(8);
+    let tables = steps_by(tables, &facts);
+    expect(run(&tables), 0, 1, &[0, 0, 4_096], &[]);
+}
+
+/// Each has height 1, whatever stands below.
+#[test]
+fn as_many_rule_steps_opposite_conditions() {
+    let mut tables = start();
+    let condition = condition(&mut tables);
+    let tables = steps_by(tables, &[condition]);
+    expect(run(&tables), 0, 1, &[0, 0, 1], &[]);
+}
+
 /// A global expression 2,000 calls deep adds 2,000 terms.
 #[test]
 fn a_deep_expression() {

@@ -178,7 +178,7 @@ fn number_41() {
     expect(run(&tables), 41, 3, &[marker], NOTHING);
 }
 
-/// The height counts every reference, the longest way.
+/// The height goes the longest way; `strict_jobs/heights.rs` has more.
 #[test]
 fn height() {
     let mut tables = start();

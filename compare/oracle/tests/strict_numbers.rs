@@ -28,7 +28,7 @@ fn hold(jobs: Vec<HandMade>) {
     }
 }
 
-hold_each_list!();
+each_list!(hold_each_list);
 
 /// One literal and its fiat.
 fn small() -> Tables {

@@ -9,7 +9,7 @@ use job::limits;
 use job::modes::PLAIN;
 
 use crate::bench_jobs;
-use telling::TELLING;
+pub use telling::{TELLING, TELLING_HEIGHTS};
 
 /// The bytes `JOBS`.
 pub const MAGIC: u32 = u32::from_le_bytes(*b"JOBS");

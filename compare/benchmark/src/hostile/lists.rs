@@ -146,14 +146,37 @@ pub fn premises(_: usize) -> Tables {
     tables
 }
 
-/// Steps with as many premises as there may be, which the asked proof does not refer to.
-pub fn heights(_: usize) -> Tables {
+/// Steps with as many premises as there may be, which the asked proof does not refer to: no height need be
+/// counted for them.
+pub fn unneeded_premises(_: usize) -> Tables {
     let mut tables = literal();
     tables.fiat((ONE, ONE));
     while tables.words()[11] + 2 * (PREMISES as u32) < POOL {
         tables.rule_step((ONE, ONE), RULE, &[0; PREMISES], &[]);
     }
     tables.fiat((ONE, ONE));
+    tables
+}
+
+/// Steps by the last rule, which the asked proof does not refer to: no rule need be looked up for them.
+pub fn unneeded_steps(_: usize) -> Tables {
+    let mut tables = rules(CELLS as usize - 2);
+    tables.fiat((ONE, ONE));
+    tables
+}
+
+/// Each step has the one below opposite all its facts, of which every second is a condition.
+pub fn shared_premises(steps: usize) -> Tables {
+    let mut tables = literal();
+    let container = tables.primitive(3, BOX);
+    tables.row(container, ONE, &[]);
+    let call = tables.primitive_call(container, &[]);
+    let ordinary = tables.bare(ONE);
+    let conditions = [tables.bare(call), tables.equality(ONE, call)];
+    let facts = conditions.map(|condition| [ordinary, condition]).concat();
+    let head = tables.expression_action(ONE);
+    let all = facts.repeat(FACTS / facts.len());
+    climb(&mut tables, (ONE, ONE), &all, &[head], &[], steps);
     tables
 }
 

@@ -119,12 +119,12 @@ pub fn shared_facts() -> Vec<HandMade> {
             around(|on_y, binding| vec![on_y, binding, on_y]),
         )
         .strict(45, &[RULE, Y], &[]),
-        HandMade::new("in two rules", in_two_rules(ONE, ONE)).both(0, &[ONE, ONE, 3], &[]),
+        HandMade::new("in two rules", in_two_rules(ONE, ONE)).both(0, &[ONE, ONE, 2], &[]),
         HandMade::new("no row in the rule below", in_two_rules(TWO, ONE))
-            .plain(0, &[ONE, ONE, 3], &[])
+            .plain(0, &[ONE, ONE, 2], &[])
             .strict(46, &[C], &[]),
         HandMade::new("no row in the rule above", in_two_rules(ONE, TWO))
-            .plain(0, &[ONE, ONE, 3], &[])
+            .plain(0, &[ONE, ONE, 2], &[])
             .strict(46, &[C], &[]),
     ]
 }

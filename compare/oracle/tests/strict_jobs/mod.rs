@@ -1,8 +1,9 @@
-//! Hand-made jobs with bare container conditions, and what each is answered in mode 0 and in strict mode.
+//! Hand-made jobs with container conditions, and what each is answered in mode 0 and in strict mode.
 //! The oracle's tests hold the Rust to them, those of `at_scale` the library.
 #![allow(dead_code)]
 
 mod bindings;
+mod heights;
 mod numbers;
 mod order;
 
@@ -10,17 +11,28 @@ use job::primitives::SUM;
 use job::{Table, Tables};
 
 pub use bindings::{binds_nothing, bound, shared_facts};
+pub use heights::{
+    heights_among_facts, heights_checked_before, heights_nested, heights_of_conditions,
+    heights_of_ordinary_facts, heights_of_other_steps, heights_shared, heights_unchecked,
+};
 pub use numbers::{any_value, number_45, number_46, number_51, number_53, over_sums};
 pub use order::{full_tables, left_alone, normal_forms, order, unchecked_premises};
 
-/// One test for each list of jobs, which calls `hold` with it.
-macro_rules! hold_each_list {
-    () => {
-        hold_each_list! {
+/// Gives the names of all lists of jobs to a macro.
+macro_rules! each_list {
+    ($then:ident) => {
+        $then! {
             number_45 number_46 number_51 number_53 over_sums any_value bound binds_nothing shared_facts
-            unchecked_premises order normal_forms left_alone full_tables
+            unchecked_premises order normal_forms left_alone full_tables heights_of_conditions heights_nested
+            heights_shared heights_among_facts heights_checked_before heights_unchecked
+            heights_of_ordinary_facts heights_of_other_steps
         }
     };
+}
+
+/// One test for each list, which calls `hold` with it.
+#[allow(unused_macros)]
+macro_rules! hold_each_list {
     ($($list:ident)+) => {
         $(
             #[test]
@@ -28,6 +40,14 @@ macro_rules! hold_each_list {
                 hold(strict_jobs::$list());
             }
         )+
+    };
+}
+
+/// The jobs of all lists.
+#[allow(unused_macros)]
+macro_rules! jobs_of_each_list {
+    ($($list:ident)+) => {
+        [$(strict_jobs::$list()),+].concat()
     };
 }
 
@@ -75,7 +95,7 @@ pub struct HandMade {
 }
 
 impl HandMade {
-    /// A job that is accepted in both modes, by a step over a fiat, and adds nothing.
+    /// A job that is accepted in both modes, by a step with conditions alone, and adds nothing.
     fn new(name: &'static str, tables: Tables) -> HandMade {
         let accepted = Expected {
             answer: [0; 8],
@@ -88,7 +108,7 @@ impl HandMade {
             plain: accepted.clone(),
             strict: accepted,
         }
-        .both(0, &[ONE, ONE, 2], &[])
+        .both(0, &[ONE, ONE, 1], &[])
     }
 
     fn expected(&self, number: u32, fields: &[u32], added: &[(u32, &[u32])]) -> Expected {

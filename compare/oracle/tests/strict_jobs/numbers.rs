@@ -110,7 +110,7 @@ pub fn over_sums() -> Vec<HandMade> {
     let new_terms = [ADDED_THREE, ADDED_LESS_TWO];
     let new_sum = [ADDED_THREE, ADDED_FOUR];
     vec![
-        of("terms added stay, accepted", 3, -2).strict(0, &[ONE, ONE, 2], &new_terms),
+        of("terms added stay, accepted", 3, -2).strict(0, &[ONE, ONE, 1], &new_terms),
         of("a new sum without row", 3, 1).strict(46, &[C], &new_sum),
         of("past the range", GREATEST, 1).strict(46, &[S], &[ADDED_GREATEST]),
         one_fact("an unbound variable in the sum", |tables| {
