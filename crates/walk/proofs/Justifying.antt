@@ -117,24 +117,20 @@ module _ (J : List ℕ) (strict : Bool) (F G U : List ℕ) (p : ℕ) where
         };
       }
 
-      pub walk-ends : {W₂ : List ℕ} {h : ℕ} {c : Checked} → r .number ≡ 0 → W₂ ≡ set W₁ (length k + length k + p) h → h ≡ height prog proofs p → c ≡ record { refusal = passed; value = h; fill = f₁ }
-          → Walks J F G U k e q f W k₁ e₁ p₁ (c .fill) (c .refusal) memo₁ W₂ (λ d. d) walkOf × (c .refusal .number ≡ 0 → c .value ≡ height prog proofs p)
-      walk-ends {W₂} {h} n s i d = subst⁻¹ (λ (x : Checked). Walks J F G U k e q f W k₁ e₁ p₁ (x .fill) (x .refusal) memo₁ W₂ (λ t. t) walkOf × (x .refusal .number ≡ 0 → x .value ≡ height prog proofs p)) d (
-        record {
-          grown = w .grown;
-          after = λ _. record {
-            ground = ground-same (w .after n .ground);
-            grows = w .after n .grows;
-            globals = ap (take (length k)) s ∙ take-set-le (length k) W₁ (length k + length k + p) h (omega arith) ∙ w .after n .globals;
-          };
-          walked = λ ps done x y. let t = w .walked ps done x y in record {
-            done = p ∷ t .done;
-            does = subst (Does k e q f k₁ e₁ p₁ f₁ passed (p ∷ t .done)) (is-walk (roomOf k q) ps done (termsIn k e q f) false (sym (y .is p lt) ∙ unknown)) (passed-on (t .does));
-            flags = λ _. subst⁻¹ (λ (X : List ℕ). Flags (length k) X (sizesOf J .proofs) (p ∷ t .done)) s (flags-set p lt (long-enough (w .after n .ground)) positive (t .flags n));
-          };
-        },
-        λ _. i,
-      )
+      pub walk-ends : {W₂ : List ℕ} {h : ℕ} → r .number ≡ 0 → W₂ ≡ set W₁ (length k + length k + p) h → h ≡ height prog proofs p → Walks J F G U k e q f W k₁ e₁ p₁ f₁ r memo₁ W₂ (λ d. d) walkOf
+      walk-ends {W₂} {h} n s i = record {
+        grown = w .grown;
+        after = λ _. record {
+          ground = ground-same (w .after n .ground);
+          grows = w .after n .grows;
+          globals = ap (take (length k)) s ∙ take-set-le (length k) W₁ (length k + length k + p) h (omega arith) ∙ w .after n .globals;
+        };
+        walked = λ ps done x y. let t = w .walked ps done x y in record {
+          done = p ∷ t .done;
+          does = subst (Does k e q f k₁ e₁ p₁ f₁ r (p ∷ t .done)) (is-walk (roomOf k q) ps done (termsIn k e q f) false (sym (y .is p lt) ∙ unknown)) (passed-on (t .does));
+          flags = λ _. subst⁻¹ (λ (X : List ℕ). Flags (length k) X (sizesOf J .proofs) (p ∷ t .done)) s (flags-set p lt (long-enough (w .after n .ground)) positive (t .flags n));
+        };
+      }
         where
           positive : 0 < h
           positive = let a = height-for (g .ready) p lt in omega arith
@@ -152,9 +148,9 @@ module _ (J : List ℕ) (strict : Bool) (F G U : List ℕ) (p : ℕ) where
           ground-same : Ground J F G k₁ e₁ p₁ f₁ memo₁ W₁ → Ground J F G k₁ e₁ p₁ f₁ memo₁ W₂
           ground-same u = record { ready = u .ready; searched = u .searched; stored = u .stored; sane = u .sane; terms = u .terms; fits = u .fits; past = u .past; long = let a = u .long in let b = lenW in omega arith; heights = noted u }
 
-          passed-on : {t : List ℕ} {o : Outcome (List ℕ)} → Does k e q f k₁ e₁ p₁ f₁ r t o → Does k e q f k₁ e₁ p₁ f₁ passed (p ∷ t) (andThen o (λ d. pure (p ∷ d)))
+          passed-on : {t : List ℕ} {o : Outcome (List ℕ)} → Does k e q f k₁ e₁ p₁ f₁ r t o → Does k e q f k₁ e₁ p₁ f₁ r (p ∷ t) (andThen o (λ d. pure (p ∷ d)))
           passed-on {t} {o} v = record {
-            outcome = ap (λ (x : Outcome (List ℕ)). andThen x (λ d. pure (p ∷ d))) (sym (ok-of r t (termsIn k₁ e₁ p₁ f₁) n) ∙ v .outcome);
+            outcome = ok-of r (p ∷ t) (termsIn k₁ e₁ p₁ f₁) n ∙ ap (λ (x : Outcome (List ℕ)). andThen x (λ d. pure (p ∷ d))) (sym (ok-of r t (termsIn k₁ e₁ p₁ f₁) n) ∙ v .outcome);
             grown = v .grown;
           }
 

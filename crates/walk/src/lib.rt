@@ -226,7 +226,6 @@ pub fn walk(
     if r.refusal.number != 0 {
         return r;
     }
-    let height = r.value;
-    note_height(scratch, at, height);
-    pass(height, r.fill)
+    note_height(scratch, at, r.value);
+    r
 }

@@ -246,26 +246,23 @@ walk-returns-2 t c = let a = c .before .before .before .before .before .before .
 walk-note-height-requires : (t : ℕ) → walk-lts.Need-note-height-requires (R-walk t) (walk-at t) walk.Post
 walk-note-height-requires t c κs = let w = c .before .before .before .before .before .before .before .before .before .before .before .before .before .before .before .before .before .before .before .before .before .before .wide .ensures in let g = c .before .before .before .before .before .before .before .before .before .before .before .before .before .before .before .before .before .before .before .before .before .before .before .before .before .before .before .before .before .before .before .before .pre .1 .0 .long in let h = c .before .before .before .before .before .before .before .before .before .before .before .before .before .before .before .before .before .before .before .before .before .before .before .before .before .before .before .before .before .before .before .before .pre .1 .1 in let k = c .before .before .before .before .before .before .before .before .before .before .before .before .before .justify .kept .1 .1 .1 .1 .1 .1 .1 .1 .1 .1 .0 in omega arith
 
-walk-pass-requires-2 : (t : ℕ) → walk-lts.Need-pass-requires-2 (R-walk t) (walk-at t) walk.Post
-walk-pass-requires-2 t c κs = search needs
-
 walk-same-length-7 : (t : ℕ) → walk-lts.Need-same-length-7 (R-walk t) (walk-at t) walk.Post
-walk-same-length-7 t c = c .before .before .before .before .before .before .before .before .before .before .before .before .before .before .before .before .before .justify .ensures .0 .grown .lenK
+walk-same-length-7 t c = c .before .before .before .before .before .before .before .before .before .before .before .before .before .before .before .before .justify .ensures .0 .grown .lenK
 
 walk-same-length-8 : (t : ℕ) → walk-lts.Need-same-length-8 (R-walk t) (walk-at t) walk.Post
-walk-same-length-8 t c = c .before .before .before .before .before .before .before .before .before .before .before .before .before .before .before .before .before .justify .ensures .0 .grown .lenE
+walk-same-length-8 t c = c .before .before .before .before .before .before .before .before .before .before .before .before .before .before .before .before .justify .ensures .0 .grown .lenE
 
 walk-same-length-9 : (t : ℕ) → walk-lts.Need-same-length-9 (R-walk t) (walk-at t) walk.Post
-walk-same-length-9 t c = c .before .before .before .before .before .before .before .before .before .before .before .before .before .before .before .before .before .justify .ensures .0 .grown .lenP
+walk-same-length-9 t c = c .before .before .before .before .before .before .before .before .before .before .before .before .before .before .before .before .justify .ensures .0 .grown .lenP
 
 walk-same-length-10 : (t : ℕ) → walk-lts.Need-same-length-10 (R-walk t) (walk-at t) walk.Post
-walk-same-length-10 t c = c .before .before .before .before .before .before .before .before .before .before .before .before .before .before .before .before .before .justify .kept .1 .1 .1 .1 .1 .1 .1 .1 .1 .0
+walk-same-length-10 t c = c .before .before .before .before .before .before .before .before .before .before .before .before .before .before .before .before .justify .kept .1 .1 .1 .1 .1 .1 .1 .1 .1 .0
 
 walk-same-length-11 : (t : ℕ) → walk-lts.Need-same-length-11 (R-walk t) (walk-at t) walk.Post
-walk-same-length-11 t c = c .before .before .before .note-height .kept .0 ∙ c .before .before .before .before .before .before .before .before .before .before .before .before .before .before .before .before .before .justify .kept .1 .1 .1 .1 .1 .1 .1 .1 .1 .1 .0
+walk-same-length-11 t c = c .before .before .note-height .kept .0 ∙ c .before .before .before .before .before .before .before .before .before .before .before .before .before .before .before .before .justify .kept .1 .1 .1 .1 .1 .1 .1 .1 .1 .1 .0
 
 walk-returns-3 : (t : ℕ) → walk-lts.Need-returns-3 (R-walk t) (walk-at t) walk.Post
-walk-returns-3 t c = let a = c .before .before .before .before .before .before .before .before .before .before .before .before .before .before .before .before .before .before .before .before .before .before .before .before .before .before .before .before .before .before .before .before .before .before .before .before .args in let pre = c .before .before .before .before .before .before .before .before .before .before .before .before .before .before .before .before .before .before .before .before .before .before .before .before .before .before .before .before .before .before .before .before .before .before .before .before .pre .1 in walk-ends (a .job .now) (a .strict) (a .found .now) (a .globals .now) (a .unions .now) (a .p) (pre .0) (pre .1) (word-at (a .scratch .now) (length (a .skinds .now)) (c .before .before .before .before .before .before .before .before .before .before .before .before .before .before .before .before .before .before .before .before .before .before .before .before .before .before .wide .ensures) (c .before .before .before .before .before .before .before .before .before .before .before .before .before .before .before .before .before .before .before .before .before .before .before .before .height-noted .ensures)) (c .before .before .before .before .before .before .before .before .before .before .before .before .before .before .before .before .before .before .before .before .before .before .before .if1 .left) (c .before .before .before .before .before .before .before .before .before .before .before .before .before .before .before .before .before .justify .ensures .0) (c .before .before .before .before .before .if2 .left) (set-at (c .before .before .before .before .before .before .before .before .before .before .before .before .before .before .before .before .before .justify .last .1 .1 .1 .1 .1 .1 .1 .1 .1 .1 .0) (length (a .skinds .now)) (c .before .before .before .before .before .before .before .before .before .before .before .before .before .before .before .before .before .justify .result .value) (c .before .before .before .note-height .ensures) (c .before .before .before .before .before .before .before .before .before .before .before .before .before .before .before .before .before .before .before .before .before .before .before .before .before .before .wide .ensures)) (c .before .before .before .before .before .before .before .before .before .before .before .before .before .before .before .before .before .justify .ensures .1 (c .before .before .before .before .before .if2 .left)) (c .pass2 .ensures)
+walk-returns-3 t c = let a = c .before .before .before .before .before .before .before .before .before .before .before .before .before .before .before .before .before .before .before .before .before .before .before .before .before .before .before .before .before .before .before .before .before .before .before .args in let pre = c .before .before .before .before .before .before .before .before .before .before .before .before .before .before .before .before .before .before .before .before .before .before .before .before .before .before .before .before .before .before .before .before .before .before .before .pre .1 in (walk-ends (a .job .now) (a .strict) (a .found .now) (a .globals .now) (a .unions .now) (a .p) (pre .0) (pre .1) (word-at (a .scratch .now) (length (a .skinds .now)) (c .before .before .before .before .before .before .before .before .before .before .before .before .before .before .before .before .before .before .before .before .before .before .before .before .before .wide .ensures) (c .before .before .before .before .before .before .before .before .before .before .before .before .before .before .before .before .before .before .before .before .before .before .before .height-noted .ensures)) (c .before .before .before .before .before .before .before .before .before .before .before .before .before .before .before .before .before .before .before .before .before .before .if1 .left) (c .before .before .before .before .before .before .before .before .before .before .before .before .before .before .before .before .justify .ensures .0) (c .before .before .before .before .if2 .left) (set-at (c .before .before .before .before .before .before .before .before .before .before .before .before .before .before .before .before .justify .last .1 .1 .1 .1 .1 .1 .1 .1 .1 .1 .0) (length (a .skinds .now)) (c .before .before .before .before .before .before .before .before .before .before .before .before .before .before .before .before .justify .result .value) (c .before .before .note-height .ensures) (c .before .before .before .before .before .before .before .before .before .before .before .before .before .before .before .before .before .before .before .before .before .before .before .before .before .wide .ensures)) (c .before .before .before .before .before .before .before .before .before .before .before .before .before .before .before .before .justify .ensures .1 (c .before .before .before .before .if2 .left)), c .before .before .before .before .before .before .before .before .before .before .before .before .before .before .before .before .justify .ensures .1)
 
 pub +justify+walk-spec : {M : Type 1} → statement M
 +justify+walk-spec = close μ-justify μ-walk (λ t. justify-lts.spec (R-justify t)
@@ -348,7 +345,6 @@ pub +justify+walk-spec : {M : Type 1} → statement M
     (walk-same-length-6 t)
     (walk-returns-2 t)
     (walk-note-height-requires t)
-    (walk-pass-requires-2 t)
     (walk-same-length-7 t)
     (walk-same-length-8 t)
     (walk-same-length-9 t)
