@@ -4,16 +4,16 @@ use mathlib.Core.Bool.{Bool}
 use mathlib.Core.List.{List, [], _++_, append-nil}
 use Prim.Native.Nat.{ℕ, suc, _+_, _-_, _<_, _≤_}
 use native.Mathlib.Omega.{arith}
-use lib.Dec.{ltb, lit<}
+use lib.Dec.{ltb}
 use borrow.Author.Tests.{ltb-false}
-use lib.ListN.{length, getD, take, drop, length-map, length-drop, length-append, drop-of-length-le}
+use lib.ListN.{length, getD, take, drop, length-drop, length-append, drop-of-length-le}
 use lib.Seq.{getD-drop, take-take, take-at, drop-at, length-take-le}
 use borrow.Rule.Slice.PartMut.{midOf, putMid, same-len-mid, take-put}
 use Rattle.model.specs.Layout.{sizesOf}
 use Rattle.model.specs.Term.{Term}
 use Rattle.model.specs.Program as program
 use Rattle.model.specs.Program.{Binding, Program, Proof}
-use Rattle.model.specs.Decode.{readBindings, readProof}
+use Rattle.model.specs.Decode.{readBindings}
 use Rattle.model.specs.Check.{Check, andThen, _>>=_, pure, Room}
 use Rattle.model.specs.Action.{ActionContext}
 use Rattle.model.specs.Walk.{claimAt, newContext, checkProofWithContext, checkProof}
@@ -26,9 +26,9 @@ use Rattle.outcome.specs.declared.Refusal.{Refusal}
 use Rattle.outcome.proofs.Laws.{does-then, does-stop, does-map}
 use Rattle.marks.specs.Marks.{zeros}
 use Rattle.marks.proofs.Closing.{zeros-at}
-use Rattle.program.specs.Ready.{tablesFor, programFor}
+use Rattle.program.specs.Ready.{programFor}
 use Rattle.program.specs.Read.{proofsFor}
-use Rattle.program.proofs.Laws.{table-long}
+use Rattle.program.proofs.Proving.{proofs-long}
 use Rattle.normal_form.specs.Search.{Searched}
 use Rattle.evaluate.specs.Evaluation.{Sane}
 use Rattle.context.specs.Contexts.{GlobalPairs, Context}
@@ -105,12 +105,9 @@ module _ {J : List ℕ} {k e p : List ℕ} {f : Fill} {W : List ℕ} (g : Given 
         (subst (Does k₁ e₁ p₁ (r .fill) k₂ e₂ p₂ f₂ c (x .done)) (fuel ∙ ap (λ (ctx : ActionContext). checkProofWithContext (roomOf k₁ p₁) prog proofs ctx strict (suc (length proofs)) asked [] (termsIn k₁ e₁ p₁ (r .fill))) same-context) (x .does))
         (λ _. refl)))
       where
-        many : length proofs ≡ sizesOf J .proofs
-        many = length-map (tablesFor J .proofs) readProof ∙ table-long J 9 (lit< tt)
-
         fuel : checkProofWithContext (roomOf k₁ p₁) prog proofs (contextOf G (C .context .pairs)) strict (suc asked) asked [] (termsIn k₁ e₁ p₁ (r .fill))
             ≡ checkProofWithContext (roomOf k₁ p₁) prog proofs (contextOf G (C .context .pairs)) strict (suc (length proofs)) asked [] (termsIn k₁ e₁ p₁ (r .fill))
-        fuel = fuel-for (g .ready) (contextOf G (C .context .pairs)) strict (roomOf k₁ p₁) asked (suc (length proofs)) (omega (arith, many)) [] (termsIn k₁ e₁ p₁ (r .fill))
+        fuel = fuel-for (g .ready) (contextOf G (C .context .pairs)) strict (roomOf k₁ p₁) asked (suc (length proofs)) (omega (arith, proofs-long J)) [] (termsIn k₁ e₁ p₁ (r .fill))
 
 -- a memo that is cleared
 pub past-cleared : (n : ℕ) → Past (zeros n)

@@ -26,7 +26,7 @@ use Rattle.model.specs.Tree.{TreeValue, TreeValues, treeValued, treeHead
 use Rattle.model.specs.Relation.{ClosedFor, child, replaced, FactsHold}
 use Rattle.model.proofs.Tests.{tree-eq, and-left}
 use Rattle.model.proofs.Sound.{accepted}
-use Rattle.model.proofs.Example.{allPairs, all-member}
+use Rattle.model.proofs.Example.{allPairs, all-member, not-leaf}
 
 -- The sizes, the kinds, the ends and the pool.
 unfoldable pub eastFlank : List ℕ
@@ -186,12 +186,7 @@ narrowed-closed = record {
 
 -- and does not relate the narrowing of 2^24 + 3 to that position, so that it is not closed in mode 0
 pub not-related : ¬ (SameNarrowed (narrowing (integer 16777219)) (integer 16777219))
-not-related e = subst IsApply e tt
-  where
-    IsApply : Tree → Type 0
-    IsApply (leaf l) = ⊥
-    IsApply (named x) = ⊥
-    IsApply (apply f ts) = Unit {0}
+not-related e = not-leaf e
 
 pub not-closed : ¬ ClosedFor false (jobOf eastFlank) SameNarrowed
 not-closed c = not-related (related SameNarrowed c)

@@ -19,7 +19,7 @@ use Rattle.model.specs.Evaluate.{subtermsIn, reflexive, headValue, evalE
 use Rattle.model.specs.Action.{mergeOf, processActions}
 use Rattle.model.specs.Walk.{checkFiat, checkCongr, checkProofWithContext, newContext, checkProof}
 use Rattle.model.specs.Answer.{checked, check, entry}
-use Rattle.model.specs.Tree.{Tree, leaf, named, apply, tnil, tcons, sameTree, treeIn, TreePair, TreeRow, treeRows, TreeContext, treeGlobals, treeActions, treeEval, treeEvals, reflexiveTree, reflexiveTrees, treeMerge, treeNormal}
+use Rattle.model.specs.Tree.{Tree, leaf, named, apply, Trees, tnil, tcons, sameTree, treeIn, TreePair, TreeRow, treeRows, TreeContext, treeGlobals, treeActions, treeEval, treeEvals, reflexiveTree, reflexiveTrees, treeMerge, treeNormal}
 use Rattle.model.specs.Relation.{ClosedFor}
 use Rattle.model.proofs.Tests.{eq-of, and-left, and-right, never}
 use Rattle.model.proofs.Sound.{accepted}
@@ -80,14 +80,18 @@ pub no-global : (c : TreeContext) → treeGlobals programB rowsB ≡ some c → 
 unfolding globalsB seven eight four
 no-global c e m = never (global-pairs (λ q. not (sameTree (q .left) (four 7) && sameTree (q .right) (four 8))) globalsB c e globals-are refl (pair (four 7) (four 8)) m)
 
-pub no-literal : (l : Literal) → ¬ (four 7 ≡ leaf l)
-unfolding four
-no-literal l e = subst IsApply e tt
+-- no application is a literal
+pub not-leaf : {f : ℕ} {ts : Trees} {l : Literal} → ¬ (apply f ts ≡ leaf l)
+not-leaf e = subst IsApply e tt
   where
     IsApply : Tree → Type 0
     IsApply (leaf l) = ⊥
     IsApply (named x) = ⊥
     IsApply (apply f ts) = Unit {0}
+
+pub no-literal : (l : Literal) → ¬ (four 7 ≡ leaf l)
+unfolding four
+no-literal l e = not-leaf e
 
 -- the kind of a tree's top
 abbrev shape : Tree → ℕ

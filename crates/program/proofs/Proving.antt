@@ -6,7 +6,7 @@ use mathlib.Core.List.{List, [], _∷_, map, List·Memᴰ, Memᴰ·map}
 use Prim.Native.Nat.{ℕ, zero, suc, _+_, _≤_, _<_, _%_}
 use native.Mathlib.Omega.{arith}
 use lib.Dec.{eqb, leb, ltb, lit<}
-use lib.ListN.{length, getD, drop, length-take, length-drop}
+use lib.ListN.{length, getD, drop, length-map, length-take, length-drop}
 use Rattle.model.specs.Cell.{Cell}
 use Rattle.model.specs.Program as program
 use Rattle.model.specs.Program.{Binding, references, substitution}
@@ -115,6 +115,10 @@ module _ (terms i : ℕ) (q : program.Proof) (e : proofRefers terms i q ≡ true
   substitution-within : (b : Binding) → List·Memᴰ b (substitution (q .justification)) → b .term < terms
   substitution-within b m = below-of terms (map (λ b. b .term) (substitution (q .justification)))
       (and-right (ltb (q .claim .lhs) terms && ltb (q .claim .rhs) terms && below i (references (q .justification))) _ e) (b .term) (Memᴰ·map (λ (c : Binding). c .term) m)
+
+-- as many proofs as the size says
+pub proofs-long : (J : List ℕ) → length (proofsFor J) ≡ sizesOf J .proofs
+proofs-long J = length-map (tablesFor J .proofs) readProof ∙ table-long J 9 (lit< tt)
 
 -- the proofs of an admitted job, as they are read
 module _ {J : List ℕ} (R : Ready J) (p : ℕ) (h : p < sizesOf J .proofs) where

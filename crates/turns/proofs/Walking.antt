@@ -5,7 +5,7 @@ use mathlib.Core.List.{List, _∷_}
 use Prim.Native.Nat.{ℕ, _+_, _<_, _≤_}
 use native.Mathlib.Omega.{arith}
 use lib.Dec.{eqb, ltb}
-use borrow.Author.Tests.{eqb-true, eqb-false, lt-ltb}
+use borrow.Author.Tests.{eqb-true, eqb-false, eq-eqb, ne-eqb, lt-ltb}
 use lib.ListN.{length, getD, set, take}
 use lib.Seq.{getD-set-same, getD-set-other}
 use Rattle.model.specs.Layout.{sizesOf}
@@ -96,36 +96,28 @@ flags-same h w = record { is = λ i l. ap (ltb 0) (h i) ∙ w .is i l }
 heights-same : {J : List ℕ} {c d : ℕ} {W W′ : List ℕ} → d ≡ c → ((i : ℕ) → getD W′ (c + c + i) 0 ≡ getD W (c + c + i) 0) → Heights J c W → Heights J d W′
 heights-same {J} {c} {d} {W} {W′} q h w = subst⁻¹ (λ (m : ℕ). Heights J m W′) q (record { is = λ i l u. h i ∙ w .is i l (subst (λ (x : ℕ). 0 < x) (h i) u) })
 
+-- a proof's word is set, and the others stay
+word-set : (c : ℕ) (W : List ℕ) (h : ℕ) {n : ℕ} (p : ℕ) → p < n → c + c + n ≤ length W → (Q : ℕ → ℕ → Type 0) → Q p h → ((i : ℕ) → (i ≡ p → ⊥) → i < n → Q i (getD W (c + c + i) 0))
+    → (i : ℕ) → i < n → Q i (getD (set W (c + c + p) h) (c + c + i) 0)
+word-set c W h p lt l Q same others i u = go (eqb i p) refl
+  where
+    go : (b : Bool) → eqb i p ≡ b → Q i (getD (set W (c + c + p) h) (c + c + i) 0)
+    go true q = subst⁻¹ (λ (m : ℕ). Q m (getD (set W (c + c + p) h) (c + c + m) 0)) (eqb-true i p q) (subst⁻¹ (Q p) (getD-set-same W (c + c + p) h 0 (omega arith)) same)
+    go false q = let j = eqb-false i p q in subst⁻¹ (Q i) (getD-set-other W (c + c + p) (c + c + i) h 0 (λ y. j (omega arith))) (others i j u)
+
 -- a proof that is checked, and its height
 module _ {c : ℕ} {W : List ℕ} {n h : ℕ} (p : ℕ) (lt : p < n) (l : c + c + n ≤ length W) where
   pub flags-set : {done : List ℕ} → 0 < h → Flags c W n done → Flags c (set W (c + c + p) h) n (p ∷ done)
-  flags-set {done} z w = record { is = λ i u. go i u (eqb i p) refl }
-    where
-      go : (i : ℕ) → i < n → (b : Bool) → eqb i p ≡ b → ltb 0 (getD (set W (c + c + p) h) (c + c + i) 0) ≡ (eqb i p || member i done)
-      go i u true q =
-          let j : i ≡ p = eqb-true i p q in
-          ap (λ (m : ℕ). ltb 0 (getD (set W (c + c + p) h) (c + c + m) 0)) j
-          ∙ ap (ltb 0) (getD-set-same W (c + c + p) h 0 (omega arith))
-          ∙ lt-ltb 0 h z
-          ∙ ap (λ (b : Bool). b || member i done) (sym q)
-      go i u false q =
-          let j = eqb-false i p q in
-          ap (ltb 0) (getD-set-other W (c + c + p) (c + c + i) h 0 (λ y. j (omega arith)))
-          ∙ w .is i u
-          ∙ ap (λ (b : Bool). b || member i done) (sym q)
+  flags-set {done} z w = record {
+    is = word-set c W h p lt l (λ i x. ltb 0 x ≡ (eqb i p || member i done))
+        (lt-ltb 0 h z ∙ ap (λ (b : Bool). b || member p done) (sym (eq-eqb p p refl)))
+        (λ i j u. w .is i u ∙ ap (λ (b : Bool). b || member i done) (sym (ne-eqb i p j)));
+  }
 
   pub heights-set : {J : List ℕ} → n ≡ sizesOf J .proofs → h ≡ height (programFor J) (proofsFor J) p → Heights J c W → Heights J c (set W (c + c + p) h)
-  heights-set {J} m e w = record { is = λ i u. go i u (eqb i p) refl }
-    where
-      go : (i : ℕ) → i < sizesOf J .proofs → (b : Bool) → eqb i p ≡ b → 0 < getD (set W (c + c + p) h) (c + c + i) 0 → getD (set W (c + c + p) h) (c + c + i) 0 ≡ height (programFor J) (proofsFor J) i
-      go i u true q z =
-          let j : i ≡ p = eqb-true i p q in
-          ap (λ (m : ℕ). getD (set W (c + c + p) h) (c + c + m) 0) j
-          ∙ getD-set-same W (c + c + p) h 0 (omega arith) ∙ e ∙ ap (height (programFor J) (proofsFor J)) (sym j)
-      go i u false q z =
-          let j = eqb-false i p q in
-          let o = getD-set-other W (c + c + p) (c + c + i) h 0 (λ y. j (omega arith)) in
-          o ∙ w .is i u (subst (λ (x : ℕ). 0 < x) o z)
+  heights-set {J} m e w = record {
+    is = λ i u. word-set c W h p lt l (λ k x. 0 < x → x ≡ height (programFor J) (proofsFor J) k) (λ _. e) (λ k j v. w .is k (omega arith)) i (omega arith);
+  }
 
 -- a check that passed
 pub walks-passed : {J : List ℕ} {F G U k e p : List ℕ} {f : Fill} {W k₁ e₁ p₁ : List ℕ} {f₁ : Fill} {memo₁ W₁ : List ℕ} {A : Type 0} {r : Refusal} {a : List ℕ → A} {o : Room → List Proposition → List ℕ → Check A}

@@ -53,21 +53,21 @@ abbrev pub followedTurns : Program → List Turn → List ℕ
 followedTurns prog [] = []
 followedTurns prog (t ∷ ts) = followUnless (isSettled prog t) (proofOf t) (followedTurns prog ts)
 
+-- After the proof: what it must prove.
+abbrev pub afterProof : Room → Program → List Proof → ℕ → Turn → List Binding → Check (Unit {0})
+afterProof room prog proofs name (ofFact f p) σ = checkFactMatchesProposition room prog name σ f (claimAt proofs p)
+afterProof room prog proofs name (ofProof p) σ = pure tt
+
 module _ (room : Room) (prog : Program) (proofs : List Proof) (strict : Bool) (name : ℕ) where
   -- Before the proof: the normal form and a side condition; the bindings then.
   abbrev pub beforeProof : Turn → List Binding → Check (List Binding)
   beforeProof (ofFact f p) σ = assertBodyProofNormalForm prog name f >>= λ _. choose (isContainerSideCondition prog f) (checkSideCondition room prog name σ strict f) (pure σ)
   beforeProof (ofProof p) σ = pure σ
 
-  -- After the proof: what it must prove.
-  abbrev pub afterProof : Turn → List Binding → Check (Unit {0})
-  afterProof (ofFact f p) σ = checkFactMatchesProposition room prog name σ f (claimAt proofs p)
-  afterProof (ofProof p) σ = pure tt
-
   module _ (sub : ℕ → List ℕ → Check (List ℕ)) where
     -- The proof itself, unless the turn is settled.
     abbrev pub walkProof : Turn → List Binding → List ℕ → Check (List Binding × List ℕ)
-    walkProof t σ done = choose (isSettled prog t) (pure (σ, done)) (sub (proofOf t) done >>= λ d. afterProof t σ >>= λ _. pure (σ, d))
+    walkProof t σ done = choose (isSettled prog t) (pure (σ, done)) (sub (proofOf t) done >>= λ d. afterProof room prog proofs name t σ >>= λ _. pure (σ, d))
 
     abbrev pub takeTurn : Turn → List Binding × List ℕ → Check (List Binding × List ℕ)
     takeTurn t b = beforeProof t (b .0) >>= λ τ. walkProof t τ (b .1)
@@ -133,7 +133,7 @@ module _ (room : Room) (prog : Program) (proofs : List Proof) (strict : Bool) (n
   abbrev pub stageOf : List Turn → ℕ → List Binding → Check (List Binding)
   stageOf [] w σ = endStep room prog proofs ps p q j h σ >>= λ _. pure σ
   stageOf (t ∷ ts) zero σ = beforeProof room prog proofs strict name t σ
-  stageOf (t ∷ ts) (suc w) σ = afterProof room prog proofs strict name t σ >>= λ _. pure σ
+  stageOf (t ∷ ts) (suc w) σ = afterProof room prog proofs name t σ >>= λ _. pure σ
 
 -- After it no proof is walked.
 abbrev pub isOver : Program → List Turn → ℕ → Bool

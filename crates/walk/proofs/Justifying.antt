@@ -6,7 +6,7 @@ use Prim.Native.Nat.{ℕ, suc, _+_, _<_, _≤_}
 use native.Mathlib.Omega.{arith}
 use lib.Dec.{ltb, lit<}
 use borrow.Author.Tests.{ltb-true, ltb-false, lt-ltb}
-use lib.ListN.{length, getD, set, take, length-set, length-map, List·getD-eq-default}
+use lib.ListN.{length, getD, set, take, length-set, List·getD-eq-default}
 use lib.Seq.{take-set-le}
 use Rattle.model.specs.Layout.{sizesOf}
 use Rattle.model.specs.Term.{Term, Below}
@@ -25,12 +25,11 @@ use Rattle.outcome.specs.Does.{passed, refusal, Does}
 use Rattle.outcome.specs.declared.Refusal.{Refusal}
 use Rattle.outcome.specs.declared.Checked.{Checked}
 use Rattle.outcome.proofs.Laws.{ok-of, does-here, does-stop}
-use Rattle.program.specs.Ready.{tablesFor, Ready, programFor}
+use Rattle.program.specs.Ready.{Ready, programFor}
 use Rattle.program.specs.Read.{proofsFor, proofCell}
-use Rattle.program.proofs.Laws.{table-long}
 use Rattle.program.proofs.Reading.{refers}
 use Rattle.model.proofs.Valid.{below-of}
-use Rattle.program.proofs.Proving.{references-below, proof-for}
+use Rattle.program.proofs.Proving.{references-below, proofs-long, proof-for}
 use Rattle.turns.specs.Walking.{Flags, Heights, Ground, Walks, contextOf}
 use Rattle.turns.proofs.Walking.{walks-here, flags-set, heights-set}
 
@@ -40,10 +39,6 @@ word-at W c i e = e ∙ ap (λ (m : ℕ). getD W (c + c + m) 0) i
 
 pub set-at : (W : List ℕ) (c h : ℕ) {W₁ : List ℕ} {n p : ℕ} → W₁ ≡ set W (c + c + n) h → n ≡ p → W₁ ≡ set W (c + c + p) h
 set-at W c h e i = e ∙ ap (λ (m : ℕ). set W (c + c + m) h) i
-
--- as many proofs as the size says
-proofs-long : (J : List ℕ) → length (proofsFor J) ≡ sizesOf J .proofs
-proofs-long J = length-map (tablesFor J .proofs) readProof ∙ table-long J 9 (lit< tt)
 
 -- references are lower
 lower-for : {J : List ℕ} → Ready J → (p : ℕ) → Below p (references (getD (proofsFor J) p noProof .justification))
@@ -55,16 +50,16 @@ lower-for {J} R p = go (ltb p (sizesOf J .proofs)) refl
         below-of p _ (ap (λ (x : Proof). below p (references (x .justification))) (proof-for R p h) ∙ references-below (sizesOf J .terms) p (readProof (proofCell J p)) (refers R 9 (lit< tt) p h)) x m
     go false e x m =
         let h = ltb-false p (sizesOf J .proofs) e in
-        let l : length (proofsFor J) ≡ sizesOf J .proofs = proofs-long J in
+        let l = proofs-long J in
         absurd (List·Memᴰ·not-nil (subst (λ (q : Proof). List·Memᴰ x (references (q .justification))) (List·getD-eq-default (proofsFor J) noProof {n = p} (omega arith)) m))
 
 -- the height of a proof, by the proofs that it follows
 pub height-for : {J : List ℕ} → Ready J → (p : ℕ) → p < sizesOf J .proofs
     → height (programFor J) (proofsFor J) p ≡ suc (maximum (map (height (programFor J) (proofsFor J)) (followed (programFor J) (getD (proofsFor J) p noProof .justification))))
-height-for {J} R p h = height-is (programFor J) (proofsFor J) (lower-for R) p (let l : length (proofsFor J) ≡ sizesOf J .proofs = proofs-long J in omega arith)
+height-for {J} R p h = height-is (programFor J) (proofsFor J) (lower-for R) p (let l = proofs-long J in omega arith)
 
 pub height-few : {J : List ℕ} → Ready J → (p : ℕ) → height (programFor J) (proofsFor J) p ≤ 4096
-height-few {J} R p = let m = height-most (programFor J) (proofsFor J) (length (proofsFor J)) p in let l : length (proofsFor J) ≡ sizesOf J .proofs = proofs-long J in let h = R .held .limits .proofs in omega arith
+height-few {J} R p = let m = height-most (programFor J) (proofsFor J) (length (proofsFor J)) p in let l = proofs-long J in let h = R .held .limits .proofs in omega arith
 
 module _ (J : List ℕ) (strict : Bool) (F G U : List ℕ) (p : ℕ) where
   abbrev prog : Program

@@ -48,7 +48,7 @@ module _ (room : Room) (prog : Program) (proofs : List Proof) (strict : Bool) (n
   abbrev pub restOf : List Turn → ℕ → List Binding × List ℕ → Check (List ℕ)
   restOf ts zero b = takeTurns room prog proofs strict name sub ts b >>= finish
   restOf [] (suc v) b = finish b
-  restOf (t ∷ ts) (suc v) b = afterProof room prog proofs strict name t (b .0) >>= λ _. takeTurns room prog proofs strict name sub ts b >>= finish
+  restOf (t ∷ ts) (suc v) b = afterProof room prog proofs name t (b .0) >>= λ _. takeTurns room prog proofs strict name sub ts b >>= finish
 
   abbrev pub stagePart : List Turn → ℕ → List Binding × List ℕ → Check (List Binding × List ℕ)
   stagePart ts v b = stageOf room prog proofs strict name ps p q j h ts v (b .0) >>= λ τ. pure (τ, b .1)
@@ -82,12 +82,12 @@ module _ (room : Room) (prog : Program) (proofs : List Proof) (strict : Bool) (n
   rest-next [] zero (σ, d) s = ends (endStep room prog proofs ps p q j h σ s) σ d
   rest-next [] (suc v) (σ, d) s = ends (endStep room prog proofs ps p q j h σ s) σ d
   rest-next (t ∷ ts) zero (σ, d) s = before (beforeProof room prog proofs strict name t σ s) d (walkProof room prog proofs strict name sub t) ts
-  rest-next (t ∷ ts) (suc v) (σ, d) s = after (afterProof room prog proofs strict name t σ s) σ d ts
+  rest-next (t ∷ ts) (suc v) (σ, d) s = after (afterProof room prog proofs name t σ s) σ d ts
 
   -- a turn that is settled
   pub next-settled : (t : Turn) (ts : List Turn) (b : List Binding × List ℕ) (s : List Term) → isSettled prog t ≡ true → nextOf (t ∷ ts) zero b s ≡ restOf ts zero b s
   next-settled t ts (σ, d) s e =
-      ap (λ (c : Bool). andThen (choose c (pure (σ, d)) (sub (proofOf t) d >>= λ x. afterProof room prog proofs strict name t σ >>= λ _. pure (σ, x)) s) (λ y. takeTurns room prog proofs strict name sub ts y >>= finish)) e
+      ap (λ (c : Bool). andThen (choose c (pure (σ, d)) (sub (proofOf t) d >>= λ x. afterProof room prog proofs name t σ >>= λ _. pure (σ, x)) s) (λ y. takeTurns room prog proofs strict name sub ts y >>= finish)) e
 
   -- and one whose proof is walked
   abbrev pub walkPart : Turn → List Binding × List ℕ → Check (List Binding × List ℕ)
@@ -99,14 +99,14 @@ module _ (room : Room) (prog : Program) (proofs : List Proof) (strict : Bool) (n
   matched (refused r s) σ d ts = refl
 
   walked : (o : Outcome (List ℕ)) (t : Turn) (ts : List Turn) (σ : List Binding)
-      → andThen (andThen o (λ x. afterProof room prog proofs strict name t σ >>= λ _. pure (σ, x))) (λ y. takeTurns room prog proofs strict name sub ts y >>= finish)
+      → andThen (andThen o (λ x. afterProof room prog proofs name t σ >>= λ _. pure (σ, x))) (λ y. takeTurns room prog proofs strict name sub ts y >>= finish)
       ≡ andThen (andThen o (λ d. pure (σ, d))) (restOf (t ∷ ts) 1)
-  walked (ok d s) t ts σ = matched (afterProof room prog proofs strict name t σ s) σ d ts
+  walked (ok d s) t ts σ = matched (afterProof room prog proofs name t σ s) σ d ts
   walked (refused r s) t ts σ = refl
 
   pub next-walk : (t : Turn) (ts : List Turn) (b : List Binding × List ℕ) (s : List Term) → isSettled prog t ≡ false → nextOf (t ∷ ts) zero b s ≡ andThen (walkPart t b s) (restOf (t ∷ ts) 1)
   next-walk t ts (σ, d) s e =
-      ap (λ (c : Bool). andThen (choose c (pure (σ, d)) (sub (proofOf t) d >>= λ x. afterProof room prog proofs strict name t σ >>= λ _. pure (σ, x)) s) (λ y. takeTurns room prog proofs strict name sub ts y >>= finish)) e
+      ap (λ (c : Bool). andThen (choose c (pure (σ, d)) (sub (proofOf t) d >>= λ x. afterProof room prog proofs name t σ >>= λ _. pure (σ, x)) s) (λ y. takeTurns room prog proofs strict name sub ts y >>= finish)) e
       ∙ walked (sub (proofOf t) d s) t ts σ
 
 -- the step of proof p, of which a part is done
@@ -201,11 +201,8 @@ module _ (J : List ℕ) (strict : Bool) (F G U : List ℕ) (p : ℕ) (rule : Boo
   abbrev highest : List Turn → ℕ
   highest ts = maximum (map (height (programFor J) (proofsFor J)) (followedTurns (programFor J) ts))
 
-  highest-settled : (t : Turn) (ts : List Turn) → isSettled (programFor J) t ≡ true → highest (t ∷ ts) ≡ highest ts
-  highest-settled t ts e = ap (λ (b : Bool). maximum (map (height (programFor J) (proofsFor J)) (followUnless b (proofOf t) (followedTurns (programFor J) ts)))) e
-
-  highest-walked : (t : Turn) (ts : List Turn) → isSettled (programFor J) t ≡ false → highest (t ∷ ts) ≡ max (height (programFor J) (proofsFor J) (proofOf t)) (highest ts)
-  highest-walked t ts e = ap (λ (b : Bool). maximum (map (height (programFor J) (proofsFor J)) (followUnless b (proofOf t) (followedTurns (programFor J) ts)))) e
+  highest-of : (t : Turn) (ts : List Turn) {b : Bool} → isSettled (programFor J) t ≡ b → highest (t ∷ ts) ≡ maximum (map (height (programFor J) (proofsFor J)) (followUnless b (proofOf t) (followedTurns (programFor J) ts)))
+  highest-of t ts e = ap (λ (b : Bool). maximum (map (height (programFor J) (proofsFor J)) (followUnless b (proofOf t) (followedTurns (programFor J) ts)))) e
 
   -- the first turn whose proof may still be walked
   abbrev reached : ℕ → ℕ → ℕ
@@ -335,7 +332,7 @@ module _ (J : List ℕ) (strict : Bool) (F G U : List ℕ) (p : ℕ) (rule : Boo
         over-high n s = by (decLt i count)
           where
             go : (w : ℕ) → (w ≡ 1 → ⊥) → drop i turns ≡ getD turns i noTurn ∷ drop (suc i) turns → isOver (programFor J) (drop i turns) w ≡ true → highest (drop (reached i w) turns) ≡ highest (drop (suc i) turns)
-            go zero m e o = ap highest e ∙ highest-settled (getD turns i noTurn) (drop (suc i) turns) (sym (ap (λ (ts : List Turn). isOver (programFor J) ts 0) e) ∙ o)
+            go zero m e o = ap highest e ∙ highest-of (getD turns i noTurn) (drop (suc i) turns) (sym (ap (λ (ts : List Turn). isOver (programFor J) ts 0) e) ∙ o)
             go (suc zero) m e o = absurd (m refl)
             go (suc (suc w)) m e o = refl
 
@@ -455,7 +452,7 @@ module _ (J : List ℕ) (strict : Bool) (F G U : List ℕ) (p : ℕ) (rule : Boo
           high-after : max most₂ (highest (drop (suc i) turns)) ≡ highest turns
           high-after =
               let x : max most (highest (drop i turns)) ≡ highest turns = subst (λ (n : ℕ). max most (highest (drop (reached i n) turns)) ≡ highest turns) v≡1 (t .high) in
-              let z : highest (drop i turns) ≡ max (height (programFor J) (proofsFor J) (proofOf turn)) (highest (drop (suc i) turns)) = ap highest (left-at task-turn) ∙ highest-walked turn (drop (suc i) turns) (t .due v≡1 .1) in
+              let z : highest (drop i turns) ≡ max (height (programFor J) (proofsFor J) (proofOf turn)) (highest (drop (suc i) turns)) = ap highest (left-at task-turn) ∙ highest-of turn (drop (suc i) turns) (t .due v≡1 .1) in
               let o : h ≡ height (programFor J) (proofsFor J) (proofOf turn) = hq ∙ ap (height (programFor J) (proofsFor J)) y in
               omega (arith, x, z, o, mq)
 
