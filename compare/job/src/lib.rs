@@ -1,4 +1,4 @@
-//! The job layout of document 01: reading it, writing it, and the refusals 1 to 11.
+//! The job layout of document 01: reading it, writing it, and the refusals 1 to 12.
 
 pub mod build;
 pub mod conditions;

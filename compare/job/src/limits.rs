@@ -26,8 +26,19 @@ pub const STORE_POOL: usize = 1_048_576;
 pub const PROGRAM_BYTES: usize = 65_536;
 pub const PROGRAM_CELLS: usize = 4_096;
 pub const PROGRAM_POOL: usize = 16_384;
+pub const PROGRAM_INDEX: usize = 8_192;
 
 /// The scratch words a check needs for C store cells and J proofs.
 pub fn scratch_words(cells: usize, proofs: usize) -> usize {
     2 * (cells + proofs)
+}
+
+/// An index may have so many slots beside C store cells: a power of two, twice the cells at least.
+pub fn index_fits(slots: usize, cells: usize) -> bool {
+    slots.is_power_of_two() && slots >= 2 * cells
+}
+
+/// The fewest slots that fit.
+pub fn index_slots(cells: usize) -> usize {
+    (2 * cells).next_power_of_two()
 }

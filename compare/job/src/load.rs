@@ -1,4 +1,4 @@
-//! The refusals 1 to 10, from document 01 alone, and 11, from request Q-1.
+//! The refusals 1 to 10, from document 01 alone, 11, from request Q-1, and 12, from request Q-4.
 
 mod duplicates;
 mod forms;
@@ -14,6 +14,8 @@ pub struct Lent {
     pub kinds: usize,
     pub ends: usize,
     pub pool: usize,
+    /// Slots.
+    pub index: usize,
     pub scratch: usize,
 }
 
@@ -30,7 +32,7 @@ impl Refusal {
     }
 }
 
-/// The lowest number that applies among 1 to 10, if any; 11 is looked for right after 3.
+/// The lowest number that applies among 1 to 10, if any; 11 is looked for right after 3, 12 last.
 pub fn refusal(words: &[u32], asked: u32, mode: u32, lent: &Lent) -> Option<Refusal> {
     let Some(job) = Job::read(words) else {
         return Refusal::plain(1);
@@ -47,7 +49,9 @@ pub fn refusal(words: &[u32], asked: u32, mode: u32, lent: &Lent) -> Option<Refu
     if !job.ends_formed() {
         return Refusal::plain(5);
     }
-    cell_refusal(&job).or_else(|| lent_refusal(&job, lent))
+    cell_refusal(&job)
+        .or_else(|| lent_refusal(&job, lent))
+        .or_else(|| index_refusal(lent))
 }
 
 /// 6 to 9: each over all cells before the next; the least cell is the field.
@@ -92,4 +96,12 @@ fn lent_refusal(job: &Job, lent: &Lent) -> Option<Refusal> {
         && lent.pool <= limits::STORE_POOL
         && lent.scratch >= limits::scratch_words(cells, job.count(Table::Proofs));
     if fits { None } else { Refusal::plain(10) }
+}
+
+/// 12: the index has too few slots for the lent cells, or no power of two.
+fn index_refusal(lent: &Lent) -> Option<Refusal> {
+    match limits::index_fits(lent.index, lent.kinds) {
+        true => None,
+        false => Refusal::plain(12),
+    }
 }

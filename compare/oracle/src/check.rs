@@ -22,7 +22,8 @@ pub struct TooManySteps;
 const SHALLOW: usize = 64;
 const DEEP_STACK: usize = 512 << 20;
 
-/// The check with lent arrays, in a mode. Writes the answer and, on 0 and from 20 up, the store's words.
+/// The check with lent arrays, an index of so many slots and so many words of scratch, in a mode. Writes
+/// the answer and, on 0 and from 20 up, the store's words.
 #[allow(clippy::too_many_arguments)]
 pub fn check(
     job: &[u32],
@@ -31,10 +32,15 @@ pub fn check(
     kinds: &mut [u32],
     ends: &mut [u32],
     pool: &mut [u32],
+    index: usize,
     scratch: usize,
     answer: &mut [u32],
 ) -> Result<u32, TooManySteps> {
-    let mut run = || check_here(job, asked, mode, kinds, ends, pool, scratch, answer);
+    let mut run = || {
+        check_here(
+            job, asked, mode, kinds, ends, pool, index, scratch, answer,
+        )
+    };
     let (number, _) = match is_shallow(job) {
         true => run()?,
         false => on_deep_stack(run)?,
@@ -51,6 +57,7 @@ pub fn check_here(
     kinds: &mut [u32],
     ends: &mut [u32],
     pool: &mut [u32],
+    index: usize,
     scratch: usize,
     answer: &mut [u32],
 ) -> Result<(u32, Duration), TooManySteps> {
@@ -61,6 +68,7 @@ pub fn check_here(
         kinds: kinds.len(),
         ends: ends.len(),
         pool: pool.len(),
+        index,
         scratch,
     };
     let (words, took) = match refusal(job, asked, mode, &lent) {
@@ -74,7 +82,7 @@ pub fn check_here(
     Ok((words[0], took))
 }
 
-/// The host entry: a job as bytes, with the program's own store, in mode 0.
+/// The host entry: a job as bytes, with the program's own store and index, in mode 0.
 pub fn check_bytes(bytes: &[u8], asked: u32, answer: &mut [u32]) -> Result<u32, TooManySteps> {
     check_bytes_mode(bytes, asked, modes::PLAIN, answer)
 }
@@ -102,7 +110,15 @@ pub fn check_bytes_mode(
     let mut pool = vec![0; limits::PROGRAM_POOL];
     let scratch = limits::scratch_words(limits::PROGRAM_CELLS, limits::CELLS as usize);
     check(
-        &job, asked, mode, &mut kinds, &mut ends, &mut pool, scratch, answer,
+        &job,
+        asked,
+        mode,
+        &mut kinds,
+        &mut ends,
+        &mut pool,
+        limits::PROGRAM_INDEX,
+        scratch,
+        answer,
     )
 }
 

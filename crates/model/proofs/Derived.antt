@@ -46,6 +46,6 @@ module _ (prog : Program) (rows : List TreeRow) (strict : Bool) where
   ]
 
 -- what the entry accepts is derived
-pub accepted-derived : (ws : List ℕ) (p mode : ℕ) (a : Arrays) (scratch : ℕ) (answer : List ℕ) → entry ws p mode a scratch answer .number ≡ 0
+pub accepted-derived : (ws : List ℕ) (p mode : ℕ) (a : Arrays) (index scratch : ℕ) (answer : List ℕ) → entry ws p mode a index scratch answer .number ≡ 0
     → ClaimRelated (jobOf ws) (Derived (jobOf ws .program) (treeRows (jobOf ws .terms) (jobOf ws .program .rows)) (isStrict mode)) p
-accepted-derived ws p mode a scratch answer e = accepted _ ws p mode a scratch answer e (derived-closed (jobOf ws .program) (treeRows (jobOf ws .terms) (jobOf ws .program .rows)) (isStrict mode))
+accepted-derived ws p mode a index scratch answer e = accepted _ ws p mode a index scratch answer e (derived-closed (jobOf ws .program) (treeRows (jobOf ws .terms) (jobOf ws .program .rows)) (isStrict mode))

@@ -15,7 +15,7 @@ use Rattle.model.specs.Program.{Program, Fact, bare, Rule, node, nil, co
 use Rattle.model.specs.Layout.{sizesOf, kindsOf, endsOf, poolOf, tablesOf}
 use Rattle.model.specs.Decode.{jobOf, exprIn, readProgram, readJob}
 use Rattle.model.specs.Check.{orRefuse, checkThat, addNode, _>>?_}
-use Rattle.model.specs.Load.{refusedIf, firstMarked, loadRefusal}
+use Rattle.model.specs.Load.{refusedIf, firstMarked, doubles, loadRefusal}
 use Rattle.model.specs.Evaluate.{validate, subtermsIn, reflexive, headValue, evalExprs}
 use Rattle.model.specs.Fact.{offences, assertBodyProofNormalForm, checkSideCondition}
 use Rattle.model.specs.Action.{processActions, checkRuleProducesEquality, mergeOf}
@@ -41,10 +41,10 @@ abbrev exactly : Arrays
 exactly = record { kinds = replicate 5 0; ends = replicate 5 0; pool = replicate 12 0 }
 
 -- Proofs 1 and 3 in mode 0 and in strict mode; in a mode that there is not, proof 3 and a proof that there is not.
-answers : map (λ (q : ℕ × ℕ). check eastFlank (q .0) (q .1) exactly 18 .answer) ((1, 0) ∷ (3, 0) ∷ (1, 1) ∷ (3, 1) ∷ (3, 2) ∷ (4, 2) ∷ [])
+answers : map (λ (q : ℕ × ℕ). check eastFlank (q .0) (q .1) exactly 16 18 .answer) ((1, 0) ∷ (3, 0) ∷ (1, 1) ∷ (3, 1) ∷ (3, 2) ∷ (4, 2) ∷ [])
     ≡ (0 ∷ 5 ∷ 2 ∷ 0 ∷ 1 ∷ 0 ∷ 0 ∷ 0 ∷ []) ∷ (0 ∷ 5 ∷ 3 ∷ 1 ∷ 1 ∷ 0 ∷ 0 ∷ 0 ∷ []) ∷
     (0 ∷ 5 ∷ 2 ∷ 0 ∷ 1 ∷ 0 ∷ 0 ∷ 0 ∷ []) ∷ (46 ∷ 5 ∷ 6 ∷ 0 ∷ 0 ∷ 0 ∷ 0 ∷ 0 ∷ []) ∷ (11 ∷ 0 ∷ 0 ∷ 0 ∷ 0 ∷ 0 ∷ 0 ∷ 0 ∷ []) ∷ (3 ∷ 0 ∷ 0 ∷ 0 ∷ 0 ∷ 0 ∷ 0 ∷ 0 ∷ []) ∷ []
-unfolding eastFlank tabulate startOf wordsAt cellsOf readTerm findTerm getTerm sizesOf kindsOf endsOf poolOf tablesOf exprIn readProgram readJob orRefuse checkThat addNode refusedIf firstMarked loadRefusal validate subtermsIn reflexive headValue evalExprs offences assertBodyProofNormalForm checkSideCondition processActions checkRuleProducesEquality checkPremises checkRule checkProofWithContext newContext checkProof checked check
+unfolding eastFlank tabulate startOf wordsAt cellsOf readTerm findTerm getTerm sizesOf kindsOf endsOf poolOf tablesOf exprIn readProgram readJob orRefuse checkThat addNode refusedIf firstMarked loadRefusal doubles validate subtermsIn reflexive headValue evalExprs offences assertBodyProofNormalForm checkSideCondition processActions checkRuleProducesEquality checkPremises checkRule checkProofWithContext newContext checkProof checked check
 answers = refl
 
 -- The job's bytes.
@@ -55,7 +55,7 @@ bytesOf (w ∷ ws) = w % 256 ∷ w / 256 % 256 ∷ w / 65536 % 256 ∷ w / 16777
 -- The program and the host entry without a mode accept proof 3; the host entry with a mode does so in mode 0, and refuses it in strict mode.
 by-bytes : programAnswer (bytesOf eastFlank) ∷ map (λ e. e .answer) (hostEntry (bytesOf eastFlank) 3 (replicate 8 0) ∷ hostEntryMode (bytesOf eastFlank) 3 0 (replicate 8 0) ∷ hostEntryMode (bytesOf eastFlank) 3 1 (replicate 8 0) ∷ [])
     ≡ (0 ∷ 5 ∷ 3 ∷ 1 ∷ 1 ∷ 0 ∷ 0 ∷ 0 ∷ []) ∷ (0 ∷ 5 ∷ 3 ∷ 1 ∷ 1 ∷ 0 ∷ 0 ∷ 0 ∷ []) ∷ (0 ∷ 5 ∷ 3 ∷ 1 ∷ 1 ∷ 0 ∷ 0 ∷ 0 ∷ []) ∷ (46 ∷ 5 ∷ 6 ∷ 0 ∷ 0 ∷ 0 ∷ 0 ∷ 0 ∷ []) ∷ []
-unfolding eastFlank tabulate startOf wordsAt cellsOf readTerm findTerm getTerm sizesOf kindsOf endsOf poolOf tablesOf exprIn readProgram readJob orRefuse checkThat addNode refusedIf firstMarked loadRefusal validate subtermsIn reflexive headValue evalExprs offences assertBodyProofNormalForm checkSideCondition processActions checkRuleProducesEquality checkPremises checkRule checkProofWithContext newContext checkProof checked check wordsOf hostAnswer hostEntryMode
+unfolding eastFlank tabulate startOf wordsAt cellsOf readTerm findTerm getTerm sizesOf kindsOf endsOf poolOf tablesOf exprIn readProgram readJob orRefuse checkThat addNode refusedIf firstMarked loadRefusal doubles validate subtermsIn reflexive headValue evalExprs offences assertBodyProofNormalForm checkSideCondition processActions checkRuleProducesEquality checkPremises checkRule checkProofWithContext newContext checkProof checked check wordsOf hostAnswer hostEntryMode
 by-bytes = refl
 
 abbrev pub integer : ℕ → Tree
@@ -66,13 +66,13 @@ narrowing t = apply 11 (tcons t tnil)
 
 -- in mode 0 every closed relation relates the narrowing of 2^24 + 3 to that position
 related {ℓ} : (R : Tree → Tree → Type ℓ) → ClosedFor false (jobOf eastFlank) R → R (narrowing (integer 16777219)) (integer 16777219)
-unfolding eastFlank tabulate startOf wordsAt cellsOf readTerm findTerm getTerm sizesOf kindsOf endsOf poolOf tablesOf exprIn readProgram readJob orRefuse checkThat addNode refusedIf firstMarked loadRefusal subtermsIn reflexive headValue evalExprs offences assertBodyProofNormalForm checkSideCondition processActions checkRuleProducesEquality checkPremises checkRule checkProofWithContext newContext checkProof checked check entry treeIn
-related R closed = accepted R eastFlank 3 0 exactly 18 (replicate 8 0) refl closed .related
+unfolding eastFlank tabulate startOf wordsAt cellsOf readTerm findTerm getTerm sizesOf kindsOf endsOf poolOf tablesOf exprIn readProgram readJob orRefuse checkThat addNode refusedIf firstMarked loadRefusal doubles subtermsIn reflexive headValue evalExprs offences assertBodyProofNormalForm checkSideCondition processActions checkRuleProducesEquality checkPremises checkRule checkProofWithContext newContext checkProof checked check entry treeIn
+related R closed = accepted R eastFlank 3 0 exactly 16 18 (replicate 8 0) refl closed .related
 
 -- in strict mode every closed relation does so for 2^24
 related-exact {ℓ} : (R : Tree → Tree → Type ℓ) → ClosedFor true (jobOf eastFlank) R → R (narrowing (integer 16777216)) (integer 16777216)
-unfolding eastFlank tabulate startOf wordsAt cellsOf readTerm findTerm getTerm sizesOf kindsOf endsOf poolOf tablesOf exprIn readProgram readJob orRefuse checkThat addNode refusedIf firstMarked loadRefusal validate subtermsIn reflexive headValue evalExprs offences assertBodyProofNormalForm checkSideCondition processActions checkRuleProducesEquality checkPremises checkRule checkProofWithContext newContext checkProof checked check entry treeIn
-related-exact R closed = accepted R eastFlank 1 1 exactly 18 (replicate 8 0) refl closed .related
+unfolding eastFlank tabulate startOf wordsAt cellsOf readTerm findTerm getTerm sizesOf kindsOf endsOf poolOf tablesOf exprIn readProgram readJob orRefuse checkThat addNode refusedIf firstMarked loadRefusal doubles validate subtermsIn reflexive headValue evalExprs offences assertBodyProofNormalForm checkSideCondition processActions checkRuleProducesEquality checkPremises checkRule checkProofWithContext newContext checkProof checked check entry treeIn
+related-exact R closed = accepted R eastFlank 1 1 exactly 16 18 (replicate 8 0) refl closed .related
 
 abbrev narrowedBy : ℕ → Trees → Bool → Tree
 narrowedBy f ts true = integer 16777216

@@ -13,7 +13,7 @@ use Rattle.model.specs.Term.{Literal, readTerm, findTerm, getTerm}
 use Rattle.model.specs.Program.{Program}
 use Rattle.model.specs.Layout.{sizesOf, kindsOf, endsOf, poolOf, tablesOf}
 use Rattle.model.specs.Decode.{exprIn, readProgram, readJob, jobOf}
-use Rattle.model.specs.Load.{refusedIf, firstMarked, loadRefusal}
+use Rattle.model.specs.Load.{refusedIf, firstMarked, doubles, loadRefusal}
 use Rattle.model.specs.Check.{orRefuse, checkThat, addNode}
 use Rattle.model.specs.Evaluate.{subtermsIn, reflexive, headValue, evalExpr, evalExprs}
 use Rattle.model.specs.Action.{mergeOf, processActions}
@@ -31,8 +31,8 @@ four n = apply 4 (tcons (leaf (record { kind = 2; low = n; high = 0 })) tnil)
 
 -- the congruence of job B is accepted, so every closed relation relates name 4 of 7 to name 4 of 8
 pub related {ℓ} : (R : Tree → Tree → Type ℓ) → ClosedFor false (jobOf jobB) R → R (four 7) (four 8)
-unfolding four jobB exactly entry check checked loadRefusal refusedIf firstMarked tablesOf sizesOf kindsOf endsOf poolOf cellsOf tabulate startOf wordsAt readTerm readJob readProgram exprIn checkProof newContext checkProofWithContext checkFiat checkCongr processActions evalExpr evalExprs headValue orRefuse checkThat addNode findTerm getTerm reflexive subtermsIn treeIn
-related R closed = accepted R jobB 8 0 exactly 34 (replicate 8 0) refl closed .related
+unfolding four jobB exactly entry check checked loadRefusal doubles refusedIf firstMarked tablesOf sizesOf kindsOf endsOf poolOf cellsOf tabulate startOf wordsAt readTerm readJob readProgram exprIn checkProof newContext checkProofWithContext checkFiat checkCongr processActions evalExpr evalExprs headValue orRefuse checkThat addNode findTerm getTerm reflexive subtermsIn treeIn
+related R closed = accepted R jobB 8 0 exactly 8 34 (replicate 8 0) refl closed .related
 
 -- what holds of each pair of a list, by a test that computes
 abbrev pub allPairs : (TreePair → Bool) → List TreePair → Bool

@@ -7,7 +7,7 @@ use Rattle.model.specs.Cell.{tabulate, startOf, wordsAt, cellsOf}
 use Rattle.model.specs.Term.{readTerm, findTerm, getTerm}
 use Rattle.model.specs.Layout.{sizesOf, kindsOf, endsOf, poolOf, tablesOf}
 use Rattle.model.specs.Decode.{exprIn, readProgram, readJob}
-use Rattle.model.specs.Load.{refusedIf, firstMarked, loadRefusal}
+use Rattle.model.specs.Load.{refusedIf, firstMarked, doubles, loadRefusal}
 use Rattle.model.specs.Check.{orRefuse, checkThat, addNode}
 use Rattle.model.specs.Evaluate.{subtermsIn, reflexive, headValue, evalExpr, evalExprs}
 use Rattle.model.specs.Action.{processActions}
@@ -28,7 +28,7 @@ exactly = record { kinds = replicate 4 0; ends = replicate 4 0; pool = replicate
 
 -- The answer for each asked proof.
 unfoldable pub answers : List ℕ → List (List ℕ)
-answers ps = map (λ p. check jobB p 0 exactly 34 .answer) ps
+answers ps = map (λ p. check jobB p 0 exactly 8 34 .answer) ps
 
 -- The marked cases, in document 01's order.
 unfoldable pub markedProofs : List ℕ
@@ -50,5 +50,5 @@ markedAnswers =
     (26 ∷ 4 ∷ 12 ∷ 0 ∷ 0 ∷ 0 ∷ 0 ∷ 0 ∷ []) ∷ []
 
 pub marked-cases : answers markedProofs ≡ markedAnswers
-unfolding answers markedProofs markedAnswers jobB exactly check checked loadRefusal refusedIf firstMarked tablesOf sizesOf kindsOf endsOf poolOf cellsOf tabulate startOf wordsAt readTerm readJob readProgram exprIn checkProof newContext checkProofWithContext checkFiat checkTrans checkSym checkCongr processActions evalExpr evalExprs headValue orRefuse checkThat addNode findTerm getTerm reflexive subtermsIn
+unfolding answers markedProofs markedAnswers jobB exactly check checked loadRefusal doubles refusedIf firstMarked tablesOf sizesOf kindsOf endsOf poolOf cellsOf tabulate startOf wordsAt readTerm readJob readProgram exprIn checkProof newContext checkProofWithContext checkFiat checkTrans checkSym checkCongr processActions evalExpr evalExprs headValue orRefuse checkThat addNode findTerm getTerm reflexive subtermsIn
 marked-cases = refl

@@ -18,6 +18,7 @@ pub mod Again
 pub mod Exact
 pub mod JobA
 pub mod JobB
+pub mod Slots
 pub mod Example
 pub mod Tilt
 pub mod EastFlank

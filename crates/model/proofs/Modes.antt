@@ -93,11 +93,11 @@ loaded-alike job none-bare p a none = ap (checkedBy job p a) (proofs-alike none-
 loaded-alike job none-bare p a (some r) = refl
 
 -- WHERE THE MODES AGREE: on a job without bare container conditions the entry returns and leaves the same in both modes, for whatever it is handed
-pub modes-alike : (ws : List ℕ) (p : ℕ) (a : Arrays) (scratch : ℕ) (answer : List ℕ) → NoBareCondition (jobOf ws .program) → entry ws p 0 a scratch answer ≡ entry ws p 1 a scratch answer
+pub modes-alike : (ws : List ℕ) (p : ℕ) (a : Arrays) (index scratch : ℕ) (answer : List ℕ) → NoBareCondition (jobOf ws .program) → entry ws p 0 a index scratch answer ≡ entry ws p 1 a index scratch answer
 unfolding entry check loadRefusal
-modes-alike ws p a scratch answer none-bare =
+modes-alike ws p a index scratch answer none-bare =
     ap (λ (c : Left). elim (eqb (length answer) 8) as (λ _. Left) [ true ↦ c | false ↦ record { number = 10; answer = answer; arrays = a } ])
-    (loaded-alike (jobOf ws) none-bare p a (loadRefusal ws p 0 (lentBy a scratch)))
+    (loaded-alike (jobOf ws) none-bare p a (loadRefusal ws p 0 (lentBy a index scratch)))
 
 -- strict mode passes no condition that mode 0 does not pass, and binds the same
 condition-plain : (prog : Program) (rows : List TreeRow) (σ σ′ : List TreeBinding) (f : Fact) → treeCondition prog rows true σ f ≡ some σ′ → treeCondition prog rows false σ f ≡ some σ′

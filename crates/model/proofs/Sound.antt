@@ -80,7 +80,7 @@ unfolding loadRefusal
 load-numbered ws p mode lent = first-numbered {ts = loadTests ws (sizesOf ws) (tablesOf ws) p mode lent}
     (next (λ _. if-numbered _ 1 tt) (next (λ _. if-numbered _ 2 tt) (next (λ _. if-numbered _ 3 tt) (next (λ _. if-numbered _ 11 tt) (next (λ _. if-numbered _ 5 tt)
     (next (λ _. marked-numbered 6 0 _ tt) (next (λ _. marked-numbered 7 0 _ tt) (next (λ _. marked-numbered 8 _ _ tt)
-    (next (λ _. marked-numbered 9 0 _ tt) (next (λ _. if-numbered _ 10 tt) end))))))))))
+    (next (λ _. marked-numbered 9 0 _ tt) (next (λ _. if-numbered _ 10 tt) (next (λ _. if-numbered _ 12 tt) end)))))))))))
 
 not-zero : (n : ℕ) → Nonzero {0} n → ¬ (n ≡ 0)
 not-zero zero z e = z .lower
@@ -96,21 +96,21 @@ module _ {ℓ} (R : Tree → Tree → Type ℓ) where
       go (ok q s) h e = h .holds
       go (refused r s) h e = absurd (not-zero (r .number) (nonzero-at (r .number) (h .holds)) e)
 
-  check-accepts : (ws : List ℕ) (p mode : ℕ) (a : Arrays) (scratch : ℕ) → check ws p mode a scratch .number ≡ 0 → ClosedFor (isStrict mode) (jobOf ws) R → ClaimRelated (jobOf ws) R p
+  check-accepts : (ws : List ℕ) (p mode : ℕ) (a : Arrays) (index scratch : ℕ) → check ws p mode a index scratch .number ≡ 0 → ClosedFor (isStrict mode) (jobOf ws) R → ClaimRelated (jobOf ws) R p
   unfolding check
-  check-accepts ws p mode a scratch e closed = go (loadRefusal ws p mode (lentBy a scratch)) refl (load-numbered ws p mode (lentBy a scratch)) e
+  check-accepts ws p mode a index scratch e closed = go (loadRefusal ws p mode (lentBy a index scratch)) refl (load-numbered ws p mode (lentBy a index scratch)) e
     where
-      go : (o : Option Refusal) → loadRefusal ws p mode (lentBy a scratch) ≡ o → Numbered o → loaded (jobOf ws) p (isStrict mode) a o .number ≡ 0 → ClaimRelated (jobOf ws) R p
-      go none h n e = checked-sound (jobOf ws) p (isStrict mode) a (loads-valid ws p mode (lentBy a scratch) h) closed e
+      go : (o : Option Refusal) → loadRefusal ws p mode (lentBy a index scratch) ≡ o → Numbered o → loaded (jobOf ws) p (isStrict mode) a o .number ≡ 0 → ClaimRelated (jobOf ws) R p
+      go none h n e = checked-sound (jobOf ws) p (isStrict mode) a (loads-valid ws p mode (lentBy a index scratch) h) closed e
       go (some r) h n e = absurd (not-zero (r .number) (n .number) e)
 
   -- DEMAND 3: whatever words, asked proof, mode, arrays, scratch and answer's buffer are handed in, if the entry's number is 0, every relation of the job that
   -- is closed in that mode relates the trees of the two sides that the asked proof claims.
-  pub accepted : (ws : List ℕ) (p mode : ℕ) (a : Arrays) (scratch : ℕ) (answer : List ℕ)
-      → entry ws p mode a scratch answer .number ≡ 0 → ClosedFor (isStrict mode) (jobOf ws) R → ClaimRelated (jobOf ws) R p
+  pub accepted : (ws : List ℕ) (p mode : ℕ) (a : Arrays) (index scratch : ℕ) (answer : List ℕ)
+      → entry ws p mode a index scratch answer .number ≡ 0 → ClosedFor (isStrict mode) (jobOf ws) R → ClaimRelated (jobOf ws) R p
   unfolding entry
-  accepted ws p mode a scratch answer e closed = go (eqb (length answer) 8) e
+  accepted ws p mode a index scratch answer e closed = go (eqb (length answer) 8) e
     where
-      go : (b : Bool) → (elim b as (λ _. Left) [ true ↦ check ws p mode a scratch | false ↦ record { number = 10; answer = answer; arrays = a } ]) .number ≡ 0 → ClaimRelated (jobOf ws) R p
-      go true e = check-accepts ws p mode a scratch e closed
+      go : (b : Bool) → (elim b as (λ _. Left) [ true ↦ check ws p mode a index scratch | false ↦ record { number = 10; answer = answer; arrays = a } ]) .number ≡ 0 → ClaimRelated (jobOf ws) R p
+      go true e = check-accepts ws p mode a index scratch e closed
       go false e = absurd (not-zero 10 tt e)

@@ -9,7 +9,7 @@ use Rattle.model.specs.Term.{readTerm, findTerm, getTerm}
 use Rattle.model.specs.Counts.{intOf, fits, literalOfInt, countOf, exact, fitting, countValue}
 use Rattle.model.specs.Layout.{sizesOf, kindsOf, endsOf, poolOf, tablesOf}
 use Rattle.model.specs.Decode.{jobOf, exprIn, readProgram, readJob}
-use Rattle.model.specs.Load.{refusedIf, firstMarked, loadRefusal}
+use Rattle.model.specs.Load.{refusedIf, firstMarked, doubles, loadRefusal}
 use Rattle.model.specs.Check.{orRefuse, checkThat, addNode}
 use Rattle.model.specs.Evaluate.{validate, subtermsIn, reflexive, headValue, evalExprs, factHeadValue, evalFactExprs}
 use Rattle.model.specs.Fact.{offences, assertBodyProofNormalForm, wantedEquality, wanted, matches}
@@ -33,13 +33,13 @@ abbrev lent : ℕ → ℕ → Arrays
 lent cells words = record { kinds = replicate cells 0; ends = replicate cells 0; pool = replicate words 0 }
 
 -- The answer where there is just room for the three terms that the check adds; the product finds no cell; it finds too few words.
-answers : map (λ a. check tilt 3 0 a 30 .answer) (lent 11 32 ∷ lent 9 32 ∷ lent 11 28 ∷ [])
+answers : map (λ a. check tilt 3 0 a 32 30 .answer) (lent 11 32 ∷ lent 9 32 ∷ lent 11 28 ∷ [])
     ≡ (0 ∷ 11 ∷ 7 ∷ 5 ∷ 3 ∷ 0 ∷ 0 ∷ 0 ∷ []) ∷ (53 ∷ 9 ∷ 26 ∷ 0 ∷ 0 ∷ 0 ∷ 0 ∷ 0 ∷ []) ∷ (53 ∷ 9 ∷ 26 ∷ 0 ∷ 0 ∷ 0 ∷ 0 ∷ 0 ∷ []) ∷ []
-unfolding tilt tabulate startOf wordsAt cellsOf readTerm findTerm getTerm intOf fits literalOfInt countOf exact fitting countValue sizesOf kindsOf endsOf poolOf tablesOf exprIn readProgram readJob refusedIf firstMarked loadRefusal orRefuse checkThat addNode validate subtermsIn reflexive headValue evalExprs factHeadValue evalFactExprs offences assertBodyProofNormalForm wantedEquality wanted matches processActions checkRuleProducesEquality mergeOf runMerge checkViews checkPremises checkRule checkMergeFn checkFiat checkProofWithContext newContext checkProof checked check
+unfolding tilt tabulate startOf wordsAt cellsOf readTerm findTerm getTerm intOf fits literalOfInt countOf exact fitting countValue sizesOf kindsOf endsOf poolOf tablesOf exprIn readProgram readJob refusedIf firstMarked loadRefusal doubles orRefuse checkThat addNode validate subtermsIn reflexive headValue evalExprs factHeadValue evalFactExprs offences assertBodyProofNormalForm wantedEquality wanted matches processActions checkRuleProducesEquality mergeOf runMerge checkViews checkPremises checkRule checkMergeFn checkFiat checkProofWithContext newContext checkProof checked check
 answers = refl
 
 -- Every closed relation relates the station's level to -2.
 related {ℓ} : (R : Tree → Tree → Type ℓ) → ClosedFor false (jobOf tilt) R
     → R (apply 5 (tcons (leaf (record { kind = 2; low = 1; high = 0 })) tnil)) (leaf (record { kind = 2; low = 4294967294; high = 4294967295 }))
-unfolding tilt tabulate startOf wordsAt cellsOf readTerm findTerm getTerm intOf fits literalOfInt countOf exact fitting countValue sizesOf kindsOf endsOf poolOf tablesOf exprIn readProgram readJob refusedIf firstMarked loadRefusal orRefuse checkThat addNode validate subtermsIn reflexive headValue evalExprs factHeadValue evalFactExprs offences assertBodyProofNormalForm wantedEquality wanted matches processActions checkRuleProducesEquality mergeOf runMerge checkViews checkPremises checkRule checkMergeFn checkFiat checkProofWithContext newContext checkProof checked check entry treeIn
-related R closed = accepted R tilt 3 0 (lent 11 32) 30 (replicate 8 0) refl closed .related
+unfolding tilt tabulate startOf wordsAt cellsOf readTerm findTerm getTerm intOf fits literalOfInt countOf exact fitting countValue sizesOf kindsOf endsOf poolOf tablesOf exprIn readProgram readJob refusedIf firstMarked loadRefusal doubles orRefuse checkThat addNode validate subtermsIn reflexive headValue evalExprs factHeadValue evalFactExprs offences assertBodyProofNormalForm wantedEquality wanted matches processActions checkRuleProducesEquality mergeOf runMerge checkViews checkPremises checkRule checkMergeFn checkFiat checkProofWithContext newContext checkProof checked check entry treeIn
+related R closed = accepted R tilt 3 0 (lent 11 32) 32 30 (replicate 8 0) refl closed .related

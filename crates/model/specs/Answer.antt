@@ -73,14 +73,14 @@ abbrev pub loaded : Job → ℕ → Bool → Arrays → Option Refusal → Left
 loaded job p strict a none = checked job p strict a
 loaded job p strict a (some r) = left (refusalWords r 0) a
 
-abbrev pub lentBy : Arrays → ℕ → Lent
-lentBy a scratch = record { kinds = length (a .kinds); ends = length (a .ends); pool = length (a .pool); scratch = scratch }
+abbrev pub lentBy : Arrays → ℕ → ℕ → Lent
+lentBy a index scratch = record { kinds = length (a .kinds); ends = length (a .ends); pool = length (a .pool); index = index; scratch = scratch }
 
--- The check of a job's words for an asked proof in a mode, with the lent arrays and so many words of scratch.
-unfoldable pub check : List ℕ → ℕ → ℕ → Arrays → ℕ → Left
-check ws p mode a scratch = loaded (jobOf ws) p (isStrict mode) a (loadRefusal ws p mode (lentBy a scratch))
+-- The check of a job's words for an asked proof in a mode, with the lent arrays, so many slots of an index and so many words of scratch.
+unfoldable pub check : List ℕ → ℕ → ℕ → Arrays → ℕ → ℕ → Left
+check ws p mode a index scratch = loaded (jobOf ws) p (isStrict mode) a (loadRefusal ws p mode (lentBy a index scratch))
 
 -- THE ENTRY: an answer's buffer of another length than 8 gives 10 at once, unwritten.
-unfoldable pub entry : List ℕ → ℕ → ℕ → Arrays → ℕ → List ℕ → Left
-entry ws p mode a scratch answer =
-    elim (eqb (length answer) 8) [ true ↦ check ws p mode a scratch | false ↦ record { number = 10; answer = answer; arrays = a } ]
+unfoldable pub entry : List ℕ → ℕ → ℕ → Arrays → ℕ → ℕ → List ℕ → Left
+entry ws p mode a index scratch answer =
+    elim (eqb (length answer) 8) [ true ↦ check ws p mode a index scratch | false ↦ record { number = 10; answer = answer; arrays = a } ]

@@ -15,9 +15,12 @@ wordsOf (a ∷ b ∷ []) = []
 wordsOf (a ∷ b ∷ c ∷ []) = []
 wordsOf (a ∷ b ∷ c ∷ d ∷ bs) = (a + 256 * b + 65536 * c + 16777216 * d) ∷ wordsOf bs
 
--- The host's own store and scratch: C = 4,096, W = 16,384.
+-- The host's own store, index and scratch: C = 4,096, W = 16,384.
 abbrev pub ownArrays : Arrays
 ownArrays = record { kinds = replicate 4096 0; ends = replicate 4096 0; pool = replicate 16384 0 }
+
+abbrev pub ownSlots : ℕ
+ownSlots = 8192
 
 abbrev pub ownScratch : ℕ
 ownScratch = 16384
@@ -27,7 +30,7 @@ unfoldable pub hostAnswer : List ℕ → ℕ → ℕ → List ℕ
 hostAnswer bytes p mode =
     elim (ltb 65536 (length bytes) || not (eqb (length bytes % 4) 0)) [
       | true ↦ refusalWords (record { number = 1; fields = [] }) 0
-      | false ↦ check (wordsOf bytes) p mode ownArrays ownScratch .answer
+      | false ↦ check (wordsOf bytes) p mode ownArrays ownSlots ownScratch .answer
     ]
 
 -- The number that the host entry returns and what it leaves in the answer's buffer.

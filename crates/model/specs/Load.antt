@@ -1,5 +1,5 @@
 -- The refusals below 20, by document 01: first by the host, then by the job's writer with the least cell, then for want of room.
-use Prim.Native.Nat.{ℕ, suc, _+_, _*_, _%_, _<_}
+use Prim.Native.Nat.{ℕ, zero, suc, _+_, _*_, _%_, _<_}
 use mathlib.Core.Path.{_≡_}
 use mathlib.Core.List.{List, [], _∷_, _++_, map}
 use mathlib.Core.Bool.{Bool, true, false, not, _&&_, _||_}
@@ -13,11 +13,12 @@ use Rattle.model.specs.Check.{Refusal}
 use Rattle.model.specs.Layout.{sizeWords, Sizes, sizesOf, cellCount, endsOf, Tables, tableList, tablesOf}
 use Rattle.model.specs.Decode.{word, readHead, readArguments, readPrimitive, readRow, readNormaliser, ruleFacts, ruleActions, readProof}
 
--- What the caller lends: C and W are the lengths of the store's kinds and pool.
+-- What the caller lends: C and W are the lengths of the store's kinds and pool. Of the index only its slots count.
 pub record Lent : Type 0 where
   pub kinds : ℕ
   pub ends : ℕ
   pub pool : ℕ
+  pub index : ℕ
   pub scratch : ℕ
 
 -- 1: under twelve words, or a length that differs from the sizes.
@@ -161,6 +162,19 @@ noRoom z terms l =
     ltb (l .kinds) (z .terms) || ltb (l .pool) (widths terms) || ltb 65536 (l .kinds) || ltb 1048576 (l .pool) ||
     not (eqb (l .kinds) (l .ends)) || ltb (l .scratch) (2 * (l .kinds + z .proofs))
 
+-- n is one of p, 2 p, 4 p, .., of which f are tried.
+unfoldable pub doubles : ℕ → ℕ → ℕ → Bool
+doubles zero p n = false
+doubles (suc f) p n = elim (eqb p n) [ true ↦ true | false ↦ doubles f (p * 2) n ]
+
+-- n is a power of two, below 2 to the 64.
+abbrev pub isPower : ℕ → Bool
+isPower n = doubles 64 1 n
+
+-- 12: fewer than two slots for each cell of the store, or a slot count that is no power of two.
+abbrev pub wrongSlots : Lent → Bool
+wrongSlots l = ltb (l .index) (2 * l .kinds) || not (isPower (l .index))
+
 -- The refusal of a host's fault, which has no fields.
 unfoldable pub refusedIf : Bool → ℕ → Option Refusal
 refusedIf false n = none
@@ -249,7 +263,7 @@ pub record Admitted (z : Sizes) (t : Tables) : Type 0 where
 abbrev pub firstFailing : ℕ → List (ℕ → Cell → Bool) → Tables → Option Refusal
 firstFailing n tests t = firstMarked n 0 (marks tests (tableList t))
 
--- The tests for the numbers below 20, in their order: from 1 to 10 the lowest number that applies, with 11 right after 3.
+-- The tests for the numbers below 20, in their order: from 1 to 10 the lowest number that applies, with 11 right after 3, and 12 last.
 abbrev pub loadTests : List ℕ → Sizes → Tables → ℕ → ℕ → Lent → List (Unit {0} → Option Refusal)
 loadTests ws z t asked mode lent =
     (λ _. refusedIf (wrongLength ws) 1) ∷
@@ -261,7 +275,8 @@ loadTests ws z t asked mode lent =
     (λ _. firstFailing 7 (referTests z) t) ∷
     (λ _. firstFailing 8 (validTests t) t) ∷
     (λ _. firstFailing 9 (onceTests t) t) ∷
-    (λ _. refusedIf (noRoom z (map readTerm (t .terms)) lent) 10) ∷ []
+    (λ _. refusedIf (noRoom z (map readTerm (t .terms)) lent) 10) ∷
+    (λ _. refusedIf (wrongSlots lent) 12) ∷ []
 
 -- The refusal below 20; none for an admitted job.
 unfoldable pub loadRefusal : List ℕ → ℕ → ℕ → Lent → Option Refusal
