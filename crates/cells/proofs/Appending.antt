@@ -202,7 +202,7 @@ module _ {K E P : List ℕ} {f : Fill} (F : Formed K E P f) where
     add-new e p = rw (e, addCell) p
 
 -- no two cells are equal after an addition
-once-append : (cs : List Cell) (c : Cell) → findCell cs c ≡ Found.Nothing → Once cs → Once (cs ++ (c ∷ []))
+pub once-append : (cs : List Cell) (c : Cell) → findCell cs c ≡ Found.Nothing → Once cs → Once (cs ++ (c ∷ []))
 once-append cs c e o = record { one = λ i j h k q. go i j (last-cases cs c i h) (last-cases cs c j k) q }
   where
     fresh : (i : ℕ) → i < length cs → getD cs i noCell ≡ c → ⊥

@@ -14,7 +14,7 @@ use lib.Seq.{drop-cons, getD-at, take-length}
 use Rattle.model.specs.Cell.{Cell, noCell, sameWords, sameCell, tabulate, startOf, wordsAt, cellAt, cellsOf}
 use Rattle.model.proofs.Tests.{and-false, and-left, and-right, words-eq}
 use Rattle.model.proofs.Valid.{length-tabulate, cell-same}
-use Rattle.cells.specs.Table.{Formed, findFrom, findCell, Once}
+use Rattle.cells.specs.Table.{Formed, findFrom, findCell, foundBy, Once}
 use Rattle.cells.specs.declared.Fill.{Fill}
 use Rattle.cells.specs.declared.Found.{Found}
 
@@ -92,19 +92,13 @@ module _ (a b : List ℕ) (k : ℕ) (h : k < length a) (l : k < length b) where
   pub same-yes : getD a k 0 ≡ getD b k 0 → sameWords (drop k a) (drop k b) ≡ sameWords (drop (k + 1) a) (drop (k + 1) b)
   same-yes e = rw (same-step a b k h l, eq-eqb (getD a k 0) (getD b k 0) e)
 
--- looking a cell up
-module _ (cs : List Cell) (c : Cell) (i : ℕ) (h : i < length cs) where
-  pub find-yes : sameCell (getD cs i noCell) c ≡ true → findFrom i (drop i cs) c ≡ Found.At i
-  unfolding findFrom
-  find-yes e = rw (drop-cons cs i noCell h, findFrom, e)
+-- what a look-up found, by a word
+pub found-some : (n : ℕ) → (n ≡ 0 → ⊥) → foundBy n ≡ Found.At (n - 1)
+found-some zero h = absurd (h refl)
+found-some (suc n) h = ap Found.At (omega arith)
 
-  pub find-no : sameCell (getD cs i noCell) c ≡ false → findFrom i (drop i cs) c ≡ findFrom (i + 1) (drop (i + 1) cs) c
-  unfolding findFrom
-  find-no e = rw (drop-cons cs i noCell h, findFrom, e, add-one)
-
-pub find-end : (cs : List Cell) (c : Cell) (i : ℕ) → length cs ≤ i → findFrom i (drop i cs) c ≡ Found.Nothing
-unfolding findFrom
-find-end cs c i h = rw (drop-of-length-le cs h)
+pub found-none : (n : ℕ) → n ≡ 0 → foundBy n ≡ Found.Nothing
+found-none n e = ap foundBy e
 
 -- a cell of the table against a kind and words
 module _ (K E P : List ℕ) (n i : ℕ) (h : i < n) (k : ℕ) (ws : List ℕ) where
@@ -168,9 +162,9 @@ some-found (x ∷ cs) c k n h e = go (sameCell x c) refl (λ m l q. some-found c
     go false s ih zero h e = let z : false ≡ true = sym s ∙ e in (k, cc)
     go false s ih (suc n) h e = ih n (le-of-suc-le-suc h) e
 
-pub near-found : (cs : List Cell) (c : Cell) (n : ℕ) → Once cs → n < length cs → sameCell (getD cs n noCell) c ≡ true → findCell cs c ≡ Found.At n
+pub once-found : (cs : List Cell) (c : Cell) (n : ℕ) → Once cs → n < length cs → sameCell (getD cs n noCell) c ≡ true → findCell cs c ≡ Found.At n
 unfolding SomeFound
-near-found cs c n once h e =
+once-found cs c n once h e =
     let (i, q) = some-found cs c 0 n h e in
     let g = found-at cs c i q in
     q ∙ ap Found.At (once .one i n (g .0) h (g .1 ∙ sym (same-cell-eq (getD cs n noCell) c e)))

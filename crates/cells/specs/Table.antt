@@ -2,7 +2,7 @@
 use mathlib.Core.Path.{_≡_}
 use mathlib.Core.Bool.{Bool, true, false, _&&_}
 use mathlib.Core.List.{List, [], _∷_, _++_}
-use Prim.Native.Nat.{ℕ, _+_, _-_, _≤_, _<_, _^_}
+use Prim.Native.Nat.{ℕ, zero, suc, _+_, _-_, _≤_, _<_, _^_}
 use lib.Dec.{ltb, leb}
 use lib.ListN.{length, getD, take, drop}
 use Rattle.model.specs.Cell.{Cell, noCell, sameCell, startOf, cellsOf}
@@ -28,6 +28,11 @@ findFrom k (x ∷ cs) c = elim (sameCell x c) [ true ↦ Found.At k | false ↦ 
 
 abbrev pub findCell : List Cell → Cell → Found
 findCell cs c = findFrom 0 cs c
+
+-- What a look-up found, by a word: the number of the equal cell plus one, or 0 for none.
+abbrev pub foundBy : ℕ → Found
+foundBy zero = Found.Nothing
+foundBy (suc i) = Found.At i
 
 -- No two cells are equal.
 pub record Once (cs : List Cell) : Type 0 where

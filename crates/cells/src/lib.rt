@@ -1,10 +1,10 @@
-// A table of cells in three arrays of words: reading a cell, comparing, looking one up, and adding one. Nothing above speaks of ends and offsets.
+// A table of cells in three arrays of words: reading a cell, comparing, and adding one. Nothing above speaks of ends and offsets.
 ghost use mathlib.Core.Path.{_≡_};
 ghost use mathlib.Core.Bool.{true, false};
 ghost use Prim.Native.Nat.{_+_, _-_, _≤_, _<_};
 ghost use lib.ListN.{length, getD};
 ghost use Rattle.model.specs.Cell.{Cell, noCell, sameWords, sameCell, startOf, cellsOf};
-ghost use Rattle.cells.specs.Table.{Formed, findCell, Once, put, Ran, addCell, appendCell, tableOf};
+ghost use Rattle.cells.specs.Table.{Formed, findCell, foundBy, put, Ran, addCell, appendCell, tableOf};
 
 // How much of a table is in use: the number of cells, and of pool words.
 pub struct Fill {
@@ -96,53 +96,6 @@ pub fn same(
     same_words(words(kinds, ends, pool, fill, i), ws)
 }
 
-// The first of the first n cells that has this kind and these words.
-pub fn find(
-    kinds: &[u32],
-    ends: &[u32],
-    pool: &[u32],
-    fill: Fill,
-    n: usize,
-    kind: u32,
-    ws: &[u32],
-) -> Found
-    requires { ⌜ Formed (now kinds) (now ends) (now pool) fill ⌝ }
-    requires { ⌜ n ≤ fill .cells ⌝ }
-    ensures { λ r. ⌜ r ≡ findCell (cellsOf (now (kinds .entry)) (now (ends .entry)) (now (pool .entry)) n) (record { kind = kind; words = now (ws .entry) }) ⌝ }
-{
-    let mut i = 0;
-    while i < n {
-        if same(kinds, ends, pool, fill, i, kind, ws) {
-            return Found::At(i);
-        }
-        i += 1;
-    }
-    Found::Nothing
-}
-
-// The cell that has this kind and these words, where no two are equal: the one near is looked at first.
-fn find_near(
-    kinds: &[u32],
-    ends: &[u32],
-    pool: &[u32],
-    fill: Fill,
-    near: usize,
-    kind: u32,
-    ws: &[u32],
-) -> Found
-    requires { ⌜ Formed (now kinds) (now ends) (now pool) fill ⌝ }
-    requires { ⌜ Once (cellsOf (now kinds) (now ends) (now pool) (fill .cells)) ⌝ }
-    ensures { λ r. ⌜ r ≡ findCell (cellsOf (now (kinds .entry)) (now (ends .entry)) (now (pool .entry)) (fill .cells)) (record { kind = kind; words = now (ws .entry) }) ⌝ }
-{
-    let n = fill.cells;
-    if near < n {
-        if same(kinds, ends, pool, fill, near, kind, ws) {
-            return Found::At(near);
-        }
-    }
-    find(kinds, ends, pool, fill, n, kind, ws)
-}
-
 // Writes src over dst from the index at.
 pub fn copy(dst: &mut [u32], at: usize, src: &[u32])
     requires { ⌜ at + length (now src) ≤ length (now dst) ⌝ }
@@ -197,29 +150,28 @@ pub fn append(
     }
 }
 
-// The number of an equal cell, else of the cell appended. The cell near is looked at first, whichever that is.
+// The number of an equal cell, as a look-up found it, else of the cell appended.
 fn add_by_value(
     kinds: &mut [u32],
     ends: &mut [u32],
     pool: &mut [u32],
     fill: Fill,
-    near: u32,
+    found: u32,
     kind: u32,
     ws: &[u32],
 ) -> Added
     requires { ⌜ Formed (now kinds) (now ends) (now pool) fill ⌝ }
-    requires { ⌜ Once (cellsOf (now kinds) (now ends) (now pool) (fill .cells)) ⌝ }
+    requires { ⌜ foundBy found ≡ findCell (cellsOf (now kinds) (now ends) (now pool) (fill .cells)) (record { kind = kind; words = now ws }) ⌝ }
     ensures { λ r. ⌜ Ran (now (kinds .entry)) (now (ends .entry)) (now (pool .entry)) fill (now (kinds .exit)) (now (ends .exit)) (now (pool .exit)) r (addCell (record { kind = kind; words = now (ws .entry) }) (tableOf (now (kinds .entry)) (now (ends .entry)) (now (pool .entry)) fill)) ⌝ }
 {
-    let f = find_near(kinds, ends, pool, fill, wide(near), kind, ws);
-    match f {
-        Found::At(i) => Added {
-            number: i as u32,
+    if found != 0 {
+        return Added {
+            number: found - 1,
             full: false,
             fill,
-        },
-        Found::Nothing => append(kinds, ends, pool, fill, kind, ws),
+        };
     }
+    append(kinds, ends, pool, fill, kind, ws)
 }
 
 // The same with the fill lent: its two counters are raised as the cell enters.
@@ -228,17 +180,17 @@ pub fn enter(
     ends: &mut [u32],
     pool: &mut [u32],
     fill: &mut Fill,
-    near: u32,
+    found: u32,
     kind: u32,
     ws: &[u32],
 ) -> Entered
     requires { ⌜ Formed (now kinds) (now ends) (now pool) (now fill) ⌝ }
-    requires { ⌜ Once (cellsOf (now kinds) (now ends) (now pool) (now fill .cells)) ⌝ }
+    requires { ⌜ foundBy found ≡ findCell (cellsOf (now kinds) (now ends) (now pool) (now fill .cells)) (record { kind = kind; words = now ws }) ⌝ }
     ensures { λ r. ⌜ Ran (now (kinds .entry)) (now (ends .entry)) (now (pool .entry)) (now (fill .entry)) (now (kinds .exit)) (now (ends .exit)) (now (pool .exit)) (record { number = r .number; full = r .full; fill = now (fill .exit) }) (addCell (record { kind = kind; words = now (ws .entry) }) (tableOf (now (kinds .entry)) (now (ends .entry)) (now (pool .entry)) (now (fill .entry)))) ⌝ }
 {
     let cells = fill.cells;
     let words = fill.words;
-    let a = add_by_value(kinds, ends, pool, Fill { cells, words }, near, kind, ws);
+    let a = add_by_value(kinds, ends, pool, Fill { cells, words }, found, kind, ws);
     fill.cells = a.fill.cells;
     fill.words = a.fill.words;
     Entered {
@@ -253,16 +205,16 @@ pub fn add(
     ends: &mut [u32],
     pool: &mut [u32],
     fill: Fill,
-    near: u32,
+    found: u32,
     kind: u32,
     ws: &[u32],
 ) -> Added
     requires { ⌜ Formed (now kinds) (now ends) (now pool) fill ⌝ }
-    requires { ⌜ Once (cellsOf (now kinds) (now ends) (now pool) (fill .cells)) ⌝ }
+    requires { ⌜ foundBy found ≡ findCell (cellsOf (now kinds) (now ends) (now pool) (fill .cells)) (record { kind = kind; words = now ws }) ⌝ }
     ensures { λ r. ⌜ Ran (now (kinds .entry)) (now (ends .entry)) (now (pool .entry)) fill (now (kinds .exit)) (now (ends .exit)) (now (pool .exit)) r (addCell (record { kind = kind; words = now (ws .entry) }) (tableOf (now (kinds .entry)) (now (ends .entry)) (now (pool .entry)) fill)) ⌝ }
 {
     let mut f = fill;
-    let e = enter(kinds, ends, pool, &mut f, near, kind, ws);
+    let e = enter(kinds, ends, pool, &mut f, found, kind, ws);
     Added {
         number: e.number,
         full: e.full,

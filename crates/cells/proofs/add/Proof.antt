@@ -42,7 +42,7 @@ use denote.Triple.Table.{entered, cited}
 use denote.Triple.Walked.{says, Stays, gave-slice, stay-dropped, walkOf, AllGo, goes-gave-slice, goes-dropped, Walks, ends-at, walked, walk-meets}
 use denote.Exit.{yes}
 use Rattle.model.specs.Cell.{cellsOf}
-use Rattle.cells.specs.Table.{Formed, Once, Ran, addCell, tableOf}
+use Rattle.cells.specs.Table.{Formed, findCell, foundBy, Ran, addCell, tableOf}
 use Rattle.cells.specs.declared.Fill.{Fill}
 use Rattle.cells.specs.declared.Added.{Added}
 use Rattle.cells.specs.declared.Entered.{Entered}
@@ -100,6 +100,10 @@ module _ {M : Type 1} (𝓤 : URA M) (H : Heap 𝓤) (A : Atoms 𝓤) (W : Given
   abbrev Said : Lists → Added → Type 0
   Said z r = Ran (a .0 .now) (a .1 .0 .now) (a .1 .1 .0 .now) f (z .0) (z .1 .0) (z .1 .1) r (addCell (record { kind = a .1 .1 .1 .1 .1 .0; words = ws .now }) (tableOf (a .0 .now) (a .1 .0 .now) (a .1 .1 .0 .now) f))
 
+  -- what a look-up found
+  abbrev Looked : Type 0
+  Looked = foundBy (a .1 .1 .1 .1 .0) ≡ findCell (cellsOf (a .0 .now) (a .1 .0 .now) (a .1 .1 .0 .now) (f .cells)) (record { kind = a .1 .1 .1 .1 .1 .0; words = ws .now })
+
   -- what the walk ends in
   abbrev Post : Val → SProp 𝓤
   Post = walkOf 𝓤 H A add.ended stayed (add.clauses 𝓤 H A at-mem run) .post ((κs, qs, bounds, a, vals), tt)
@@ -129,9 +133,9 @@ module _ {M : Type 1} (𝓤 : URA M) (H : Heap 𝓤) (A : Atoms 𝓤) (W : Given
   given-up ν l γ = toks-with ν ∷ ‵ (MutSlice (named 0) (κs .0) u32 .own (a .0) (vals .0)) ∷ ‵ (MutSlice (named 1) (κs .1 .0) u32 .own (a .1 .0) (vals .1 .0)) ∷ ‵ (MutSlice (named 2) (κs .1 .1 .0) u32 .own (a .1 .1 .0) (vals .1 .1 .0))
       ∷ ‵ (MutRef (named 3) (ν ∷ []) Fill-type.the-row .own (lent l γ) (vptr l 0 ∷ [])) ∷ ‵ (owns (u32 ∷ u32 ∷ ShrSlice (named 4) (κs .1 .1 .1 .0) u32 ∷ []) (a .1 .1 .1 .1) (vals .1 .1 .1 .1)) ∷ []
 
-  goes : (ν l : ℕ) (γ : GName) → Formed (a .0 .now) (a .1 .0 .now) (a .1 .1 .0 .now) f → Once (cellsOf (a .0 .now) (a .1 .0 .now) (a .1 .1 .0 .now) (f .cells)) → ent 𝓤 (⋆ 𝓤 H A (given-up ν l γ)) (Enter 𝓤 H A at-mem run .pre (to-enter ν l γ))
-  goes ν l γ formed once =
-      qed W (given-up ν l γ) ∵ says-both ! formed once $ frame ! $ move ! (3 ∷ 4 ∷ []) $ fjoin ! $ move ! (3 ∷ 0 ∷ []) $ fjoin ! $ move ! (2 ∷ 0 ∷ []) $ fjoin ! $ move ! (1 ∷ 0 ∷ []) $ fjoin ! $ done !
+  goes : (ν l : ℕ) (γ : GName) → Formed (a .0 .now) (a .1 .0 .now) (a .1 .1 .0 .now) f → Looked → ent 𝓤 (⋆ 𝓤 H A (given-up ν l γ)) (Enter 𝓤 H A at-mem run .pre (to-enter ν l γ))
+  goes ν l γ formed looked =
+      qed W (given-up ν l γ) ∵ says-both ! formed looked $ frame ! $ move ! (3 ∷ 4 ∷ []) $ fjoin ! $ move ! (3 ∷ 0 ∷ []) $ fjoin ! $ move ! (2 ∷ 0 ∷ []) $ fjoin ! $ move ! (1 ∷ 0 ∷ []) $ fjoin ! $ done !
 
   -- what is left at exit, and that it is what the contract asks for
   abbrev left : Lists → List (Item 𝓤)
@@ -149,9 +153,9 @@ module _ {M : Type 1} (𝓤 : URA M) (H : Heap 𝓤) (A : Atoms 𝓤) (W : Given
   module _ (C : Calls 𝓤 H) (Λ : Loops 𝓤 H) (fm : FmC 𝓤 H (W .laws) C) (known : Triple 𝓤 (C #cells·enter) (Enter 𝓤 H A at-mem run)) where
     -- the walk of the code
     walk : Are (typesAt (add.signature .params) κs) (Ises (typesAt (add.signature .params) κs)) a vals → f .cells < 2 ^ 64 → f .words < 2 ^ 64
-        → Formed (a .0 .now) (a .1 .0 .now) (a .1 .1 .0 .now) f → Once (cellsOf (a .0 .now) (a .1 .0 .now) (a .1 .1 .0 .now) (f .cells))
+        → Formed (a .0 .now) (a .1 .0 .now) (a .1 .1 .0 .now) f → Looked
         → ent 𝓤 (onEntry 𝓤 H A add.signature κs qs a vals) (WpFn 𝓤 H C Λ code.function (flat (typesAt (add.signature .params) κs) vals) Post)
-    walk are c-fits w-fits formed once =
+    walk are c-fits w-fits formed looked =
         qed W (toks ∷ ‵ (owns (typesAt (add.signature .params) κs) a vals) ∷ []) ∵ begins ! C Λ code.function (flat (typesAt (add.signature .params) κs) vals) _ $
         alloc1 ! (λ l₀. alloc1 ! (λ l₁. alloc1 ! (λ l₂. alloc1 ! (λ l₃. alloc1 ! (λ l₄. alloc1 ! (λ l₅. alloc1 ! (λ l₆. alloc1 ! (λ l₇. alloc1 ! (λ l₈. alloc1 ! (λ l₉. alloc1 ! (λ l₁₀. alloc1 ! (λ l₁₁. alloc1 ! (λ l₁₂. alloc1 ! (λ l₁₃. alloc1 ! (λ l₁₄. alloc1 ! (λ l₁₅. alloc1 ! (λ l₁₆. alloc1 ! (λ l₁₇. alloc0 ! $ params1 ! $
         pass1 ! (init ! 32 refl (tt, (tt, (record { fits = are .0 .0 .1 .0 }, tt)))) $ pass1 ! (init ! 30 refl (tt, (tt, (record { fits = are .1 .0 .0 .1 .0 }, tt)))) $ pass1 ! (init ! 28 refl (tt, (tt, (record { fits = are .1 .1 .0 .0 .1 .0 }, tt)))) $ pass1 ! (init ! 26 refl (tt, (record { fits = c-fits }, (record { fits = w-fits }, tt)))) $
@@ -171,7 +175,7 @@ module _ {M : Type 1} (𝓤 : URA M) (H : Heap 𝓤) (A : Atoms 𝓤) (W : Given
         -- [the reference; the lender's part; ν's token; _17; …; the tokens; what the parameters own]
         move ! (39 ∷ []) $ fsplit ! $ move ! (1 ∷ []) $ fsplit ! $ move ! (1 ∷ []) $ fsplit ! $ move ! (1 ∷ []) $ fsplit ! $ drop ! $
         move ! (42 ∷ []) $ split ! $ move ! (1 ∷ []) $ split ! $ move ! (1 ∷ []) $ split ! $ move ! (3 ∷ 2 ∷ 0 ∷ 10 ∷ 1 ∷ 7 ∷ 6 ∷ 5 ∷ 8 ∷ 4 ∷ []) $ group ! 5 $ group ! 6 $
-        use1 W (raw (Enter 𝓤 H A at-mem run .pre (to-enter ν l₈ γ))) (goes ν l₈ γ formed once) $
+        use1 W (raw (Enter 𝓤 H A at-mem run .pre (to-enter ν l₈ γ))) (goes ν l₈ γ formed looked) $
         calls-at ! fm (Enter 𝓤 H A at-mem run) known (to-enter ν l₈ γ) (and-then ! (load ! (from ! (stop !)) (look ! 14 refl)) (and-then ! (load ! (from ! (stop !)) (look ! 10 refl)) (and-then ! (load ! (from ! (stop !)) (look ! 6 refl)) (and-then ! (load ! (from ! (stop !)) (look ! 4 refl)) (and-then ! (load ! (from ! (stop !)) (look ! 25 refl)) (and-then ! (load ! (from ! (stop !)) (look ! 23 refl)) (and-then ! (load ! (from ! (stop !)) (look ! 21 refl)) (no-more !)))))))) (λ v.
         use1 W (later (some (λ (r : Entered). (toks-with ν ⊛ ‵ (Entered-type.the-row .own r (v ∷ []))) ⊛ raw (ensured 𝓤 H A enter.ended (enter.clauses 𝓤 H A at-mem run) (lfts ν) (passed ν l₈ γ) tt r)))) (id⊢ 𝓤 _) $ await ! tt $ pick ! (λ r. split ! $ move ! (1 ∷ []) $
         use1 W (some (λ (z : List ℕ × (List ℕ × (List ℕ × (Fill × Same)))). ‵ (lasts enter.ended (lfts ν) (passed ν l₈ γ) z) ⊛ raw (fact 𝓤 (Said (z .0, (z .1 .0, z .1 .1 .0)) (record { number = r .number; full = r .full; fill = z .1 .1 .1 .0 }))))) (id⊢ 𝓤 _) $ pick ! (λ z. split ! $ move ! (1 ∷ []) $

@@ -41,7 +41,7 @@ use denote.Triple.Table.{entered, cited}
 use denote.Triple.Walked.{says, Stays, stay-ref, gave-slice, stay-dropped, walkOf, AllGo, goes-ref, goes-gave-slice, goes-dropped, Walks, ends-at, walked, walk-meets}
 use denote.Exit.{yes}
 use Rattle.model.specs.Cell.{cellsOf}
-use Rattle.cells.specs.Table.{Formed, Once, Ran, addCell, tableOf}
+use Rattle.cells.specs.Table.{Formed, findCell, foundBy, Ran, addCell, tableOf}
 use Rattle.cells.specs.declared.Fill.{Fill}
 use Rattle.cells.specs.declared.Added.{Added}
 use Rattle.cells.proofs.Fill as Fill-type
@@ -98,6 +98,10 @@ module _ {M : Type 1} (𝓤 : URA M) (H : Heap 𝓤) (A : Atoms 𝓤) (W : Given
   abbrev Said : Lists → Added → Type 0
   Said z r = Ran (a .0 .now) (a .1 .0 .now) (a .1 .1 .0 .now) (f .now) (z .0) (z .1 .0) (z .1 .1) r (addCell (record { kind = a .1 .1 .1 .1 .1 .0; words = ws .now }) (tableOf (a .0 .now) (a .1 .0 .now) (a .1 .1 .0 .now) (f .now)))
 
+  -- what a look-up found
+  abbrev Looked : Type 0
+  Looked = foundBy (a .1 .1 .1 .1 .0) ≡ findCell (cellsOf (a .0 .now) (a .1 .0 .now) (a .1 .1 .0 .now) (f .now .cells)) (record { kind = a .1 .1 .1 .1 .1 .0; words = ws .now })
+
   -- what the walk ends in
   abbrev Post : Val → SProp 𝓤
   Post = walkOf 𝓤 H A enter.ended stayed (enter.clauses 𝓤 H A at-mem run) .post ((κs, qs, bounds, a, vals), tt)
@@ -118,10 +122,10 @@ module _ {M : Type 1} (𝓤 : URA M) (H : Heap 𝓤) (A : Atoms 𝓤) (W : Given
   given-up = toks ∷ ‵ (MutSlice (named 0) (κs .0) u32 .own (a .0) (vals .0)) ∷ ‵ (MutSlice (named 1) (κs .1 .0) u32 .own (a .1 .0) (vals .1 .0)) ∷ ‵ (MutSlice (named 2) (κs .1 .1 .0) u32 .own (a .1 .1 .0) (vals .1 .1 .0))
       ∷ ‵ (owns (u32 ∷ u32 ∷ ShrSlice (named 4) (κs .1 .1 .1 .1 .0) u32 ∷ []) (a .1 .1 .1 .1) (vals .1 .1 .1 .1)) ∷ []
 
-  goes : f .now .cells < 2 ^ 64 → f .now .words < 2 ^ 64 → Formed (a .0 .now) (a .1 .0 .now) (a .1 .1 .0 .now) (f .now) → Once (cellsOf (a .0 .now) (a .1 .0 .now) (a .1 .1 .0 .now) (f .now .cells))
+  goes : f .now .cells < 2 ^ 64 → f .now .words < 2 ^ 64 → Formed (a .0 .now) (a .1 .0 .now) (a .1 .1 .0 .now) (f .now) → Looked
       → ent 𝓤 (⋆ 𝓤 H A given-up) (Add 𝓤 H A at-mem run .pre to-add)
-  goes c-fits w-fits formed once =
-      qed W given-up ∵ says-both ! formed once $ frame ! $
+  goes c-fits w-fits formed looked =
+      qed W given-up ∵ says-both ! formed looked $ frame ! $
       owned ! Fill-type.the-row (Is Fill-type.the-row) (LL.makes Fill-type.the-type Fill-laws.the-plain 𝓤 H A) (f .now) (Fill-laws.lowered (f .now) ∷ []) (fill-is (f .now) c-fits w-fits) $
       move ! (0 ∷ 4 ∷ []) $ fjoin ! $ move ! (3 ∷ 0 ∷ []) $ fjoin ! $ move ! (2 ∷ 0 ∷ []) $ fjoin ! $ move ! (1 ∷ 0 ∷ []) $ fjoin ! $ done !
 
@@ -145,9 +149,9 @@ module _ {M : Type 1} (𝓤 : URA M) (H : Heap 𝓤) (A : Atoms 𝓤) (W : Given
   module _ (C : Calls 𝓤 H) (Λ : Loops 𝓤 H) (fm : FmC 𝓤 H (W .laws) C) (known : Triple 𝓤 (C #cells·add-by-value) (Add 𝓤 H A at-mem run)) where
     -- the walk of the code
     walk : Are (typesAt (enter.signature .params) κs) (Ises (typesAt (enter.signature .params) κs)) a vals
-        → Formed (a .0 .now) (a .1 .0 .now) (a .1 .1 .0 .now) (f .now) → Once (cellsOf (a .0 .now) (a .1 .0 .now) (a .1 .1 .0 .now) (f .now .cells))
+        → Formed (a .0 .now) (a .1 .0 .now) (a .1 .1 .0 .now) (f .now) → Looked
         → ent 𝓤 (onEntry 𝓤 H A enter.signature κs qs a vals) (WpFn 𝓤 H C Λ code.function (flat (typesAt (enter.signature .params) κs) vals) Post)
-    walk are formed once =
+    walk are formed looked =
         qed W ((‵ (flft (κs .0) (qs .0)) ⊛ ‵ (flft (κs .1 .0) (qs .1 .0)) ⊛ ‵ (flft (κs .1 .1 .0) (qs .1 .1 .0)) ⊛ ‵ (flft (κs .1 .1 .1 .0) (qs .1 .1 .1 .0)) ⊛ ‵ (flft (κs .1 .1 .1 .1 .0) (qs .1 .1 .1 .1 .0)) ⊛ ‵ ftrue)
         ∷ ‵ (owns (typesAt (enter.signature .params) κs) a vals) ∷ []) ∵ begins ! C Λ code.function (flat (typesAt (enter.signature .params) κs) vals) _ $
         alloc1 ! (λ l₀. alloc1 ! (λ l₁. alloc1 ! (λ l₂. alloc1 ! (λ l₃. alloc1 ! (λ l₄. alloc1 ! (λ l₅. alloc1 ! (λ l₆. alloc1 ! (λ l₇. alloc1 ! (λ l₈. alloc1 ! (λ l₉. alloc1 ! (λ l₁₀. alloc1 ! (λ l₁₁. alloc1 ! (λ l₁₂. alloc1 ! (λ l₁₃. alloc1 ! (λ l₁₄. alloc1 ! (λ l₁₅. alloc1 ! (λ l₁₆. alloc1 ! (λ l₁₇. alloc0 ! $ params1 ! $
@@ -157,7 +161,7 @@ module _ {M : Type 1} (𝓤 : URA M) (H : Heap 𝓤) (A : Atoms 𝓤) (W : Given
         move ! (37 ∷ []) $ fsplit ! $ move ! (1 ∷ []) $ fsplit ! $ move ! (1 ∷ []) $ fsplit ! $ move ! (1 ∷ []) $ fsplit ! $ fsplit3 ! $ drop ! $
         move ! (42 ∷ []) $ split ! $ move ! (1 ∷ []) $ split ! $ move ! (1 ∷ []) $ split ! $ move ! (1 ∷ []) $ split ! $ move ! (5 ∷ 6 ∷ 0 ∷ []) $
         opens-fill ! tt {h = f .now} (f .ptr .0) (f .ptr .1) (λ c-fits w-fits.
-        -- [the fill's cell; the open borrow; obs; auth; the tokens of ws, pool, ends, kinds; what near, kind and ws, pool, ends, kinds own; _17; …; _16; …; room for _0; …]
+        -- [the fill's cell; the open borrow; obs; auth; the tokens of ws, pool, ends, kinds; what found, kind and ws, pool, ends, kinds own; _17; …; _16; …; room for _0; …]
         assigns ! (of-opd ! (load ! (from ! (hop ! (look ! 38 refl) (fld ! refl (stop !)))) (look-in ! 0 (sub ! 0 refl (whole !))))) (from ! (stop !)) (init ! 30 refl (tt, record { fits = c-fits })) $
         assigns ! (of-opd ! (load ! (from ! (hop ! (look ! 38 refl) (fld ! refl (stop !)))) (look-in ! 0 (sub ! 1 refl (whole !))))) (from ! (stop !)) (init ! 28 refl (tt, record { fits = w-fits })) $
         assigns ! (addr ! (from ! (fld ! refl (hop ! (look-in ! 44 (sub ! 0 refl (whole !))) (stop !))))) (from ! (stop !)) (init ! 24 refl (tt, tt)) $
@@ -168,7 +172,7 @@ module _ {M : Type 1} (𝓤 : URA M) (H : Heap 𝓤) (A : Atoms 𝓤) (W : Given
         assigns ! (agg ! (and-then ! (load ! (from ! (stop !)) (look ! 16 refl)) (and-then ! (load ! (from ! (fld ! refl (stop !))) (look-in ! 40 (sub ! 1 refl (whole !)))) (no-more !)))) (from ! (stop !)) (init ! 14 refl (tt, (tt, (record { fits = are .1 .1 .0 .0 .1 .0 }, tt)))) $
         assigns ! (agg ! (and-then ! (load ! (from ! (stop !)) (look ! 30 refl)) (and-then ! (load ! (from ! (stop !)) (look ! 28 refl)) (no-more !)))) (from ! (stop !)) (init ! 12 refl (tt, (record { fits = c-fits }, (record { fits = w-fits }, tt)))) $
         -- the covered function is called
-        move ! (7 ∷ 6 ∷ 5 ∷ 4 ∷ 11 ∷ 10 ∷ 9 ∷ 8 ∷ []) $ group ! 4 $ group ! 5 $ use1 W (raw (Add 𝓤 H A at-mem run .pre to-add)) (goes c-fits w-fits formed once) $
+        move ! (7 ∷ 6 ∷ 5 ∷ 4 ∷ 11 ∷ 10 ∷ 9 ∷ 8 ∷ []) $ group ! 4 $ group ! 5 $ use1 W (raw (Add 𝓤 H A at-mem run .pre to-add)) (goes c-fits w-fits formed looked) $
         calls-at ! fm (Add 𝓤 H A at-mem run) known to-add (and-then ! (load ! (from ! (stop !)) (look ! 15 refl)) (and-then ! (load ! (from ! (stop !)) (look ! 11 refl)) (and-then ! (load ! (from ! (stop !)) (look ! 7 refl)) (and-then ! (load ! (from ! (stop !)) (look ! 5 refl)) (and-then ! (load ! (from ! (stop !)) (look ! 29 refl)) (and-then ! (load ! (from ! (stop !)) (look ! 27 refl)) (and-then ! (load ! (from ! (stop !)) (look ! 25 refl)) (no-more !)))))))) (λ v.
         use1 W (later (some (λ (r : Added). (toks ⊛ ‵ (Added-type.the-row .own r (v ∷ []))) ⊛ raw (ensured 𝓤 H A add.ended (add.clauses 𝓤 H A at-mem run) (to-add .0 .0) passed tt r)))) (id⊢ 𝓤 _) $ await ! tt $ pick ! (λ r. split ! $ move ! (1 ∷ []) $
         use1 W (some (λ (z : List ℕ × (List ℕ × (List ℕ × Same))). ‵ (lasts add.ended (to-add .0 .0) passed z) ⊛ raw (fact 𝓤 (Said (z .0, (z .1 .0, z .1 .1 .0)) r)))) (id⊢ 𝓤 _) $ pick ! (λ z. split ! $ move ! (1 ∷ []) $

@@ -1,0 +1,4 @@
+pub mod Arithmetic
+pub mod Probing
+pub mod Indexing
+pub mod Filling
