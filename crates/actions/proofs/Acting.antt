@@ -13,7 +13,7 @@ use Rattle.model.specs.Check.{Outcome, ok, pure, _>>=_}
 use Rattle.model.specs.Evaluate.{same, Value, evalExpr}
 use Rattle.model.specs.Action.{ActionContext, sameProposition, among}
 use Rattle.model.proofs.Store.{extends-same, extends-then}
-use Rattle.cells.specs.declared.Fill.{Fill}
+use Rattle.index.specs.declared.Fill.{Fill}
 use Rattle.decode.specs.View.{actionOf}
 use Rattle.decode.specs.declared.Action as view
 use Rattle.termdag.specs.Store.{termsIn, roomOf}
@@ -55,22 +55,22 @@ united σ ps a b = record {
 }
 
 -- what is handed on after a value
-pub standing-after : {J : List ℕ} {σ τ : List Binding} {k e p : List ℕ} {f : Fill} {memo m k₁ e₁ p₁ : List ℕ} {f₁ : Fill} {memo₁ m₁ : List ℕ}
-    → Standing J σ k e p f memo m → Grown k e p f k₁ e₁ p₁ f₁ → Sane (programFor J) τ (termsIn k₁ e₁ p₁ f₁) → Past memo₁ → length memo₁ ≡ length memo → length m₁ ≡ length m
-    → Standing J τ k₁ e₁ p₁ f₁ memo₁ m₁
+pub standing-after : {J : List ℕ} {σ τ : List Binding} {k e p ix : List ℕ} {f : Fill} {memo m k₁ e₁ p₁ ix₁ : List ℕ} {f₁ : Fill} {memo₁ m₁ : List ℕ}
+    → Standing J σ k e p ix f memo m → Grown k e p ix f k₁ e₁ p₁ ix₁ f₁ → Sane (programFor J) τ (termsIn k₁ e₁ p₁ f₁) → Past memo₁ → length memo₁ ≡ length memo → length m₁ ≡ length m
+    → Standing J τ k₁ e₁ p₁ ix₁ f₁ memo₁ m₁
 standing-after S g w q a b = record {
   ready = S .ready;
-  stored = g .stored;
+  indexed = g .indexed;
   sane = w;
   fits = let x = S .fits in omega arith;
   past = q;
   cells = let x = S .cells in let y = g .lenK in omega arith;
 }
 
-module _ (rule : ℕ) {prog : Program} {σ : List Binding} {marking : Bool} {K E P : List ℕ} {f : Fill} {m K₁ E₁ P₁ : List ℕ} {r : Checked} {memo₁ m₁ : List ℕ} where
+module _ (rule : ℕ) {prog : Program} {σ : List Binding} {marking : Bool} {K E P I : List ℕ} {f : Fill} {m K₁ E₁ P₁ I₁ : List ℕ} {r : Checked} {memo₁ m₁ : List ℕ} where
   -- let
-  pub acts-let : (x : ℕ) (e : Expr) → Yields prog σ (evalExpr (roomOf K P) prog rule σ e (termsIn K E P f)) marking K E P f m K₁ E₁ P₁ r memo₁ m₁
-      → Acts prog rule (bind x e) σ marking K E P f m K₁ E₁ P₁ (acted (r .refusal) (Effect.Bind x (r .value)) (r .fill)) memo₁ m₁
+  pub acts-let : (x : ℕ) (e : Expr) → Yields prog σ (evalExpr (roomOf K P) prog rule σ e (termsIn K E P f)) marking K E P I f m K₁ E₁ P₁ I₁ r memo₁ m₁
+      → Acts prog rule (bind x e) σ marking K E P I f m K₁ E₁ P₁ I₁ (acted (r .refusal) (Effect.Bind x (r .value)) (r .fill)) memo₁ m₁
   acts-let x e y = record {
     pairs = y .value .pairs;
     does = λ ps. does-map (λ v. record { bindings = record { name = x; term = v .term } ∷ σ; pairs = ps ++ v .pairs }) _ (y .does)
@@ -83,7 +83,7 @@ module _ (rule : ℕ) {prog : Program} {σ : List Binding} {marking : Bool} {K E
   }
 
   -- set or expression
-  pub acts-run : (e : Expr) → Yields prog σ (evalExpr (roomOf K P) prog rule σ e (termsIn K E P f)) marking K E P f m K₁ E₁ P₁ r memo₁ m₁ → Acts prog rule (run e) σ marking K E P f m K₁ E₁ P₁ (acted (r .refusal) Effect.Nothing (r .fill)) memo₁ m₁
+  pub acts-run : (e : Expr) → Yields prog σ (evalExpr (roomOf K P) prog rule σ e (termsIn K E P f)) marking K E P I f m K₁ E₁ P₁ I₁ r memo₁ m₁ → Acts prog rule (run e) σ marking K E P I f m K₁ E₁ P₁ I₁ (acted (r .refusal) Effect.Nothing (r .fill)) memo₁ m₁
   acts-run e y = record {
     pairs = y .value .pairs;
     does = λ ps. does-map (λ v. record { bindings = σ; pairs = ps ++ v .pairs }) _ (y .does) (λ n. refl);
@@ -95,8 +95,8 @@ module _ (rule : ℕ) {prog : Program} {σ : List Binding} {marking : Bool} {K E
   }
 
   -- union
-  pub union-stops : (l t : Expr) → Yields prog σ (evalExpr (roomOf K P) prog rule σ l (termsIn K E P f)) marking K E P f m K₁ E₁ P₁ r memo₁ m₁ → (r .refusal .number ≡ 0 → ⊥)
-      → Acts prog rule (union l t) σ marking K E P f m K₁ E₁ P₁ (acted (r .refusal) Effect.Nothing (r .fill)) memo₁ m₁
+  pub union-stops : (l t : Expr) → Yields prog σ (evalExpr (roomOf K P) prog rule σ l (termsIn K E P f)) marking K E P I f m K₁ E₁ P₁ I₁ r memo₁ m₁ → (r .refusal .number ≡ 0 → ⊥)
+      → Acts prog rule (union l t) σ marking K E P I f m K₁ E₁ P₁ I₁ (acted (r .refusal) Effect.Nothing (r .fill)) memo₁ m₁
   union-stops l t y n = record {
     pairs = [];
     does = λ ps. does-stop _ (λ a. evalExpr (roomOf K P) prog rule σ t >>= λ b. pure (united σ ps a b)) (y .does) n;
@@ -107,12 +107,12 @@ module _ (rule : ℕ) {prog : Program} {σ : List Binding} {marking : Bool} {K E
     marks = λ q. absurd (n q);
   }
 
-  module _ {K₂ E₂ P₂ : List ℕ} {r₂ : Checked} {memo₂ m₂ : List ℕ} (l t : Expr) (y : Yields prog σ (evalExpr (roomOf K P) prog rule σ l (termsIn K E P f)) marking K E P f m K₁ E₁ P₁ r memo₁ m₁) (n : r .refusal .number ≡ 0)
-      (y₂ : Yields prog σ (evalExpr (roomOf K₁ P₁) prog rule σ t (termsIn K₁ E₁ P₁ (r .fill))) marking K₁ E₁ P₁ (r .fill) m₁ K₂ E₂ P₂ r₂ memo₂ m₂) where
+  module _ {K₂ E₂ P₂ I₂ : List ℕ} {r₂ : Checked} {memo₂ m₂ : List ℕ} (l t : Expr) (y : Yields prog σ (evalExpr (roomOf K P) prog rule σ l (termsIn K E P f)) marking K E P I f m K₁ E₁ P₁ I₁ r memo₁ m₁) (n : r .refusal .number ≡ 0)
+      (y₂ : Yields prog σ (evalExpr (roomOf K₁ P₁) prog rule σ t (termsIn K₁ E₁ P₁ (r .fill))) marking K₁ E₁ P₁ I₁ (r .fill) m₁ K₂ E₂ P₂ I₂ r₂ memo₂ m₂) where
     abbrev two : List Proposition
     two = record { lhs = r .value; rhs = r₂ .value } ∷ record { lhs = r₂ .value; rhs = r .value } ∷ []
 
-    pub acts-union : Acts prog rule (union l t) σ marking K E P f m K₂ E₂ P₂ (acted (r₂ .refusal) (Effect.Union (r .value) (r₂ .value)) (r₂ .fill)) memo₂ m₂
+    pub acts-union : Acts prog rule (union l t) σ marking K E P I f m K₂ E₂ P₂ I₂ (acted (r₂ .refusal) (Effect.Union (r .value) (r₂ .value)) (r₂ .fill)) memo₂ m₂
     acts-union = record {
       pairs = y .value .pairs ++ y₂ .value .pairs ++ two;
       does = λ ps. does-then (λ room a. evalExpr room prog rule σ t >>= λ b. pure (united σ ps a b)) (y .does) n
@@ -152,11 +152,11 @@ module _ (rule : ℕ) {prog : Program} {σ : List Binding} {marking : Bool} {K E
         back n₂ x ps (inr v) = Memᴰ·append-right (ps ++ y .value .pairs) (subst⁻¹ (λ (i : ℕ). List·Memᴰ (same i) (y₂ .value .pairs)) (own x v) (y₂ .own n₂))
 
 -- panic and change
-pub acts-idle : {J : List ℕ} {rule : ℕ} {σ : List Binding} {marking : Bool} {k e p : List ℕ} {f : Fill} {memo m : List ℕ} → Standing J σ k e p f memo m
-    → Acts (programFor J) rule idle σ marking k e p f m k e p (acted passed Effect.Nothing f) memo m
+pub acts-idle : {J : List ℕ} {rule : ℕ} {σ : List Binding} {marking : Bool} {k e p ix : List ℕ} {f : Fill} {memo m : List ℕ} → Standing J σ k e p ix f memo m
+    → Acts (programFor J) rule idle σ marking k e p ix f m k e p ix (acted passed Effect.Nothing f) memo m
 acts-idle {σ = σ} {k = k} {e = e} {p = p} {f = f} S = record {
   pairs = [];
-  does = λ ps. does-here (S .stored) (ap {B = Outcome ActionContext} (λ (qs : List Proposition). ok (record { bindings = σ; pairs = qs }) (termsIn k e p f)) (append-nil ps));
+  does = λ ps. does-here (S .indexed) (ap {B = Outcome ActionContext} (λ (qs : List Proposition). ok (record { bindings = σ; pairs = qs }) (termsIn k e p f)) (append-nil ps));
   past = λ _. S .past;
   grows = λ _. extends-same;
   sane = λ _. S .sane;
@@ -165,10 +165,10 @@ acts-idle {σ = σ} {k = k} {e = e} {p = p} {f = f} S = record {
 }
 
 -- the action that was read
-pub acts-as : {prog : Program} {rule : ℕ} {a b : Action} {σ : List Binding} {marking : Bool} {K E P : List ℕ} {f : Fill} {m K₁ E₁ P₁ : List ℕ} {r : Acted} {memo₁ m₁ : List ℕ}
-    → a ≡ b → Acts prog rule a σ marking K E P f m K₁ E₁ P₁ r memo₁ m₁ → Acts prog rule b σ marking K E P f m K₁ E₁ P₁ r memo₁ m₁
-acts-as {prog} {rule} {σ = σ} {marking = marking} {K = K} {E = E} {P = P} {f = f} {m = m} {K₁ = K₁} {E₁ = E₁} {P₁ = P₁} {r = r} {memo₁ = memo₁} {m₁ = m₁} e d =
-    subst (λ (a : Action). Acts prog rule a σ marking K E P f m K₁ E₁ P₁ r memo₁ m₁) e d
+pub acts-as : {prog : Program} {rule : ℕ} {a b : Action} {σ : List Binding} {marking : Bool} {K E P I : List ℕ} {f : Fill} {m K₁ E₁ P₁ I₁ : List ℕ} {r : Acted} {memo₁ m₁ : List ℕ}
+    → a ≡ b → Acts prog rule a σ marking K E P I f m K₁ E₁ P₁ I₁ r memo₁ m₁ → Acts prog rule b σ marking K E P I f m K₁ E₁ P₁ I₁ r memo₁ m₁
+acts-as {prog} {rule} {σ = σ} {marking = marking} {K = K} {E = E} {P = P} {I = I} {f = f} {m = m} {K₁ = K₁} {E₁ = E₁} {P₁ = P₁} {I₁ = I₁} {r = r} {memo₁ = memo₁} {m₁ = m₁} e d =
+    subst (λ (a : Action). Acts prog rule a σ marking K E P I f m K₁ E₁ P₁ I₁ r memo₁ m₁) e d
 
 pub acted-as : (expr : ℕ → Expr) {v w : view.Action} {a : Action} → v ≡ w → actionOf expr v ≡ a → actionOf expr w ≡ a
 acted-as expr {a = a} e q = subst (λ (x : view.Action). actionOf expr x ≡ a) e q

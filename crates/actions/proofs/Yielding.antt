@@ -15,7 +15,7 @@ use Rattle.model.specs.Evaluate.{same, Value, evalExpr}
 use Rattle.model.specs.Action.{sameProposition, among}
 use Rattle.model.proofs.Tests.{and-left, and-right}
 use Rattle.model.proofs.Store.{extends-same}
-use Rattle.cells.specs.declared.Fill.{Fill}
+use Rattle.index.specs.declared.Fill.{Fill}
 use Rattle.termdag.specs.Store.{termsIn, roomOf}
 use Rattle.outcome.specs.Does.{refusalOf}
 use Rattle.outcome.specs.declared.Refusal.{Refusal}
@@ -50,9 +50,9 @@ refused-value : (o : Outcome Value) (r : Refusal) (s : List Term) → termOutcom
 refused-value (ok v u) r s q = let x : _≡_ {A = ℕ} 0 1 = cc in absurd (omega arith)
 refused-value (refused x u) r s q = let a : x ≡ refusalOf r = cc in let b : u ≡ s = cc in λ i. refused (a i) (b i)
 
-module _ (rule : ℕ) {J : List ℕ} {σ : List Binding} {e : ℕ} {k e′ p : List ℕ} {f : Fill} {memo m k₁ e₁ p₁ : List ℕ} {r : Checked} {memo₁ : List ℕ}
-    (S : Standing J σ k e′ p f memo m) (h : e < sizesOf J .expressions)
-    (d : EvaluatesRoot (argumentsFor J) (valueFor false J rule σ) (sizesOf J .expressions) e k e′ p f k₁ e₁ p₁ r memo₁) where
+module _ (rule : ℕ) {J : List ℕ} {σ : List Binding} {e : ℕ} {k e′ p ix : List ℕ} {f : Fill} {memo m k₁ e₁ p₁ ix₁ : List ℕ} {r : Checked} {memo₁ : List ℕ}
+    (S : Standing J σ k e′ p ix f memo m) (h : e < sizesOf J .expressions)
+    (d : EvaluatesRoot (argumentsFor J) (valueFor false J rule σ) (sizesOf J .expressions) e k e′ p ix f k₁ e₁ p₁ ix₁ r memo₁) where
   abbrev prog : Program
   prog = programFor J
 
@@ -66,7 +66,7 @@ module _ (rule : ℕ) {J : List ℕ} {σ : List Binding} {e : ℕ} {k e′ p : L
   unfolding valueOf
   is-refused n = refused-value _ (r .refusal) s₁ (sym (d .does .outcome) ∙ refused-of (r .refusal) (r .value) s₁ n)
 
-  pub yields-refused : {marking : Bool} → (r .refusal .number ≡ 0 → ⊥) → Yields prog σ (evalExpr (roomOf k p) prog rule σ (exprFor J e) s₀) marking k e′ p f m k₁ e₁ p₁ r memo₁ m
+  pub yields-refused : {marking : Bool} → (r .refusal .number ≡ 0 → ⊥) → Yields prog σ (evalExpr (roomOf k p) prog rule σ (exprFor J e) s₀) marking k e′ p ix f m k₁ e₁ p₁ ix₁ r memo₁ m
   yields-refused n = record {
     value = record { term = 0; pairs = [] };
     does = record { outcome = refused-of (r .refusal) _ s₁ n ∙ sym (is-refused n); grown = d .does .grown };
@@ -81,7 +81,7 @@ module _ (rule : ℕ) {J : List ℕ} {σ : List Binding} {e : ℕ} {k e′ p : L
   }
 
   pub yields-value : {marking : Bool} {m₁ : List ℕ} {c : ℕ} → r .refusal .number ≡ 0 → c ≡ sizesOf J .expressions → m₁ ≡ markedIf marking memo₁ c m
-      → Yields prog σ (evalExpr (roomOf k p) prog rule σ (exprFor J e) s₀) marking k e′ p f m k₁ e₁ p₁ r memo₁ m₁
+      → Yields prog σ (evalExpr (roomOf k p) prog rule σ (exprFor J e) s₀) marking k e′ p ix f m k₁ e₁ p₁ ix₁ r memo₁ m₁
   yields-value {marking} {m₁} n w q₀ = let q = q₀ ∙ ap (λ (x : ℕ). markedIf marking memo₁ x m) w in record {
     value = root-evaluated (S .ready) rule σ d n (S .sane) .value;
     does = record { outcome = ok-of (r .refusal) (root-evaluated (S .ready) rule σ d n (S .sane) .value) s₁ n ∙ sym (root-evaluated (S .ready) rule σ d n (S .sane) .is); grown = d .does .grown };
@@ -112,6 +112,6 @@ module _ (rule : ℕ) {J : List ℕ} {σ : List Binding} {e : ℕ} {k e′ p : L
       room : length s₁ ≤ length m
       room =
           let a = terms-length k₁ e₁ p₁ (r .fill) in
-          let b = d .does .grown .stored .formed .kinds in
+          let b = d .does .grown .indexed .stored .formed .kinds in
           let c = d .does .grown .lenK in
           let l = S .cells in omega arith

@@ -11,8 +11,8 @@ use Rattle.model.specs.Decode.{readBindings}
 use Rattle.model.specs.Check.{Outcome}
 use Rattle.model.specs.Evaluate.{same, Value}
 use Rattle.model.specs.Action.{processAction, sameProposition, among}
-use Rattle.termdag.specs.Store.{termsIn, Stored, roomOf}
-use Rattle.cells.specs.declared.Fill.{Fill}
+use Rattle.termdag.specs.Store.{termsIn, Indexed, roomOf}
+use Rattle.index.specs.declared.Fill.{Fill}
 use Rattle.memo.specs.Memo.{Past}
 use Rattle.outcome.specs.Does.{Does}
 use Rattle.outcome.specs.declared.Checked.{Checked}
@@ -24,9 +24,9 @@ use Rattle.actions.specs.declared.Effect.{Effect}
 use Rattle.actions.specs.declared.Acted.{Acted}
 
 -- What an action may be handed: an admitted job, a store that is sane under the bindings σ, a memo, and a mark for each cell of the store.
-pub record Standing (J : List ℕ) (σ : List Binding) (k e p : List ℕ) (f : Fill) (memo m : List ℕ) : Type 0 where
+pub record Standing (J : List ℕ) (σ : List Binding) (k e p ix : List ℕ) (f : Fill) (memo m : List ℕ) : Type 0 where
   pub ready : Ready J
-  pub stored : Stored k e p f
+  pub indexed : Indexed k e p ix f
   pub sane : Sane (programFor J) σ (termsIn k e p f)
   pub fits : sizesOf J .expressions + sizesOf J .expressions < length memo
   pub past : Past memo
@@ -50,9 +50,9 @@ effectHas (Effect.Union a b) q = sameProposition q (record { lhs = a; rhs = b })
 effectHas Effect.Nothing q = false
 
 -- An evaluation whose outcome is o, with marks m that stand for pairs before: where it is a value, its store is sane, and the marks stand for its pairs as well, if there is marking.
-pub record Yields (prog : Program) (σ : List Binding) (o : Outcome Value) (marking : Bool) (K E P : List ℕ) (f : Fill) (m K′ E′ P′ : List ℕ) (r : Checked) (memo′ m′ : List ℕ) : Type 0 where
+pub record Yields (prog : Program) (σ : List Binding) (o : Outcome Value) (marking : Bool) (K E P I : List ℕ) (f : Fill) (m K′ E′ P′ I′ : List ℕ) (r : Checked) (memo′ m′ : List ℕ) : Type 0 where
   pub value : Value
-  pub does : Does K E P f K′ E′ P′ (r .fill) (r .refusal) value o
+  pub does : Does K E P I f K′ E′ P′ I′ (r .fill) (r .refusal) value o
   pub term : r .refusal .number ≡ 0 → value .term ≡ r .value
   pub past : r .refusal .number ≡ 0 → Past memo′
   pub grows : r .refusal .number ≡ 0 → Extends (termsIn K E P f) (termsIn K′ E′ P′ (r .fill))
@@ -63,9 +63,9 @@ pub record Yields (prog : Program) (σ : List Binding) (o : Outcome Value) (mark
   pub marks : r .refusal .number ≡ 0 → marking ≡ true → (ps : List Proposition) → Marks (termsIn K E P f) m ps → Marks (termsIn K′ E′ P′ (r .fill)) m′ (ps ++ value .pairs)
 
 -- The action a in a context of the bindings σ: the context after. Of its pairs, those that are not reflexive are a union's; the marks stand for the others, if there is marking.
-pub record Acts (prog : Program) (rule : ℕ) (a : Action) (σ : List Binding) (marking : Bool) (K E P : List ℕ) (f : Fill) (m K′ E′ P′ : List ℕ) (r : Acted) (memo′ m′ : List ℕ) : Type 0 where
+pub record Acts (prog : Program) (rule : ℕ) (a : Action) (σ : List Binding) (marking : Bool) (K E P I : List ℕ) (f : Fill) (m K′ E′ P′ I′ : List ℕ) (r : Acted) (memo′ m′ : List ℕ) : Type 0 where
   pub pairs : List Proposition
-  pub does : (ps : List Proposition) → Does K E P f K′ E′ P′ (r .fill) (r .refusal) (record { bindings = effectBindings (r .effect) σ; pairs = ps ++ pairs })
+  pub does : (ps : List Proposition) → Does K E P I f K′ E′ P′ I′ (r .fill) (r .refusal) (record { bindings = effectBindings (r .effect) σ; pairs = ps ++ pairs })
       (processAction (roomOf K P) prog rule (record { bindings = σ; pairs = ps }) a (termsIn K E P f))
   pub past : r .refusal .number ≡ 0 → Past memo′
   pub grows : r .refusal .number ≡ 0 → Extends (termsIn K E P f) (termsIn K′ E′ P′ (r .fill))

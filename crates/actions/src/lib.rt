@@ -1,8 +1,8 @@
 // Actions, rule heads and merges, from proof_checker.rs. Pairs are not collected: marks stand for the reflexive ones, and a union's two are tested or kept.
-use cells::Fill;
 use cells::wide;
 use decode::Action;
 use evaluate::evaluate;
+use index::Fill;
 use outcome::Checked;
 use outcome::Refusal;
 use pairs::mark_values;
@@ -56,15 +56,16 @@ pub fn yield_value(
     skinds: &mut [u32],
     sends: &mut [u32],
     spool: &mut [u32],
+    index: &mut [u32],
     fill: Fill,
     memo: &mut [u32],
     marking: bool,
     marks: &mut [u32],
     e: u32,
 ) -> Checked
-    requires { ⌜ Standing (now job) (bindingsIn (now bound) (now pairs) (now globals)) (now skinds) (now sends) (now spool) fill (now memo) (now marks) ⌝ }
+    requires { ⌜ Standing (now job) (bindingsIn (now bound) (now pairs) (now globals)) (now skinds) (now sends) (now spool) (now index) fill (now memo) (now marks) ⌝ }
     requires { ⌜ e < sizesOf (now job) .expressions ⌝ }
-    ensures { λ r. ⌜ Yields (programFor (now (job .entry))) (bindingsIn (now (bound .entry)) (now (pairs .entry)) (now (globals .entry))) (evalExpr (roomOf (now (skinds .entry)) (now (spool .entry))) (programFor (now (job .entry))) rule (bindingsIn (now (bound .entry)) (now (pairs .entry)) (now (globals .entry))) (exprFor (now (job .entry)) e) (termsIn (now (skinds .entry)) (now (sends .entry)) (now (spool .entry)) fill)) marking (now (skinds .entry)) (now (sends .entry)) (now (spool .entry)) fill (now (marks .entry)) (now (skinds .exit)) (now (sends .exit)) (now (spool .exit)) r (now (memo .exit)) (now (marks .exit)) ⌝ }
+    ensures { λ r. ⌜ Yields (programFor (now (job .entry))) (bindingsIn (now (bound .entry)) (now (pairs .entry)) (now (globals .entry))) (evalExpr (roomOf (now (skinds .entry)) (now (spool .entry))) (programFor (now (job .entry))) rule (bindingsIn (now (bound .entry)) (now (pairs .entry)) (now (globals .entry))) (exprFor (now (job .entry)) e) (termsIn (now (skinds .entry)) (now (sends .entry)) (now (spool .entry)) fill)) marking (now (skinds .entry)) (now (sends .entry)) (now (spool .entry)) (now (index .entry)) fill (now (marks .entry)) (now (skinds .exit)) (now (sends .exit)) (now (spool .exit)) (now (index .exit)) r (now (memo .exit)) (now (marks .exit)) ⌝ }
 {
     let count = size(job, EXPRESSIONS);
     let r = evaluate(
@@ -77,6 +78,7 @@ pub fn yield_value(
         skinds,
         sends,
         spool,
+        index,
         fill,
         memo,
         e,
@@ -98,6 +100,7 @@ fn act_let(
     skinds: &mut [u32],
     sends: &mut [u32],
     spool: &mut [u32],
+    index: &mut [u32],
     fill: Fill,
     memo: &mut [u32],
     marking: bool,
@@ -105,9 +108,9 @@ fn act_let(
     name: u32,
     e: u32,
 ) -> Acted
-    requires { ⌜ Standing (now job) (bindingsIn (now bound) (now pairs) (now globals)) (now skinds) (now sends) (now spool) fill (now memo) (now marks) ⌝ }
+    requires { ⌜ Standing (now job) (bindingsIn (now bound) (now pairs) (now globals)) (now skinds) (now sends) (now spool) (now index) fill (now memo) (now marks) ⌝ }
     requires { ⌜ e < sizesOf (now job) .expressions ⌝ }
-    ensures { λ r. ⌜ Acts (programFor (now (job .entry))) rule (bind name (exprFor (now (job .entry)) e)) (bindingsIn (now (bound .entry)) (now (pairs .entry)) (now (globals .entry))) marking (now (skinds .entry)) (now (sends .entry)) (now (spool .entry)) fill (now (marks .entry)) (now (skinds .exit)) (now (sends .exit)) (now (spool .exit)) r (now (memo .exit)) (now (marks .exit)) ⌝ }
+    ensures { λ r. ⌜ Acts (programFor (now (job .entry))) rule (bind name (exprFor (now (job .entry)) e)) (bindingsIn (now (bound .entry)) (now (pairs .entry)) (now (globals .entry))) marking (now (skinds .entry)) (now (sends .entry)) (now (spool .entry)) (now (index .entry)) fill (now (marks .entry)) (now (skinds .exit)) (now (sends .exit)) (now (spool .exit)) (now (index .exit)) r (now (memo .exit)) (now (marks .exit)) ⌝ }
 {
     let r = yield_value(
         job,
@@ -118,6 +121,7 @@ fn act_let(
         skinds,
         sends,
         spool,
+        index,
         fill,
         memo,
         marking,
@@ -143,15 +147,16 @@ fn act_run(
     skinds: &mut [u32],
     sends: &mut [u32],
     spool: &mut [u32],
+    index: &mut [u32],
     fill: Fill,
     memo: &mut [u32],
     marking: bool,
     marks: &mut [u32],
     e: u32,
 ) -> Acted
-    requires { ⌜ Standing (now job) (bindingsIn (now bound) (now pairs) (now globals)) (now skinds) (now sends) (now spool) fill (now memo) (now marks) ⌝ }
+    requires { ⌜ Standing (now job) (bindingsIn (now bound) (now pairs) (now globals)) (now skinds) (now sends) (now spool) (now index) fill (now memo) (now marks) ⌝ }
     requires { ⌜ e < sizesOf (now job) .expressions ⌝ }
-    ensures { λ r. ⌜ Acts (programFor (now (job .entry))) rule (run (exprFor (now (job .entry)) e)) (bindingsIn (now (bound .entry)) (now (pairs .entry)) (now (globals .entry))) marking (now (skinds .entry)) (now (sends .entry)) (now (spool .entry)) fill (now (marks .entry)) (now (skinds .exit)) (now (sends .exit)) (now (spool .exit)) r (now (memo .exit)) (now (marks .exit)) ⌝ }
+    ensures { λ r. ⌜ Acts (programFor (now (job .entry))) rule (run (exprFor (now (job .entry)) e)) (bindingsIn (now (bound .entry)) (now (pairs .entry)) (now (globals .entry))) marking (now (skinds .entry)) (now (sends .entry)) (now (spool .entry)) (now (index .entry)) fill (now (marks .entry)) (now (skinds .exit)) (now (sends .exit)) (now (spool .exit)) (now (index .exit)) r (now (memo .exit)) (now (marks .exit)) ⌝ }
 {
     let r = yield_value(
         job,
@@ -162,6 +167,7 @@ fn act_run(
         skinds,
         sends,
         spool,
+        index,
         fill,
         memo,
         marking,
@@ -187,6 +193,7 @@ fn act_union(
     skinds: &mut [u32],
     sends: &mut [u32],
     spool: &mut [u32],
+    index: &mut [u32],
     fill: Fill,
     memo: &mut [u32],
     marking: bool,
@@ -194,10 +201,10 @@ fn act_union(
     left: u32,
     right: u32,
 ) -> Acted
-    requires { ⌜ Standing (now job) (bindingsIn (now bound) (now pairs) (now globals)) (now skinds) (now sends) (now spool) fill (now memo) (now marks) ⌝ }
+    requires { ⌜ Standing (now job) (bindingsIn (now bound) (now pairs) (now globals)) (now skinds) (now sends) (now spool) (now index) fill (now memo) (now marks) ⌝ }
     requires { ⌜ left < sizesOf (now job) .expressions ⌝ }
     requires { ⌜ right < sizesOf (now job) .expressions ⌝ }
-    ensures { λ r. ⌜ Acts (programFor (now (job .entry))) rule (union (exprFor (now (job .entry)) left) (exprFor (now (job .entry)) right)) (bindingsIn (now (bound .entry)) (now (pairs .entry)) (now (globals .entry))) marking (now (skinds .entry)) (now (sends .entry)) (now (spool .entry)) fill (now (marks .entry)) (now (skinds .exit)) (now (sends .exit)) (now (spool .exit)) r (now (memo .exit)) (now (marks .exit)) ⌝ }
+    ensures { λ r. ⌜ Acts (programFor (now (job .entry))) rule (union (exprFor (now (job .entry)) left) (exprFor (now (job .entry)) right)) (bindingsIn (now (bound .entry)) (now (pairs .entry)) (now (globals .entry))) marking (now (skinds .entry)) (now (sends .entry)) (now (spool .entry)) (now (index .entry)) fill (now (marks .entry)) (now (skinds .exit)) (now (sends .exit)) (now (spool .exit)) (now (index .exit)) r (now (memo .exit)) (now (marks .exit)) ⌝ }
 {
     let a = yield_value(
         job,
@@ -208,6 +215,7 @@ fn act_union(
         skinds,
         sends,
         spool,
+        index,
         fill,
         memo,
         marking,
@@ -232,6 +240,7 @@ fn act_union(
         skinds,
         sends,
         spool,
+        index,
         have,
         memo,
         marking,
@@ -257,15 +266,16 @@ pub fn process_action(
     skinds: &mut [u32],
     sends: &mut [u32],
     spool: &mut [u32],
+    index: &mut [u32],
     fill: Fill,
     memo: &mut [u32],
     marking: bool,
     marks: &mut [u32],
     i: u32,
 ) -> Acted
-    requires { ⌜ Standing (now job) (bindingsIn (now bound) (now pairs) (now globals)) (now skinds) (now sends) (now spool) fill (now memo) (now marks) ⌝ }
+    requires { ⌜ Standing (now job) (bindingsIn (now bound) (now pairs) (now globals)) (now skinds) (now sends) (now spool) (now index) fill (now memo) (now marks) ⌝ }
     requires { ⌜ i < sizesOf (now job) .actions ⌝ }
-    ensures { λ r. ⌜ Acts (programFor (now (job .entry))) rule (actionFor (now (job .entry)) i) (bindingsIn (now (bound .entry)) (now (pairs .entry)) (now (globals .entry))) marking (now (skinds .entry)) (now (sends .entry)) (now (spool .entry)) fill (now (marks .entry)) (now (skinds .exit)) (now (sends .exit)) (now (spool .exit)) r (now (memo .exit)) (now (marks .exit)) ⌝ }
+    ensures { λ r. ⌜ Acts (programFor (now (job .entry))) rule (actionFor (now (job .entry)) i) (bindingsIn (now (bound .entry)) (now (pairs .entry)) (now (globals .entry))) marking (now (skinds .entry)) (now (sends .entry)) (now (spool .entry)) (now (index .entry)) fill (now (marks .entry)) (now (skinds .exit)) (now (sends .exit)) (now (spool .exit)) (now (index .exit)) r (now (memo .exit)) (now (marks .exit)) ⌝ }
 {
     let action = action_at(job, wide(i));
     match action {
@@ -278,6 +288,7 @@ pub fn process_action(
             skinds,
             sends,
             spool,
+            index,
             fill,
             memo,
             marking,
@@ -294,6 +305,7 @@ pub fn process_action(
             skinds,
             sends,
             spool,
+            index,
             fill,
             memo,
             marking,
@@ -310,6 +322,7 @@ pub fn process_action(
             skinds,
             sends,
             spool,
+            index,
             fill,
             memo,
             marking,

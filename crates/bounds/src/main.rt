@@ -38,12 +38,23 @@ fn report(name: &[u8], n: u64, r: Loaded) {
     }
 }
 
-// Loads the first words of a job for proof 0 in mode 0, with 65,536 cells, 1,048,576 words and enough scratch.
+// Loads the first words of a job for proof 0 in mode 0, with 65,536 cells, 1,048,576 words, two slots a cell and enough scratch.
 fn answer(job: &[u32], count: usize) -> Loaded {
     if job.len() < count {
         return Loaded::Host(0);
     }
-    load(&job[0..count], 0, 0, 65536, 65536, 1048576, 139264)
+    let mut index = [0u32; 131072];
+    load(
+        &job[0..count],
+        0,
+        0,
+        65536,
+        65536,
+        1048576,
+        &mut index,
+        2654435761,
+        139264,
+    )
 }
 
 // Writes a word, where there is one.

@@ -18,7 +18,7 @@ use Rattle.model.specs.Check.{Check, andThen, _>>=_, pure, Room}
 use Rattle.model.specs.Action.{ActionContext}
 use Rattle.model.specs.Walk.{claimAt, newContext, checkProofWithContext, checkProof}
 use Rattle.model.proofs.Store.{extends-then}
-use Rattle.cells.specs.declared.Fill.{Fill}
+use Rattle.index.specs.declared.Fill.{Fill}
 use Rattle.termdag.specs.Store.{termsIn, roomOf}
 use Rattle.memo.specs.Memo.{Past}
 use Rattle.outcome.specs.Does.{Does}
@@ -60,8 +60,8 @@ pub marks-kept : (M R Z : List ℕ) (c k : ℕ) → length M ≡ c → c + c ≤
 marks-kept M R Z c k l h =
     sym (take-take c (c + c) (putMid (c + c) k (M ++ R) Z) (omega arith)) ∙ ap (take c) (take-put (c + c) k (M ++ R) Z h) ∙ take-take c (c + c) (M ++ R) (omega arith) ∙ take-at M R c l
 
-module _ {J : List ℕ} {k e p : List ℕ} {f : Fill} {W : List ℕ} (g : Given J k e p f W) (strict : Bool) (asked : ℕ) (h : asked < sizesOf J .proofs)
-    {k₁ e₁ p₁ : List ℕ} {r : Globals} {memo₁ m₁ T U : List ℕ} (C : Context (programFor J) k e p f k₁ e₁ p₁ r memo₁ m₁ T U) where
+module _ {J : List ℕ} {k e p ix : List ℕ} {f : Fill} {W : List ℕ} (g : Given J k e p ix f W) (strict : Bool) (asked : ℕ) (h : asked < sizesOf J .proofs)
+    {k₁ e₁ p₁ ix₁ : List ℕ} {r : Globals} {memo₁ m₁ T U : List ℕ} (C : Context (programFor J) k e p ix f k₁ e₁ p₁ ix₁ r memo₁ m₁ T U) where
   abbrev prog : Program
   prog = programFor J
 
@@ -75,18 +75,18 @@ module _ {J : List ℕ} {k e p : List ℕ} {f : Fill} {W : List ℕ} (g : Given 
   unfolding checkProof
   is-check room s = refl
 
-  pub check-stops : (r .refusal .number ≡ 0 → ⊥) → Does k e p f k₁ e₁ p₁ (r .fill) (r .refusal) (claimAt proofs asked) (checkProof (roomOf k p) prog proofs strict asked (termsIn k e p f))
-  check-stops n = subst (Does k e p f k₁ e₁ p₁ (r .fill) (r .refusal) (claimAt proofs asked)) (is-check (roomOf k p) (termsIn k e p f)) (does-stop (claimAt proofs asked) (next (roomOf k p)) (C .does) n)
+  pub check-stops : (r .refusal .number ≡ 0 → ⊥) → Does k e p ix f k₁ e₁ p₁ ix₁ (r .fill) (r .refusal) (claimAt proofs asked) (checkProof (roomOf k p) prog proofs strict asked (termsIn k e p f))
+  check-stops n = subst (Does k e p ix f k₁ e₁ p₁ ix₁ (r .fill) (r .refusal) (claimAt proofs asked)) (is-check (roomOf k p) (termsIn k e p f)) (does-stop (claimAt proofs asked) (next (roomOf k p)) (C .does) n)
 
   module _ (n : r .refusal .number ≡ 0) {G : List ℕ} (gq : G ≡ drop (r .bindings) T) where
     same-context : contextOf G (C .context .pairs) ≡ C .context
     same-context = ap {B = ActionContext} (λ (σ : List Binding). record { bindings = σ; pairs = C .context .pairs }) (ap readBindings gq ∙ sym (C .bindings n))
 
-    pub check-ground : {F memo W₁ : List ℕ} → Searched J F → memo ≡ memo₁ → sizesOf J .expressions + sizesOf J .expressions < length memo → length W₁ ≡ length W → Flags (length k₁) W₁ (sizesOf J .proofs) [] → Ground J F G k₁ e₁ p₁ (r .fill) memo W₁
+    pub check-ground : {F memo W₁ : List ℕ} → Searched J F → memo ≡ memo₁ → sizesOf J .expressions + sizesOf J .expressions < length memo → length W₁ ≡ length W → Flags (length k₁) W₁ (sizesOf J .proofs) [] → Ground J F G k₁ e₁ p₁ ix₁ (r .fill) memo W₁
     check-ground {memo = memo} F mq fits lW fl = record {
       ready = g .ready;
       searched = F;
-      stored = C .does .grown .stored;
+      indexed = C .does .grown .indexed;
       sane = subst⁻¹ (λ (σ : List Binding). Sane prog σ (termsIn k₁ e₁ p₁ (r .fill))) (ap readBindings gq ∙ sym (C .bindings n)) (C .sane n);
       terms = extends-then (g .terms) (C .grows n);
       fits = fits;
@@ -95,14 +95,14 @@ module _ {J : List ℕ} {k e p : List ℕ} {f : Fill} {W : List ℕ} (g : Given 
       heights = heights-none fl;
     }
 
-    pub check-walks : {F W₁ k₂ e₂ p₂ : List ℕ} {f₂ : Fill} {c : Refusal} {memo₂ W₂ : List ℕ} → take (length k₁) W₁ ≡ m₁ → Flags (length k₁) W₁ (sizesOf J .proofs) []
-        → Walks J F G (take (r .unions) U) k₁ e₁ p₁ (r .fill) W₁ k₂ e₂ p₂ f₂ c memo₂ W₂ (λ d. d) (λ room ps done. checkProofWithContext room prog proofs (contextOf G ps) strict (suc asked) asked done)
-        → Does k e p f k₂ e₂ p₂ f₂ c (claimAt proofs asked) (checkProof (roomOf k p) prog proofs strict asked (termsIn k e p f))
-    check-walks {W₁ = W₁} {k₂ = k₂} {e₂ = e₂} {p₂ = p₂} {f₂ = f₂} {c = c} mq fl w =
+    pub check-walks : {F W₁ k₂ e₂ p₂ ix₂ : List ℕ} {f₂ : Fill} {c : Refusal} {memo₂ W₂ : List ℕ} → take (length k₁) W₁ ≡ m₁ → Flags (length k₁) W₁ (sizesOf J .proofs) []
+        → Walks J F G (take (r .unions) U) k₁ e₁ p₁ ix₁ (r .fill) W₁ k₂ e₂ p₂ ix₂ f₂ c memo₂ W₂ (λ d. d) (λ room ps done. checkProofWithContext room prog proofs (contextOf G ps) strict (suc asked) asked done)
+        → Does k e p ix f k₂ e₂ p₂ ix₂ f₂ c (claimAt proofs asked) (checkProof (roomOf k p) prog proofs strict asked (termsIn k e p f))
+    check-walks {W₁ = W₁} {k₂ = k₂} {e₂ = e₂} {p₂ = p₂} {ix₂ = ix₂} {f₂ = f₂} {c = c} mq fl w =
         let x = w .walked (C .context .pairs) [] (subst⁻¹ (GlobalPairs (C .context .pairs) (take (r .unions) U)) mq (C .pairs n)) fl in
-        subst (Does k e p f k₂ e₂ p₂ f₂ c (claimAt proofs asked)) (is-check (roomOf k p) (termsIn k e p f))
+        subst (Does k e p ix f k₂ e₂ p₂ ix₂ f₂ c (claimAt proofs asked)) (is-check (roomOf k p) (termsIn k e p f))
         (does-then next (C .does) n (does-map (λ _. claimAt proofs asked) (claimAt proofs asked)
-        (subst (Does k₁ e₁ p₁ (r .fill) k₂ e₂ p₂ f₂ c (x .done)) (fuel ∙ ap (λ (ctx : ActionContext). checkProofWithContext (roomOf k₁ p₁) prog proofs ctx strict (suc (length proofs)) asked [] (termsIn k₁ e₁ p₁ (r .fill))) same-context) (x .does))
+        (subst (Does k₁ e₁ p₁ ix₁ (r .fill) k₂ e₂ p₂ ix₂ f₂ c (x .done)) (fuel ∙ ap (λ (ctx : ActionContext). checkProofWithContext (roomOf k₁ p₁) prog proofs ctx strict (suc (length proofs)) asked [] (termsIn k₁ e₁ p₁ (r .fill))) same-context) (x .does))
         (λ _. refl)))
       where
         fuel : checkProofWithContext (roomOf k₁ p₁) prog proofs (contextOf G (C .context .pairs)) strict (suc asked) asked [] (termsIn k₁ e₁ p₁ (r .fill))

@@ -1,6 +1,6 @@
 // `check_proof` of proof_checker.rs, for an admitted job whose terms are in the store: the global actions, then the walk.
-use cells::Fill;
 use context::new_context;
+use index::Fill;
 use normal_form::find_offences;
 use outcome::Checked;
 use walk::walk;
@@ -22,13 +22,14 @@ pub fn check_proof(
     skinds: &mut [u32],
     sends: &mut [u32],
     spool: &mut [u32],
+    index: &mut [u32],
     fill: Fill,
     scratch: &mut [u32],
     asked: u32,
 ) -> Checked
-    requires { ⌜ Given (now job) (now skinds) (now sends) (now spool) fill (now scratch) ⌝ }
+    requires { ⌜ Given (now job) (now skinds) (now sends) (now spool) (now index) fill (now scratch) ⌝ }
     requires { ⌜ asked < sizesOf (now job) .proofs ⌝ }
-    ensures does { λ r. ⌜ Does (now (skinds .entry)) (now (sends .entry)) (now (spool .entry)) fill (now (skinds .exit)) (now (sends .exit)) (now (spool .exit)) (r .fill) (r .refusal) (claimAt (proofsFor (now (job .entry))) asked) (checkProof (roomOf (now (skinds .entry)) (now (spool .entry))) (programFor (now (job .entry))) (proofsFor (now (job .entry))) strict asked (termsIn (now (skinds .entry)) (now (sends .entry)) (now (spool .entry)) fill)) ⌝ }
+    ensures does { λ r. ⌜ Does (now (skinds .entry)) (now (sends .entry)) (now (spool .entry)) (now (index .entry)) fill (now (skinds .exit)) (now (sends .exit)) (now (spool .exit)) (now (index .exit)) (r .fill) (r .refusal) (claimAt (proofsFor (now (job .entry))) asked) (checkProof (roomOf (now (skinds .entry)) (now (spool .entry))) (programFor (now (job .entry))) (proofsFor (now (job .entry))) strict asked (termsIn (now (skinds .entry)) (now (sends .entry)) (now (spool .entry)) fill)) ⌝ }
     ensures high { λ r. ⌜ (r .refusal .number ≡ 0 → r .value ≡ height (programFor (now (job .entry))) (proofsFor (now (job .entry))) asked) ⌝ }
 {
     let mut memo = [0u32; 8193];
@@ -43,6 +44,7 @@ pub fn check_proof(
         skinds,
         sends,
         spool,
+        index,
         fill,
         &mut memo,
         &mut scratch[..c],
@@ -70,6 +72,7 @@ pub fn check_proof(
         skinds,
         sends,
         spool,
+        index,
         have,
         &mut memo,
         scratch,

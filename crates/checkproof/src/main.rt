@@ -35,9 +35,19 @@ fn check_last(job: &[u8], answer: &mut [u32])
     sizercobalt_check_bytes(job, asked, answer);
 }
 
+// A random word, by which the host entry's index mixes; 0 where the system has none.
+fn random_word() -> u32 {
+    let mut bytes = [0u8; 4];
+    libc::getentropy(&mut bytes);
+    let mut words = [0u32; 1];
+    words_of_bytes(&bytes, &mut words);
+    words[0]
+}
+
 // Checks a job's bytes and writes the answer.
 fn print_answer(job: &[u8]) {
     let mut answer = [0u32; 8];
+    answer[0] = random_word();
     check_last(job, &mut answer);
     write_words(&answer);
 }

@@ -11,8 +11,8 @@ use Rattle.model.specs.Program.{Expr, Fact, equal, bare, Binding, Program}
 use Rattle.model.specs.Check.{Outcome, ok, refused, Check, andThen, pure, checkThat, Room}
 use Rattle.model.specs.Evaluate.{lookup, evalExpr}
 use Rattle.model.specs.Fact.{headOf, variableOf, bindOutput, compareSides, evalSideBy, evalSide, checkSideCondition}
-use Rattle.cells.specs.declared.Fill.{Fill}
-use Rattle.termdag.specs.Store.{termsIn, Stored, roomOf}
+use Rattle.index.specs.declared.Fill.{Fill}
+use Rattle.termdag.specs.Store.{termsIn, Indexed, roomOf}
 use Rattle.memo.specs.Memo.{Past}
 use Rattle.outcome.specs.Does.{passed, outcomeOf}
 use Rattle.outcome.specs.declared.Refusal.{Refusal}
@@ -81,9 +81,9 @@ module _ {v : Looked} (e : Expr) (is : optionOf v ≡ variableOf (headOf e)) (ro
       ∙ sym (term-then (evalExpr room prog rule σ e s) (λ t. pure (some t)))
       ∙ ap (λ (p : Option ℕ). evalSideBy room prog rule σ e p s) (ap optionOf (sym d) ∙ is)
 
-  pub side-checks : {K E P : List ℕ} {f : Fill} {K₁ E₁ P₁ : List ℕ} {f₁ : Fill} {r : Refusal} {t : ℕ} {m : List ℕ} → v ≡ Looked.None
-      → Checks K E P f K₁ E₁ P₁ f₁ r t m (valueOf false room prog rule σ e (termsIn K E P f)) → Checks K E P f K₁ E₁ P₁ f₁ r (some t) m (evalSide room prog rule σ e (termsIn K E P f))
-  side-checks {K} {E} {P} {f} {t = t} d c = checks-as (side-value (termsIn K E P f) d) (record { does = does-map some (some t) (c .does) (λ _. refl); past = c .past })
+  pub side-checks : {K E P I : List ℕ} {f : Fill} {K₁ E₁ P₁ I₁ : List ℕ} {f₁ : Fill} {r : Refusal} {t : ℕ} {m : List ℕ} → v ≡ Looked.None
+      → Checks K E P I f K₁ E₁ P₁ I₁ f₁ r t m (valueOf false room prog rule σ e (termsIn K E P f)) → Checks K E P I f K₁ E₁ P₁ I₁ f₁ r (some t) m (evalSide room prog rule σ e (termsIn K E P f))
+  side-checks {K} {E} {P} {I} {f} {t = t} d c = checks-as (side-value (termsIn K E P f) d) (record { does = does-map some (some t) (c .does) (λ _. refl); past = c .past })
 
 -- an equality, in either mode: its left side refused, its right side refused, both compared
 module _ (prog : Program) (rule i : ℕ) (σ : List Binding) (strict : Bool) (l r : Expr) where
@@ -96,50 +96,50 @@ module _ (prog : Program) (rule i : ℕ) (σ : List Binding) (strict : Bool) (l 
   abbrev after : Room → Option ℕ → Check (List Binding)
   after room a s = andThen (evalSide room prog rule σ r s) (both a)
 
-  module _ {K E P : List ℕ} {f : Fill} where
-    refused-as : {K′ E′ P′ : List ℕ} {m : List ℕ} (a : Side) {c : Condition} → c ≡ record { refusal = a .refusal; binds = Binds.Nothing; fill = a .fill }
-        → Checks K E P f K′ E′ P′ (a .fill) (a .refusal) σ m (whole K E P f) → Checks K E P f K′ E′ P′ (c .fill) (c .refusal) (boundOver (c .binds) σ) m (whole K E P f)
-    refused-as {K′} {E′} {P′} {m} a e d = subst (λ (x : Condition). Checks K E P f K′ E′ P′ (x .fill) (x .refusal) (boundOver (x .binds) σ) m (whole K E P f)) (sym e) d
+  module _ {K E P I : List ℕ} {f : Fill} where
+    refused-as : {K′ E′ P′ I′ : List ℕ} {m : List ℕ} (a : Side) {c : Condition} → c ≡ record { refusal = a .refusal; binds = Binds.Nothing; fill = a .fill }
+        → Checks K E P I f K′ E′ P′ I′ (a .fill) (a .refusal) σ m (whole K E P f) → Checks K E P I f K′ E′ P′ I′ (c .fill) (c .refusal) (boundOver (c .binds) σ) m (whole K E P f)
+    refused-as {K′} {E′} {P′} {I′} {m} a e d = subst (λ (x : Condition). Checks K E P I f K′ E′ P′ I′ (x .fill) (x .refusal) (boundOver (x .binds) σ) m (whole K E P f)) (sym e) d
 
-    module _ {K₁ E₁ P₁ m₁ : List ℕ} (a : Side) (A : Checks K E P f K₁ E₁ P₁ (a .fill) (a .refusal) (optionOf (a .value)) m₁ (evalSide (roomOf K P) prog rule σ l (termsIn K E P f))) where
+    module _ {K₁ E₁ P₁ I₁ m₁ : List ℕ} (a : Side) (A : Checks K E P I f K₁ E₁ P₁ I₁ (a .fill) (a .refusal) (optionOf (a .value)) m₁ (evalSide (roomOf K P) prog rule σ l (termsIn K E P f))) where
       pub left-refused : {c : Condition} → (a .refusal .number ≡ 0 → ⊥) → c ≡ record { refusal = a .refusal; binds = Binds.Nothing; fill = a .fill }
-          → Checks K E P f K₁ E₁ P₁ (c .fill) (c .refusal) (boundOver (c .binds) σ) m₁ (whole K E P f)
+          → Checks K E P I f K₁ E₁ P₁ I₁ (c .fill) (c .refusal) (boundOver (c .binds) σ) m₁ (whole K E P f)
       unfolding checkSideCondition
       left-refused h e = refused-as a e (checks-stop σ (after (roomOf K P)) A h)
 
-      module _ (q : a .refusal .number ≡ 0) {K₂ E₂ P₂ m₂ : List ℕ} (b : Side)
-          (B : Checks K₁ E₁ P₁ (a .fill) K₂ E₂ P₂ (b .fill) (b .refusal) (optionOf (b .value)) m₂ (evalSide (roomOf K₁ P₁) prog rule σ r (termsIn K₁ E₁ P₁ (a .fill)))) where
+      module _ (q : a .refusal .number ≡ 0) {K₂ E₂ P₂ I₂ m₂ : List ℕ} (b : Side)
+          (B : Checks K₁ E₁ P₁ I₁ (a .fill) K₂ E₂ P₂ I₂ (b .fill) (b .refusal) (optionOf (b .value)) m₂ (evalSide (roomOf K₁ P₁) prog rule σ r (termsIn K₁ E₁ P₁ (a .fill)))) where
         pub right-refused : {c : Condition} → (b .refusal .number ≡ 0 → ⊥) → c ≡ record { refusal = b .refusal; binds = Binds.Nothing; fill = b .fill }
-            → Checks K E P f K₂ E₂ P₂ (c .fill) (c .refusal) (boundOver (c .binds) σ) m₂ (whole K E P f)
+            → Checks K E P I f K₂ E₂ P₂ I₂ (c .fill) (c .refusal) (boundOver (c .binds) σ) m₂ (whole K E P f)
         unfolding checkSideCondition
         right-refused h e = refused-as b e (checks-then after A q (checks-stop σ (both (optionOf (a .value))) B h))
 
         pub sides-compared : {lv rv : Option ℕ} (c : Condition) → b .refusal .number ≡ 0 → lv ≡ variableOf (headOf l) → rv ≡ variableOf (headOf r)
             → (c .fill ≡ b .fill) × ((ρ : List Binding) (s : List Term) → outcomeOf (c .refusal) (boundOver (c .binds) ρ) s ≡ compareSides rule i ρ lv (optionOf (a .value)) rv (optionOf (b .value)) s)
-            → Checks K E P f K₂ E₂ P₂ (c .fill) (c .refusal) (boundOver (c .binds) σ) m₂ (whole K E P f)
+            → Checks K E P I f K₂ E₂ P₂ I₂ (c .fill) (c .refusal) (boundOver (c .binds) σ) m₂ (whole K E P f)
         unfolding checkSideCondition
         sides-compared {lv} {rv} c p x y g =
-            subst (λ (h : Fill). Checks K E P f K₂ E₂ P₂ h (c .refusal) (boundOver (c .binds) σ) m₂ (whole K E P f)) (sym (g .0))
-            (checks-then after A q (checks-then (λ room. both (optionOf (a .value))) B p (checks-here (B .does .grown .stored) (B .past p)
+            subst (λ (h : Fill). Checks K E P I f K₂ E₂ P₂ I₂ h (c .refusal) (boundOver (c .binds) σ) m₂ (whole K E P f)) (sym (g .0))
+            (checks-then after A q (checks-then (λ room. both (optionOf (a .value))) B p (checks-here (B .does .grown .indexed) (B .past p)
             (g .1 σ (termsIn K₂ E₂ P₂ (b .fill)) ∙ ap₂ (λ (j k : Option ℕ). compareSides rule i σ j (optionOf (a .value)) k (optionOf (b .value)) (termsIn K₂ E₂ P₂ (b .fill))) x y))))
 
 -- the condition that was read
-module _ (prog : Program) (rule : ℕ) (σ : List Binding) (strict : Bool) {K E P : List ℕ} {f : Fill} {m : List ℕ} {g h : Fact} (is : g ≡ h) where
-  pub condition-as : {K′ E′ P′ : List ℕ} {f′ : Fill} {r : Refusal} {β : List Binding} → Checks K E P f K′ E′ P′ f′ r β m (checkSideCondition (roomOf K P) prog rule σ strict g (termsIn K E P f))
-      → Checks K E P f K′ E′ P′ f′ r β m (checkSideCondition (roomOf K P) prog rule σ strict h (termsIn K E P f))
+module _ (prog : Program) (rule : ℕ) (σ : List Binding) (strict : Bool) {K E P I : List ℕ} {f : Fill} {m : List ℕ} {g h : Fact} (is : g ≡ h) where
+  pub condition-as : {K′ E′ P′ I′ : List ℕ} {f′ : Fill} {r : Refusal} {β : List Binding} → Checks K E P I f K′ E′ P′ I′ f′ r β m (checkSideCondition (roomOf K P) prog rule σ strict g (termsIn K E P f))
+      → Checks K E P I f K′ E′ P′ I′ f′ r β m (checkSideCondition (roomOf K P) prog rule σ strict h (termsIn K E P f))
   condition-as d = checks-as (ap (λ (x : Fact). checkSideCondition (roomOf K P) prog rule σ strict x (termsIn K E P f)) is) d
 
 -- a bare condition: it passes unevaluated
-module _ (prog : Program) (rule : ℕ) (σ : List Binding) (i : ℕ) (e : Expr) {K E P : List ℕ} {f : Fill} where
-  pub bare-passes : {m : List ℕ} {strict : Bool} → strict ≡ false → Stored K E P f → Past m
-      → Checks K E P f K E P f passed σ m (checkSideCondition (roomOf K P) prog rule σ strict (bare i e) (termsIn K E P f))
+module _ (prog : Program) (rule : ℕ) (σ : List Binding) (i : ℕ) (e : Expr) {K E P I : List ℕ} {f : Fill} where
+  pub bare-passes : {m : List ℕ} {strict : Bool} → strict ≡ false → Indexed K E P I f → Past m
+      → Checks K E P I f K E P I f passed σ m (checkSideCondition (roomOf K P) prog rule σ strict (bare i e) (termsIn K E P f))
   unfolding checkSideCondition
   bare-passes {strict = strict} is S p = rw is (checks-here S p refl)
 
   -- in strict mode it is evaluated as a side is, and binds nothing
-  pub bare-evaluated : {K₁ E₁ P₁ m₁ : List ℕ} {strict : Bool} (a : Side) {c : Condition} → strict ≡ true
-      → Checks K E P f K₁ E₁ P₁ (a .fill) (a .refusal) (optionOf (a .value)) m₁ (evalSide (roomOf K P) prog rule σ e (termsIn K E P f))
+  pub bare-evaluated : {K₁ E₁ P₁ I₁ m₁ : List ℕ} {strict : Bool} (a : Side) {c : Condition} → strict ≡ true
+      → Checks K E P I f K₁ E₁ P₁ I₁ (a .fill) (a .refusal) (optionOf (a .value)) m₁ (evalSide (roomOf K P) prog rule σ e (termsIn K E P f))
       → c ≡ record { refusal = a .refusal; binds = Binds.Nothing; fill = a .fill }
-      → Checks K E P f K₁ E₁ P₁ (c .fill) (c .refusal) (boundOver (c .binds) σ) m₁ (checkSideCondition (roomOf K P) prog rule σ strict (bare i e) (termsIn K E P f))
+      → Checks K E P I f K₁ E₁ P₁ I₁ (c .fill) (c .refusal) (boundOver (c .binds) σ) m₁ (checkSideCondition (roomOf K P) prog rule σ strict (bare i e) (termsIn K E P f))
   unfolding checkSideCondition
-  bare-evaluated {K₁} {E₁} {P₁} {m₁} a is A h = rw (is, h) (record { does = does-map (λ _. σ) σ (A .does) (λ _. refl); past = A .past })
+  bare-evaluated {K₁} {E₁} {P₁} {I₁} {m₁} a is A h = rw (is, h) (record { does = does-map (λ _. σ) σ (A .does) (λ _. refl); past = A .past })

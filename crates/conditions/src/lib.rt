@@ -1,9 +1,9 @@
 // Container side conditions, from proof_checker.rs: what a condition binds.
-use cells::Fill;
 use cells::wide;
 use decode::Fact;
 use evaluate::evaluate;
 use evaluate::lookup;
+use index::Fill;
 use normal_form::variable_of;
 use outcome::Refusal;
 use program::Looked;
@@ -18,7 +18,7 @@ ghost use Rattle.model.specs.Layout.{sizesOf};
 ghost use Rattle.model.specs.Term.{Term};
 ghost use Rattle.model.specs.Program.{equal, bare, Binding};
 ghost use Rattle.model.specs.Fact as model;
-ghost use Rattle.termdag.specs.Store.{termsIn, Stored, roomOf};
+ghost use Rattle.termdag.specs.Store.{termsIn, Indexed, roomOf};
 ghost use Rattle.memo.specs.Memo.{Past};
 ghost use Rattle.outcome.specs.Does.{outcomeOf};
 ghost use Rattle.program.specs.Ready.{Ready, programFor, optionOf};
@@ -58,16 +58,17 @@ fn eval_side(
     skinds: &mut [u32],
     sends: &mut [u32],
     spool: &mut [u32],
+    index: &mut [u32],
     fill: Fill,
     memo: &mut [u32],
     e: u32,
 ) -> Side
     requires { ⌜ Ready (now job) ⌝ }
-    requires { ⌜ Stored (now skinds) (now sends) (now spool) fill ⌝ }
+    requires { ⌜ Indexed (now skinds) (now sends) (now spool) (now index) fill ⌝ }
     requires { ⌜ sizesOf (now job) .expressions + sizesOf (now job) .expressions < length (now memo) ⌝ }
     requires { ⌜ Past (now memo) ⌝ }
     requires { ⌜ e < sizesOf (now job) .expressions ⌝ }
-    ensures { λ r. ⌜ Checks (now (skinds .entry)) (now (sends .entry)) (now (spool .entry)) fill (now (skinds .exit)) (now (sends .exit)) (now (spool .exit)) (r .fill) (r .refusal) (optionOf (r .value)) (now (memo .exit)) (model.evalSide (roomOf (now (skinds .entry)) (now (spool .entry))) (programFor (now (job .entry))) rule (bindingsIn (now (bound .entry)) (now (pairs .entry)) (now (globals .entry))) (exprFor (now (job .entry)) e) (termsIn (now (skinds .entry)) (now (sends .entry)) (now (spool .entry)) fill)) ⌝ }
+    ensures { λ r. ⌜ Checks (now (skinds .entry)) (now (sends .entry)) (now (spool .entry)) (now (index .entry)) fill (now (skinds .exit)) (now (sends .exit)) (now (spool .exit)) (now (index .exit)) (r .fill) (r .refusal) (optionOf (r .value)) (now (memo .exit)) (model.evalSide (roomOf (now (skinds .entry)) (now (spool .entry))) (programFor (now (job .entry))) rule (bindingsIn (now (bound .entry)) (now (pairs .entry)) (now (globals .entry))) (exprFor (now (job .entry)) e) (termsIn (now (skinds .entry)) (now (sends .entry)) (now (spool .entry)) fill)) ⌝ }
 {
     let variable = variable_of(job, e);
     if let Looked::Some(x) = variable {
@@ -92,6 +93,7 @@ fn eval_side(
         skinds,
         sends,
         spool,
+        index,
         fill,
         memo,
         e,
@@ -224,6 +226,7 @@ fn check_equality_condition(
     skinds: &mut [u32],
     sends: &mut [u32],
     spool: &mut [u32],
+    index: &mut [u32],
     fill: Fill,
     memo: &mut [u32],
     i: u32,
@@ -231,12 +234,12 @@ fn check_equality_condition(
     right: u32,
 ) -> Condition
     requires { ⌜ Ready (now job) ⌝ }
-    requires { ⌜ Stored (now skinds) (now sends) (now spool) fill ⌝ }
+    requires { ⌜ Indexed (now skinds) (now sends) (now spool) (now index) fill ⌝ }
     requires { ⌜ sizesOf (now job) .expressions + sizesOf (now job) .expressions < length (now memo) ⌝ }
     requires { ⌜ Past (now memo) ⌝ }
     requires { ⌜ left < sizesOf (now job) .expressions ⌝ }
     requires { ⌜ right < sizesOf (now job) .expressions ⌝ }
-    ensures { λ r. ⌜ ((strict : Bool) → Checks (now (skinds .entry)) (now (sends .entry)) (now (spool .entry)) fill (now (skinds .exit)) (now (sends .exit)) (now (spool .exit)) (r .fill) (r .refusal) (boundOver (r .binds) (bindingsIn (now (bound .entry)) (now (pairs .entry)) (now (globals .entry)))) (now (memo .exit)) (model.checkSideCondition (roomOf (now (skinds .entry)) (now (spool .entry))) (programFor (now (job .entry))) rule (bindingsIn (now (bound .entry)) (now (pairs .entry)) (now (globals .entry))) strict (equal i (exprFor (now (job .entry)) left) (exprFor (now (job .entry)) right)) (termsIn (now (skinds .entry)) (now (sends .entry)) (now (spool .entry)) fill))) ⌝ }
+    ensures { λ r. ⌜ ((strict : Bool) → Checks (now (skinds .entry)) (now (sends .entry)) (now (spool .entry)) (now (index .entry)) fill (now (skinds .exit)) (now (sends .exit)) (now (spool .exit)) (now (index .exit)) (r .fill) (r .refusal) (boundOver (r .binds) (bindingsIn (now (bound .entry)) (now (pairs .entry)) (now (globals .entry)))) (now (memo .exit)) (model.checkSideCondition (roomOf (now (skinds .entry)) (now (spool .entry))) (programFor (now (job .entry))) rule (bindingsIn (now (bound .entry)) (now (pairs .entry)) (now (globals .entry))) strict (equal i (exprFor (now (job .entry)) left) (exprFor (now (job .entry)) right)) (termsIn (now (skinds .entry)) (now (sends .entry)) (now (spool .entry)) fill))) ⌝ }
 {
     let a = eval_side(
         job,
@@ -247,6 +250,7 @@ fn check_equality_condition(
         skinds,
         sends,
         spool,
+        index,
         fill,
         memo,
         left,
@@ -263,6 +267,7 @@ fn check_equality_condition(
         skinds,
         sends,
         spool,
+        index,
         a.fill,
         memo,
         right,
@@ -288,17 +293,18 @@ fn check_bare_condition(
     skinds: &mut [u32],
     sends: &mut [u32],
     spool: &mut [u32],
+    index: &mut [u32],
     fill: Fill,
     memo: &mut [u32],
     i: u32,
     e: u32,
 ) -> Condition
     requires { ⌜ Ready (now job) ⌝ }
-    requires { ⌜ Stored (now skinds) (now sends) (now spool) fill ⌝ }
+    requires { ⌜ Indexed (now skinds) (now sends) (now spool) (now index) fill ⌝ }
     requires { ⌜ sizesOf (now job) .expressions + sizesOf (now job) .expressions < length (now memo) ⌝ }
     requires { ⌜ Past (now memo) ⌝ }
     requires { ⌜ e < sizesOf (now job) .expressions ⌝ }
-    ensures { λ r. ⌜ Checks (now (skinds .entry)) (now (sends .entry)) (now (spool .entry)) fill (now (skinds .exit)) (now (sends .exit)) (now (spool .exit)) (r .fill) (r .refusal) (boundOver (r .binds) (bindingsIn (now (bound .entry)) (now (pairs .entry)) (now (globals .entry)))) (now (memo .exit)) (model.checkSideCondition (roomOf (now (skinds .entry)) (now (spool .entry))) (programFor (now (job .entry))) rule (bindingsIn (now (bound .entry)) (now (pairs .entry)) (now (globals .entry))) strict (bare i (exprFor (now (job .entry)) e)) (termsIn (now (skinds .entry)) (now (sends .entry)) (now (spool .entry)) fill)) ⌝ }
+    ensures { λ r. ⌜ Checks (now (skinds .entry)) (now (sends .entry)) (now (spool .entry)) (now (index .entry)) fill (now (skinds .exit)) (now (sends .exit)) (now (spool .exit)) (now (index .exit)) (r .fill) (r .refusal) (boundOver (r .binds) (bindingsIn (now (bound .entry)) (now (pairs .entry)) (now (globals .entry)))) (now (memo .exit)) (model.checkSideCondition (roomOf (now (skinds .entry)) (now (spool .entry))) (programFor (now (job .entry))) rule (bindingsIn (now (bound .entry)) (now (pairs .entry)) (now (globals .entry))) strict (bare i (exprFor (now (job .entry)) e)) (termsIn (now (skinds .entry)) (now (sends .entry)) (now (spool .entry)) fill)) ⌝ }
 {
     if strict {
         return binds_nothing(eval_side(
@@ -310,6 +316,7 @@ fn check_bare_condition(
             skinds,
             sends,
             spool,
+            index,
             fill,
             memo,
             e,
@@ -337,16 +344,17 @@ pub fn check_side_condition(
     skinds: &mut [u32],
     sends: &mut [u32],
     spool: &mut [u32],
+    index: &mut [u32],
     fill: Fill,
     memo: &mut [u32],
     i: u32,
 ) -> Condition
     requires { ⌜ Ready (now job) ⌝ }
-    requires { ⌜ Stored (now skinds) (now sends) (now spool) fill ⌝ }
+    requires { ⌜ Indexed (now skinds) (now sends) (now spool) (now index) fill ⌝ }
     requires { ⌜ sizesOf (now job) .expressions + sizesOf (now job) .expressions < length (now memo) ⌝ }
     requires { ⌜ Past (now memo) ⌝ }
     requires { ⌜ i < sizesOf (now job) .facts ⌝ }
-    ensures { λ r. ⌜ Checks (now (skinds .entry)) (now (sends .entry)) (now (spool .entry)) fill (now (skinds .exit)) (now (sends .exit)) (now (spool .exit)) (r .fill) (r .refusal) (boundOver (r .binds) (bindingsIn (now (bound .entry)) (now (pairs .entry)) (now (globals .entry)))) (now (memo .exit)) (model.checkSideCondition (roomOf (now (skinds .entry)) (now (spool .entry))) (programFor (now (job .entry))) rule (bindingsIn (now (bound .entry)) (now (pairs .entry)) (now (globals .entry))) strict (factFor (now (job .entry)) i) (termsIn (now (skinds .entry)) (now (sends .entry)) (now (spool .entry)) fill)) ⌝ }
+    ensures { λ r. ⌜ Checks (now (skinds .entry)) (now (sends .entry)) (now (spool .entry)) (now (index .entry)) fill (now (skinds .exit)) (now (sends .exit)) (now (spool .exit)) (now (index .exit)) (r .fill) (r .refusal) (boundOver (r .binds) (bindingsIn (now (bound .entry)) (now (pairs .entry)) (now (globals .entry)))) (now (memo .exit)) (model.checkSideCondition (roomOf (now (skinds .entry)) (now (spool .entry))) (programFor (now (job .entry))) rule (bindingsIn (now (bound .entry)) (now (pairs .entry)) (now (globals .entry))) strict (factFor (now (job .entry)) i) (termsIn (now (skinds .entry)) (now (sends .entry)) (now (spool .entry)) fill)) ⌝ }
 {
     let fact = fact_at(job, wide(i));
     match fact {
@@ -359,6 +367,7 @@ pub fn check_side_condition(
             skinds,
             sends,
             spool,
+            index,
             fill,
             memo,
             i,
@@ -375,6 +384,7 @@ pub fn check_side_condition(
             skinds,
             sends,
             spool,
+            index,
             fill,
             memo,
             i,

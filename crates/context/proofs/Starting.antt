@@ -16,9 +16,9 @@ use Rattle.model.specs.Action.{ActionContext, startContext, processAction, proc
 use Rattle.model.specs.Walk.{duplicateRuleName, noDuplicate, newContext}
 use Rattle.model.proofs.Store.{extends-same, extends-then}
 use Rattle.model.proofs.Valid.{length-tabulate}
-use Rattle.cells.specs.declared.Fill.{Fill}
+use Rattle.index.specs.declared.Fill.{Fill}
 use Rattle.cells.proofs.Laws.{to-end, getD-tabulate}
-use Rattle.termdag.specs.Store.{termsIn, Stored, roomOf}
+use Rattle.termdag.specs.Store.{termsIn, Indexed, roomOf}
 use Rattle.outcome.specs.Does.{passed, refusal, Grown, Does}
 use Rattle.outcome.specs.declared.Refusal.{Refusal}
 use Rattle.outcome.proofs.Laws.{grown-same, grown-then, room-same, ok-of, refused-of, does-here, does-stop}
@@ -48,29 +48,29 @@ has σ ps = record { bindings = σ; pairs = ps }
 pub bound-is : (T : List ℕ) (at : ℕ) → bindingsIn (take (length T - at) (drop at T)) [] [] ≡ readBindings (drop at T)
 bound-is T at = append-nil (readBindings (take (length T - at) (drop at T))) ∙ ap readBindings (to-end at T)
 
-pub standing-as : {J : List ℕ} {σ τ : List Binding} {k e p : List ℕ} {f : Fill} {memo m : List ℕ} → σ ≡ τ → Standing J σ k e p f memo m → Standing J τ k e p f memo m
-standing-as {J} {k = k} {e = e} {p = p} {f = f} {memo = memo} {m = m} q S = subst (λ (σ : List Binding). Standing J σ k e p f memo m) q S
+pub standing-as : {J : List ℕ} {σ τ : List Binding} {k e p ix : List ℕ} {f : Fill} {memo m : List ℕ} → σ ≡ τ → Standing J σ k e p ix f memo m → Standing J τ k e p ix f memo m
+standing-as {J} {k = k} {e = e} {p = p} {ix = ix} {f = f} {memo = memo} {m = m} q S = subst (λ (σ : List Binding). Standing J σ k e p ix f memo m) q S
 
 -- a refusal has no value
-does-refused : {A : Type 0} {K E P : List ℕ} {f : Fill} {K₁ E₁ P₁ : List ℕ} {f₁ : Fill} {r : Refusal} {a : A} {o : Outcome A} (b : A) → Does K E P f K₁ E₁ P₁ f₁ r a o → (r .number ≡ 0 → ⊥) → Does K E P f K₁ E₁ P₁ f₁ r b o
-does-refused {K₁ = K₁} {E₁ = E₁} {P₁ = P₁} {f₁ = f₁} {r = r} {a = a} b d h = record {
+does-refused : {A : Type 0} {K E P I : List ℕ} {f : Fill} {K₁ E₁ P₁ I₁ : List ℕ} {f₁ : Fill} {r : Refusal} {a : A} {o : Outcome A} (b : A) → Does K E P I f K₁ E₁ P₁ I₁ f₁ r a o → (r .number ≡ 0 → ⊥) → Does K E P I f K₁ E₁ P₁ I₁ f₁ r b o
+does-refused {K₁ = K₁} {E₁ = E₁} {P₁ = P₁} {I₁ = I₁} {f₁ = f₁} {r = r} {a = a} b d h = record {
   outcome = refused-of r b (termsIn K₁ E₁ P₁ f₁) h ∙ sym (refused-of r a (termsIn K₁ E₁ P₁ f₁) h) ∙ d .outcome;
   grown = d .grown;
 }
 
 -- a check after growth
-does-after : {A : Type 0} {K₀ E₀ P₀ : List ℕ} {f₀ : Fill} {K E P : List ℕ} {f : Fill} {K₁ E₁ P₁ : List ℕ} {f₁ : Fill} {r : Refusal} {a : A} {o o′ : Outcome A}
-    → Grown K₀ E₀ P₀ f₀ K E P f → Does K E P f K₁ E₁ P₁ f₁ r a o → o ≡ o′ → Does K₀ E₀ P₀ f₀ K₁ E₁ P₁ f₁ r a o′
+does-after : {A : Type 0} {K₀ E₀ P₀ I₀ : List ℕ} {f₀ : Fill} {K E P I : List ℕ} {f : Fill} {K₁ E₁ P₁ I₁ : List ℕ} {f₁ : Fill} {r : Refusal} {a : A} {o o′ : Outcome A}
+    → Grown K₀ E₀ P₀ I₀ f₀ K E P I f → Does K E P I f K₁ E₁ P₁ I₁ f₁ r a o → o ≡ o′ → Does K₀ E₀ P₀ I₀ f₀ K₁ E₁ P₁ I₁ f₁ r a o′
 does-after g d q = record { outcome = d .outcome ∙ q; grown = grown-then g (d .grown) }
 
 -- one action: refused, or done and kept
-module _ {prog : Program} {a : Action} {σ : List Binding} {K E P : List ℕ} {f : Fill} {m K₁ E₁ P₁ : List ℕ} {r : Acted} {memo₁ m₁ : List ℕ} (A : Acts prog nameGlobalActions a σ true K E P f m K₁ E₁ P₁ r memo₁ m₁)
+module _ {prog : Program} {a : Action} {σ : List Binding} {K E P I : List ℕ} {f : Fill} {m K₁ E₁ P₁ I₁ : List ℕ} {r : Acted} {memo₁ m₁ : List ℕ} (A : Acts prog nameGlobalActions a σ true K E P I f m K₁ E₁ P₁ I₁ r memo₁ m₁)
     (T : List ℕ) (at : ℕ) (U : List ℕ) (n : ℕ) (q : σ ≡ readBindings (drop at T)) where
-  before : (ps : List Proposition) (b : ActionContext) → Does K E P f K₁ E₁ P₁ (r .fill) (r .refusal) b (processAction (roomOf K P) prog nameGlobalActions (has σ ps) a (termsIn K E P f))
-      → Does K E P f K₁ E₁ P₁ (r .fill) (r .refusal) b (processAction (roomOf K P) prog nameGlobalActions (has (readBindings (drop at T)) ps) a (termsIn K E P f))
-  before ps b d = subst (λ (τ : List Binding). Does K E P f K₁ E₁ P₁ (r .fill) (r .refusal) b (processAction (roomOf K P) prog nameGlobalActions (has τ ps) a (termsIn K E P f))) q d
+  before : (ps : List Proposition) (b : ActionContext) → Does K E P I f K₁ E₁ P₁ I₁ (r .fill) (r .refusal) b (processAction (roomOf K P) prog nameGlobalActions (has σ ps) a (termsIn K E P f))
+      → Does K E P I f K₁ E₁ P₁ I₁ (r .fill) (r .refusal) b (processAction (roomOf K P) prog nameGlobalActions (has (readBindings (drop at T)) ps) a (termsIn K E P f))
+  before ps b d = subst (λ (τ : List Binding). Does K E P I f K₁ E₁ P₁ I₁ (r .fill) (r .refusal) b (processAction (roomOf K P) prog nameGlobalActions (has τ ps) a (termsIn K E P f))) q d
 
-  pub turn-stops : Even n → (r .refusal .number ≡ 0 → ⊥) → Turned prog a K E P f m T at U n K₁ E₁ P₁ (globals (r .refusal) at n (r .fill)) memo₁ m₁ T U
+  pub turn-stops : Even n → (r .refusal .number ≡ 0 → ⊥) → Turned prog a K E P I f m T at U n K₁ E₁ P₁ I₁ (globals (r .refusal) at n (r .fill)) memo₁ m₁ T U
   turn-stops even h = record {
     pairs = [];
     does = λ ps. before ps (has (readBindings (drop at T)) (ps ++ [])) (does-refused (has (readBindings (drop at T)) (ps ++ [])) (A .does ps) h);
@@ -86,10 +86,10 @@ module _ {prog : Program} {a : Action} {σ : List Binding} {K E P : List ℕ} {f
   }
 
   pub turn-goes : {T₁ : List ℕ} {b : ℕ} {U₁ : List ℕ} {u : ℕ} → Pushed T at (r .effect) T₁ b → Joined U n (r .effect) U₁ u
-      → Turned prog a K E P f m T at U n K₁ E₁ P₁ (globals (r .refusal) b u (r .fill)) memo₁ m₁ T₁ U₁
+      → Turned prog a K E P I f m T at U n K₁ E₁ P₁ I₁ (globals (r .refusal) b u (r .fill)) memo₁ m₁ T₁ U₁
   turn-goes {T₁} {b} {U₁} {u} p j = record {
     pairs = A .pairs;
-    does = λ ps. before ps (has (readBindings (drop b T₁)) (ps ++ A .pairs)) (subst (λ (β : List Binding). Does K E P f K₁ E₁ P₁ (r .fill) (r .refusal) (has β (ps ++ A .pairs)) (processAction (roomOf K P) prog nameGlobalActions (has σ ps) a (termsIn K E P f))) bindings (A .does ps));
+    does = λ ps. before ps (has (readBindings (drop b T₁)) (ps ++ A .pairs)) (subst (λ (β : List Binding). Does K E P I f K₁ E₁ P₁ I₁ (r .fill) (r .refusal) (has β (ps ++ A .pairs)) (processAction (roomOf K P) prog nameGlobalActions (has σ ps) a (termsIn K E P f))) bindings (A .does ps));
     past = A .past;
     grows = A .grows;
     sane = λ z. subst (λ (β : List Binding). Sane prog β (termsIn K₁ E₁ P₁ (r .fill))) bindings (A .sane z);
@@ -132,12 +132,12 @@ module _ (J : List ℕ) where
   unfolding processActions
   run-one room a as′ c s = refl
 
-  pub record Through (k₀ e₀ p₀ : List ℕ) (f₀ : Fill) (memo₀ m₀ k e p : List ℕ) (f : Fill) (memo m T : List ℕ) (at : ℕ) (U : List ℕ) (n i : ℕ) : Type 0 where
+  pub record Through (k₀ e₀ p₀ ix₀ : List ℕ) (f₀ : Fill) (memo₀ m₀ k e p ix : List ℕ) (f : Fill) (memo m T : List ℕ) (at : ℕ) (U : List ℕ) (n i : ℕ) : Type 0 where
     pub pairs : List Proposition
     pub upto : i ≤ sizesOf J .globals
-    pub grown : Grown k₀ e₀ p₀ f₀ k e p f
+    pub grown : Grown k₀ e₀ p₀ ix₀ f₀ k e p ix f
     pub run : runs (roomOf k₀ p₀) (drop i (prog .globals)) (has (readBindings (drop at T)) pairs) (termsIn k e p f) ≡ runs (roomOf k₀ p₀) (prog .globals) (startContext []) (termsIn k₀ e₀ p₀ f₀)
-    pub standing : Standing J (readBindings (drop at T)) k e p f memo m
+    pub standing : Standing J (readBindings (drop at T)) k e p ix f memo m
     pub grows : Extends (termsIn k₀ e₀ p₀ f₀) (termsIn k e p f)
     pub marks : Marks (termsIn k e p f) m pairs
     pub others : (q : Proposition) → (q .lhs ≡ q .rhs → ⊥) → among q pairs ≡ unionsHave (take n U) q
@@ -150,11 +150,11 @@ module _ (J : List ℕ) where
     pub high : at ≤ 512
     pub few : n ≤ i + i
 
-  pub start : {k e p : List ℕ} {f : Fill} {memo m T U : List ℕ} → Standing J [] k e p f memo m → Marks (termsIn k e p f) m [] → length T ≡ 512 → length U ≡ 512 → Through k e p f memo m k e p f memo m T 512 U 0 0
-  start {k} {e} {p} {f} {memo} {m} {T} {U} S w t u = record {
+  pub start : {k e p ix : List ℕ} {f : Fill} {memo m T U : List ℕ} → Standing J [] k e p ix f memo m → Marks (termsIn k e p f) m [] → length T ≡ 512 → length U ≡ 512 → Through k e p ix f memo m k e p ix f memo m T 512 U 0 0
+  start {k} {e} {p} {ix} {f} {memo} {m} {T} {U} S w t u = record {
     pairs = [];
     upto = omega arith;
-    grown = grown-same (S .stored);
+    grown = grown-same (S .indexed);
     run = ap (λ (σ : List Binding). runs (roomOf k p) (prog .globals) (has σ []) (termsIn k e p f)) none-bound;
     standing = standing-as (sym none-bound) S;
     grows = extends-same;
@@ -173,7 +173,7 @@ module _ (J : List ℕ) where
       none-bound : readBindings (drop 512 T) ≡ []
       none-bound = ap readBindings (drop-of-length-le T {i = 512} (omega arith))
 
-  module _ {k₀ e₀ p₀ : List ℕ} {f₀ : Fill} {memo₀ m₀ k e p : List ℕ} {f : Fill} {memo m T : List ℕ} {at : ℕ} {U : List ℕ} {n i : ℕ} (H : Through k₀ e₀ p₀ f₀ memo₀ m₀ k e p f memo m T at U n i) where
+  module _ {k₀ e₀ p₀ ix₀ : List ℕ} {f₀ : Fill} {memo₀ m₀ k e p ix : List ℕ} {f : Fill} {memo m T : List ℕ} {at : ℕ} {U : List ℕ} {n i : ℕ} (H : Through k₀ e₀ p₀ ix₀ f₀ memo₀ m₀ k e p ix f memo m T at U n i) where
     abbrev s : List Term
     s = termsIn k e p f
 
@@ -183,7 +183,7 @@ module _ (J : List ℕ) where
     abbrev later : List Action
     later = drop (suc i) (prog .globals)
 
-    module _ {k₁ e₁ p₁ : List ℕ} {r : Globals} {memo₁ m₁ T₁ U₁ : List ℕ} (h : i < sizesOf J .globals) (t : Turned prog (actionFor J i) k e p f m T at U n k₁ e₁ p₁ r memo₁ m₁ T₁ U₁) where
+    module _ {k₁ e₁ p₁ ix₁ : List ℕ} {r : Globals} {memo₁ m₁ T₁ U₁ : List ℕ} (h : i < sizesOf J .globals) (t : Turned prog (actionFor J i) k e p ix f m T at U n k₁ e₁ p₁ ix₁ r memo₁ m₁ T₁ U₁) where
       -- the next action, in the room that there was at the start, is the first of what remains
       next : andThen (processAction (roomOf k p) prog nameGlobalActions (has σ (H .pairs)) (actionFor J i) s) (runs (roomOf k₀ p₀) later) ≡ runs (roomOf k₀ p₀) (prog .globals) (startContext []) (termsIn k₀ e₀ p₀ f₀)
       next = ap (λ (room : Room). andThen (processAction room prog nameGlobalActions (has σ (H .pairs)) (actionFor J i) s) (runs (roomOf k₀ p₀) later)) (room-same (H .grown))
@@ -191,7 +191,7 @@ module _ (J : List ℕ) where
           ∙ ap (λ (as′ : List Action). runs (roomOf k₀ p₀) as′ (has σ (H .pairs)) s) (sym (globals-from J i h))
           ∙ H .run
 
-      pub stops : Limits (sizesOf J) → (r .refusal .number ≡ 0 → ⊥) → Collected prog k₀ e₀ p₀ f₀ k₁ e₁ p₁ r memo₁ m₁ T₁ U₁
+      pub stops : Limits (sizesOf J) → (r .refusal .number ≡ 0 → ⊥) → Collected prog k₀ e₀ p₀ ix₀ f₀ k₁ e₁ p₁ ix₁ r memo₁ m₁ T₁ U₁
       stops w x = record {
         context = startContext [];
         does = does-after (H .grown) (does-stop (startContext []) (runs (roomOf k₀ p₀) later) (t .does (H .pairs)) x) next;
@@ -206,7 +206,7 @@ module _ (J : List ℕ) where
       }
 
       pub turns : r .refusal .number ≡ 0 → length memo₁ ≡ length memo → length m₁ ≡ length m → length T₁ ≡ length T → length U₁ ≡ length U
-          → Through k₀ e₀ p₀ f₀ memo₀ m₀ k₁ e₁ p₁ (r .fill) memo₁ m₁ T₁ (r .bindings) U₁ (r .unions) (i + 1)
+          → Through k₀ e₀ p₀ ix₀ f₀ memo₀ m₀ k₁ e₁ p₁ ix₁ (r .fill) memo₁ m₁ T₁ (r .bindings) U₁ (r .unions) (i + 1)
       turns x lm la lt lu = record {
         pairs = H .pairs ++ t .pairs;
         upto = omega arith;
@@ -234,7 +234,7 @@ module _ (J : List ℕ) where
           after : ActionContext
           after = has (readBindings (drop (r .bindings) T₁)) (H .pairs ++ t .pairs)
 
-    pub finishes : Limits (sizesOf J) → sizesOf J .globals ≤ i → Collected prog k₀ e₀ p₀ f₀ k e p (globals passed at n f) memo m T U
+    pub finishes : Limits (sizesOf J) → sizesOf J .globals ≤ i → Collected prog k₀ e₀ p₀ ix₀ f₀ k e p ix (globals passed at n f) memo m T U
     finishes w h = record {
       context = has σ (H .pairs);
       does = record {
@@ -265,9 +265,9 @@ unfolding newContext
 twice prog room s name l q = ap (λ o. andThen (noDuplicate o s) (λ _. processActions room prog nameGlobalActions (prog .globals) (startContext []))) (ap optionOf (sym l) ∙ q)
 
 -- the context: refused, or with its marks closed
-module _ {prog : Program} {k e p : List ℕ} {f : Fill} {l : Looked} (q : optionOf l ≡ duplicateRuleName [] (prog .rules)) where
-  pub context-twice : {name : ℕ} {memo m T U : List ℕ} → Stored k e p f → l ≡ Looked.Some name
-      → Context prog k e p f k e p (globals (refusal 44 1 (name ∷ 0 ∷ 0 ∷ 0 ∷ 0 ∷ 0 ∷ [])) 0 0 f) memo m T U
+module _ {prog : Program} {k e p ix : List ℕ} {f : Fill} {l : Looked} (q : optionOf l ≡ duplicateRuleName [] (prog .rules)) where
+  pub context-twice : {name : ℕ} {memo m T U : List ℕ} → Indexed k e p ix f → l ≡ Looked.Some name
+      → Context prog k e p ix f k e p ix (globals (refusal 44 1 (name ∷ 0 ∷ 0 ∷ 0 ∷ 0 ∷ 0 ∷ [])) 0 0 f) memo m T U
   context-twice {name} S n = record {
     context = startContext [];
     does = does-here S (twice prog (roomOf k p) (termsIn k e p f) name n q);
@@ -283,11 +283,11 @@ module _ {prog : Program} {k e p : List ℕ} {f : Fill} {l : Looked} (q : option
       never : _≡_ {A = ℕ} 44 0 → ⊥
       never z = omega arith
 
-  module _ {k₁ e₁ p₁ : List ℕ} {r : Globals} {memo₁ m₁ T₁ U₁ : List ℕ} (n : l ≡ Looked.None) (C : Collected prog k e p f k₁ e₁ p₁ r memo₁ m₁ T₁ U₁) where
-    does-new : Does k e p f k₁ e₁ p₁ (r .fill) (r .refusal) (C .context) (newContext (roomOf k p) prog (termsIn k e p f))
+  module _ {k₁ e₁ p₁ ix₁ : List ℕ} {r : Globals} {memo₁ m₁ T₁ U₁ : List ℕ} (n : l ≡ Looked.None) (C : Collected prog k e p ix f k₁ e₁ p₁ ix₁ r memo₁ m₁ T₁ U₁) where
+    does-new : Does k e p ix f k₁ e₁ p₁ ix₁ (r .fill) (r .refusal) (C .context) (newContext (roomOf k p) prog (termsIn k e p f))
     does-new = record { outcome = C .does .outcome ∙ once prog (roomOf k p) (termsIn k e p f) n q; grown = C .does .grown }
 
-    pub context-stops : (r .refusal .number ≡ 0 → ⊥) → Context prog k e p f k₁ e₁ p₁ r memo₁ m₁ T₁ U₁
+    pub context-stops : (r .refusal .number ≡ 0 → ⊥) → Context prog k e p ix f k₁ e₁ p₁ ix₁ r memo₁ m₁ T₁ U₁
     context-stops h = record {
       context = C .context;
       does = does-new;
@@ -300,7 +300,7 @@ module _ {prog : Program} {k e p : List ℕ} {f : Fill} {l : Looked} (q : option
       unions = C .unions;
     }
 
-    pub context-goes : {m₂ : List ℕ} → length k ≤ length m₁ → m₂ ≡ close (termsIn k₁ e₁ p₁ (r .fill)) (r .fill .cells) m₁ → Context prog k e p f k₁ e₁ p₁ r memo₁ m₂ T₁ U₁
+    pub context-goes : {m₂ : List ℕ} → length k ≤ length m₁ → m₂ ≡ close (termsIn k₁ e₁ p₁ (r .fill)) (r .fill .cells) m₁ → Context prog k e p ix f k₁ e₁ p₁ ix₁ r memo₁ m₂ T₁ U₁
     context-goes {m₂} l c = record {
       context = C .context;
       does = does-new;
@@ -310,7 +310,7 @@ module _ {prog : Program} {k e p : List ℕ} {f : Fill} {l : Looked} (q : option
       sane = C .sane;
       pairs = λ z. record {
         others = C .others z;
-        reflexive = marks-closed (r .fill .cells) (terms-length k₁ e₁ p₁ (r .fill)) (C .sane z .ordered) (let a = C .does .grown .stored .formed .kinds in let b = C .does .grown .lenK in omega arith) (C .marks z) c;
+        reflexive = marks-closed (r .fill .cells) (terms-length k₁ e₁ p₁ (r .fill)) (C .sane z .ordered) (let a = C .does .grown .indexed .stored .formed .kinds in let b = C .does .grown .lenK in omega arith) (C .marks z) c;
       };
       table = C .table;
       unions = C .unions;

@@ -11,7 +11,7 @@ use Rattle.model.specs.Evaluate.{same}
 use Rattle.model.specs.Action.{ActionContext, startContext, processAction, processActions, sameProposition, among}
 use Rattle.model.specs.Walk.{newContext}
 use Rattle.model.specs.Term.{Extends}
-use Rattle.cells.specs.declared.Fill.{Fill}
+use Rattle.index.specs.declared.Fill.{Fill}
 use Rattle.termdag.specs.Store.{termsIn, roomOf}
 use Rattle.memo.specs.Memo.{Past}
 use Rattle.outcome.specs.Does.{Does}
@@ -44,9 +44,9 @@ pub record GlobalPairs (ps : List Proposition) (U m : List ℕ) : Type 0 where
   pub reflexive : (x : ℕ) → ltb 0 (getD m x 0) ≡ among (same x) ps
 
 -- One action a in a context whose bindings the table T has from `at` on, and whose unions are the first n words of U: the context after.
-pub record Turned (prog : Program) (a : Action) (K E P : List ℕ) (f : Fill) (m T : List ℕ) (at : ℕ) (U : List ℕ) (n : ℕ) (K′ E′ P′ : List ℕ) (r : Globals) (memo′ m′ T′ U′ : List ℕ) : Type 0 where
+pub record Turned (prog : Program) (a : Action) (K E P I : List ℕ) (f : Fill) (m T : List ℕ) (at : ℕ) (U : List ℕ) (n : ℕ) (K′ E′ P′ I′ : List ℕ) (r : Globals) (memo′ m′ T′ U′ : List ℕ) : Type 0 where
   pub pairs : List Proposition
-  pub does : (ps : List Proposition) → Does K E P f K′ E′ P′ (r .fill) (r .refusal) (record { bindings = readBindings (drop (r .bindings) T′); pairs = ps ++ pairs })
+  pub does : (ps : List Proposition) → Does K E P I f K′ E′ P′ I′ (r .fill) (r .refusal) (record { bindings = readBindings (drop (r .bindings) T′); pairs = ps ++ pairs })
       (processAction (roomOf K P) prog nameGlobalActions (record { bindings = readBindings (drop at T); pairs = ps }) a (termsIn K E P f))
   pub past : r .refusal .number ≡ 0 → Past memo′
   pub grows : r .refusal .number ≡ 0 → Extends (termsIn K E P f) (termsIn K′ E′ P′ (r .fill))
@@ -59,9 +59,9 @@ pub record Turned (prog : Program) (a : Action) (K E P : List ℕ) (f : Fill) (m
   pub unions : r .unions ≤ n + 2
 
 -- The global actions, with marks that are not closed yet.
-pub record Collected (prog : Program) (K E P : List ℕ) (f : Fill) (K′ E′ P′ : List ℕ) (r : Globals) (memo′ m′ T′ U′ : List ℕ) : Type 0 where
+pub record Collected (prog : Program) (K E P I : List ℕ) (f : Fill) (K′ E′ P′ I′ : List ℕ) (r : Globals) (memo′ m′ T′ U′ : List ℕ) : Type 0 where
   pub context : ActionContext
-  pub does : Does K E P f K′ E′ P′ (r .fill) (r .refusal) context (processActions (roomOf K P) prog nameGlobalActions (prog .globals) (startContext []) (termsIn K E P f))
+  pub does : Does K E P I f K′ E′ P′ I′ (r .fill) (r .refusal) context (processActions (roomOf K P) prog nameGlobalActions (prog .globals) (startContext []) (termsIn K E P f))
   pub past : r .refusal .number ≡ 0 → Past memo′
   pub grows : r .refusal .number ≡ 0 → Extends (termsIn K E P f) (termsIn K′ E′ P′ (r .fill))
   pub bindings : r .refusal .number ≡ 0 → context .bindings ≡ readBindings (drop (r .bindings) T′)
@@ -72,9 +72,9 @@ pub record Collected (prog : Program) (K E P : List ℕ) (f : Fill) (K′ E′ P
   pub unions : r .unions ≤ 512
 
 -- `ProofCheckContext::new`: the context, its bindings in the table from r .bindings on, and its pairs as unions and marks.
-pub record Context (prog : Program) (K E P : List ℕ) (f : Fill) (K′ E′ P′ : List ℕ) (r : Globals) (memo′ m′ T′ U′ : List ℕ) : Type 0 where
+pub record Context (prog : Program) (K E P I : List ℕ) (f : Fill) (K′ E′ P′ I′ : List ℕ) (r : Globals) (memo′ m′ T′ U′ : List ℕ) : Type 0 where
   pub context : ActionContext
-  pub does : Does K E P f K′ E′ P′ (r .fill) (r .refusal) context (newContext (roomOf K P) prog (termsIn K E P f))
+  pub does : Does K E P I f K′ E′ P′ I′ (r .fill) (r .refusal) context (newContext (roomOf K P) prog (termsIn K E P f))
   pub past : r .refusal .number ≡ 0 → Past memo′
   pub grows : r .refusal .number ≡ 0 → Extends (termsIn K E P f) (termsIn K′ E′ P′ (r .fill))
   pub bindings : r .refusal .number ≡ 0 → context .bindings ≡ readBindings (drop (r .bindings) T′)

@@ -2,9 +2,9 @@
 use actions::Effect;
 use actions::process_action;
 use actions::push_binding;
-use cells::Fill;
 use decode::Name;
 use decode::Proposition;
+use index::Fill;
 use marks::clear;
 use marks::close;
 use marks::is_marked;
@@ -86,6 +86,7 @@ fn global_action(
     skinds: &mut [u32],
     sends: &mut [u32],
     spool: &mut [u32],
+    index: &mut [u32],
     fill: Fill,
     memo: &mut [u32],
     marks: &mut [u32],
@@ -95,13 +96,13 @@ fn global_action(
     n: usize,
     i: u32,
 ) -> Globals
-    requires { ⌜ Standing (now job) (readBindings (drop at (now table))) (now skinds) (now sends) (now spool) fill (now memo) (now marks) ⌝ }
+    requires { ⌜ Standing (now job) (readBindings (drop at (now table))) (now skinds) (now sends) (now spool) (now index) fill (now memo) (now marks) ⌝ }
     requires { ⌜ i < sizesOf (now job) .actions ⌝ }
     requires { ⌜ 2 ≤ at ⌝ }
     requires { ⌜ at ≤ length (now table) ⌝ }
     requires { ⌜ n + 2 ≤ length (now unions) ⌝ }
     requires { ⌜ Even n ⌝ }
-    ensures { λ r. ⌜ Turned (programFor (now (job .entry))) (actionFor (now (job .entry)) i) (now (skinds .entry)) (now (sends .entry)) (now (spool .entry)) fill (now (marks .entry)) (now (table .entry)) at (now (unions .entry)) n (now (skinds .exit)) (now (sends .exit)) (now (spool .exit)) r (now (memo .exit)) (now (marks .exit)) (now (table .exit)) (now (unions .exit)) ⌝ }
+    ensures { λ r. ⌜ Turned (programFor (now (job .entry))) (actionFor (now (job .entry)) i) (now (skinds .entry)) (now (sends .entry)) (now (spool .entry)) (now (index .entry)) fill (now (marks .entry)) (now (table .entry)) at (now (unions .entry)) n (now (skinds .exit)) (now (sends .exit)) (now (spool .exit)) (now (index .exit)) r (now (memo .exit)) (now (marks .exit)) (now (table .exit)) (now (unions .exit)) ⌝ }
 {
     let rule = Name::GLOBAL_ACTIONS.number;
     let none = &job[..0];
@@ -114,6 +115,7 @@ fn global_action(
         skinds,
         sends,
         spool,
+        index,
         fill,
         memo,
         true,
@@ -147,17 +149,18 @@ fn global_actions(
     skinds: &mut [u32],
     sends: &mut [u32],
     spool: &mut [u32],
+    index: &mut [u32],
     fill: Fill,
     memo: &mut [u32],
     marks: &mut [u32],
     table: &mut [u32],
     unions: &mut [u32],
 ) -> Globals
-    requires { ⌜ Standing (now job) [] (now skinds) (now sends) (now spool) fill (now memo) (now marks) ⌝ }
+    requires { ⌜ Standing (now job) [] (now skinds) (now sends) (now spool) (now index) fill (now memo) (now marks) ⌝ }
     requires { ⌜ Marks (termsIn (now skinds) (now sends) (now spool) fill) (now marks) [] ⌝ }
     requires { ⌜ length (now table) ≡ 512 ⌝ }
     requires { ⌜ length (now unions) ≡ 512 ⌝ }
-    ensures { λ r. ⌜ Collected (programFor (now (job .entry))) (now (skinds .entry)) (now (sends .entry)) (now (spool .entry)) fill (now (skinds .exit)) (now (sends .exit)) (now (spool .exit)) r (now (memo .exit)) (now (marks .exit)) (now (table .exit)) (now (unions .exit)) ⌝ }
+    ensures { λ r. ⌜ Collected (programFor (now (job .entry))) (now (skinds .entry)) (now (sends .entry)) (now (spool .entry)) (now (index .entry)) fill (now (skinds .exit)) (now (sends .exit)) (now (spool .exit)) (now (index .exit)) r (now (memo .exit)) (now (marks .exit)) (now (table .exit)) (now (unions .exit)) ⌝ }
 {
     let count = globals(job);
     let mut have = fill;
@@ -170,6 +173,7 @@ fn global_actions(
             skinds,
             sends,
             spool,
+            index,
             have,
             memo,
             marks,
@@ -205,16 +209,17 @@ pub fn new_context(
     skinds: &mut [u32],
     sends: &mut [u32],
     spool: &mut [u32],
+    index: &mut [u32],
     fill: Fill,
     memo: &mut [u32],
     marks: &mut [u32],
     table: &mut [u32],
     unions: &mut [u32],
 ) -> Globals
-    requires { ⌜ Standing (now job) [] (now skinds) (now sends) (now spool) fill (now memo) (now marks) ⌝ }
+    requires { ⌜ Standing (now job) [] (now skinds) (now sends) (now spool) (now index) fill (now memo) (now marks) ⌝ }
     requires { ⌜ length (now table) ≡ 512 ⌝ }
     requires { ⌜ length (now unions) ≡ 512 ⌝ }
-    ensures { λ r. ⌜ Context (programFor (now (job .entry))) (now (skinds .entry)) (now (sends .entry)) (now (spool .entry)) fill (now (skinds .exit)) (now (sends .exit)) (now (spool .exit)) r (now (memo .exit)) (now (marks .exit)) (now (table .exit)) (now (unions .exit)) ⌝ }
+    ensures { λ r. ⌜ Context (programFor (now (job .entry))) (now (skinds .entry)) (now (sends .entry)) (now (spool .entry)) (now (index .entry)) fill (now (skinds .exit)) (now (sends .exit)) (now (spool .exit)) (now (index .exit)) r (now (memo .exit)) (now (marks .exit)) (now (table .exit)) (now (unions .exit)) ⌝ }
 {
     let duplicate = duplicate_rule_name(job);
     if let Looked::Some(name) = duplicate {
@@ -230,7 +235,18 @@ pub fn new_context(
         };
     }
     clear(marks);
-    let r = global_actions(job, skinds, sends, spool, fill, memo, marks, table, unions);
+    let r = global_actions(
+        job,
+        skinds,
+        sends,
+        spool,
+        index,
+        fill,
+        memo,
+        marks,
+        table,
+        unions,
+    );
     if r.refusal.number != 0 {
         return r;
     }

@@ -7,11 +7,12 @@ use entry::check;
 ghost use Prim.Native.Nat.{_≤_, _<_};
 ghost use lib.ListN.{length};
 
-// Checks a job with a store and scratch of its own, and writes the answer.
+// Checks a job with a store, index and scratch of its own, and writes the answer.
 fn check_job(words: &[u32], asked: u32) {
     let mut kinds = [0u32; 256];
     let mut ends = [0u32; 256];
     let mut pool = [0u32; 2048];
+    let mut index = [0u32; 512];
     let mut scratch = [0u32; 1024];
     let mut answer = [0u32; 8];
     check(
@@ -21,6 +22,7 @@ fn check_job(words: &[u32], asked: u32) {
         &mut kinds,
         &mut ends,
         &mut pool,
+        &mut index,
         &mut scratch,
         &mut answer,
     );

@@ -44,20 +44,31 @@ pub fn check(
     kinds: &mut [u32],
     ends: &mut [u32],
     pool: &mut [u32],
+    index: &mut [u32],
     scratch: &mut [u32],
     answer: &mut [u32],
 ) -> u32
-    ensures { λ r. ⌜ record { number = r; answer = now (answer .exit); arrays = record { kinds = now (kinds .exit); ends = now (ends .exit); pool = now (pool .exit) } } ≡ entry (now (job .entry)) asked mode (record { kinds = now (kinds .entry); ends = now (ends .entry); pool = now (pool .entry) }) (length (now (scratch .entry))) (now (answer .entry)) ⌝ }
+    ensures { λ r. ⌜ record { number = r; answer = now (answer .exit); arrays = record { kinds = now (kinds .exit); ends = now (ends .exit); pool = now (pool .exit) } } ≡ entry (now (job .entry)) asked mode (record { kinds = now (kinds .entry); ends = now (ends .entry); pool = now (pool .entry) }) (length (now (index .entry))) (length (now (scratch .entry))) (now (answer .entry)) ⌝ }
 {
     if answer.len() != 8 {
         return 10;
     }
-    let p = prepare(job, asked, mode, kinds, ends, pool, scratch.len());
+    let p = prepare(job, asked, mode, kinds, ends, pool, index, scratch.len());
     if p.refusal.number != 0 {
         let refusal = p.refusal;
         return write_refusal(answer, refusal, 0);
     }
     let fill = p.fill;
-    let r = check_proof(job, mode == 1, kinds, ends, pool, fill, scratch, asked);
+    let r = check_proof(
+        job,
+        mode == 1,
+        kinds,
+        ends,
+        pool,
+        index,
+        fill,
+        scratch,
+        asked,
+    );
     tell(job, wide(asked), r, answer)
 }

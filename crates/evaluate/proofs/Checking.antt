@@ -7,8 +7,8 @@ use Rattle.model.specs.Term.{Term}
 use Rattle.model.specs.Check.{Outcome, ok, refused, Check, andThen, Room}
 use Rattle.model.specs.Evaluate.{Value, evalExpr, evalFactExpr}
 use Rattle.model.specs.Program.{Expr, Program, Binding}
-use Rattle.cells.specs.declared.Fill.{Fill}
-use Rattle.termdag.specs.Store.{termsIn, Stored, roomOf}
+use Rattle.index.specs.declared.Fill.{Fill}
+use Rattle.termdag.specs.Store.{termsIn, Indexed, roomOf}
 use Rattle.memo.specs.Memo.{Past}
 use Rattle.outcome.specs.Does.{outcomeOf, Does}
 use Rattle.outcome.specs.declared.Refusal.{Refusal}
@@ -18,32 +18,32 @@ use Rattle.evaluate.specs.Value.{termOutcome, valueOf}
 use Rattle.evaluate.specs.Evaluation.{EvaluatesRoot, Checks}
 
 -- one after the other
-module _ {A B : Type 0} {K E P : List ℕ} {f : Fill} {K₁ E₁ P₁ : List ℕ} {f₁ : Fill} {r : Refusal} {a : A} {m₁ : List ℕ} {o : Outcome A} where
-  pub checks-then : {K₂ E₂ P₂ : List ℕ} {f₂ : Fill} {r₂ : Refusal} {b : B} {m₂ : List ℕ} (k : Room → A → Check B)
-      → Checks K E P f K₁ E₁ P₁ f₁ r a m₁ o → r .number ≡ 0
-      → Checks K₁ E₁ P₁ f₁ K₂ E₂ P₂ f₂ r₂ b m₂ (k (roomOf K₁ P₁) a (termsIn K₁ E₁ P₁ f₁))
-      → Checks K E P f K₂ E₂ P₂ f₂ r₂ b m₂ (andThen o (k (roomOf K P)))
+module _ {A B : Type 0} {K E P I : List ℕ} {f : Fill} {K₁ E₁ P₁ I₁ : List ℕ} {f₁ : Fill} {r : Refusal} {a : A} {m₁ : List ℕ} {o : Outcome A} where
+  pub checks-then : {K₂ E₂ P₂ I₂ : List ℕ} {f₂ : Fill} {r₂ : Refusal} {b : B} {m₂ : List ℕ} (k : Room → A → Check B)
+      → Checks K E P I f K₁ E₁ P₁ I₁ f₁ r a m₁ o → r .number ≡ 0
+      → Checks K₁ E₁ P₁ I₁ f₁ K₂ E₂ P₂ I₂ f₂ r₂ b m₂ (k (roomOf K₁ P₁) a (termsIn K₁ E₁ P₁ f₁))
+      → Checks K E P I f K₂ E₂ P₂ I₂ f₂ r₂ b m₂ (andThen o (k (roomOf K P)))
   checks-then k d e n = record { does = does-then k (d .does) e (n .does); past = n .past }
 
-  pub checks-stop : (b : B) (k : A → Check B) → Checks K E P f K₁ E₁ P₁ f₁ r a m₁ o → (r .number ≡ 0 → ⊥) → Checks K E P f K₁ E₁ P₁ f₁ r b m₁ (andThen o k)
+  pub checks-stop : (b : B) (k : A → Check B) → Checks K E P I f K₁ E₁ P₁ I₁ f₁ r a m₁ o → (r .number ≡ 0 → ⊥) → Checks K E P I f K₁ E₁ P₁ I₁ f₁ r b m₁ (andThen o k)
   checks-stop b k d h = record { does = does-stop b k (d .does) h; past = λ z. absurd (h z) }
 
-module _ {A : Type 0} {K E P : List ℕ} {f : Fill} {r : Refusal} {a : A} {m : List ℕ} {o : Outcome A} where
+module _ {A : Type 0} {K E P I : List ℕ} {f : Fill} {r : Refusal} {a : A} {m : List ℕ} {o : Outcome A} where
   -- a check that leaves the memo as it is
-  pub checks-does : {K₁ E₁ P₁ : List ℕ} {f₁ : Fill} → Past m → Does K E P f K₁ E₁ P₁ f₁ r a o → Checks K E P f K₁ E₁ P₁ f₁ r a m o
+  pub checks-does : {K₁ E₁ P₁ I₁ : List ℕ} {f₁ : Fill} → Past m → Does K E P I f K₁ E₁ P₁ I₁ f₁ r a o → Checks K E P I f K₁ E₁ P₁ I₁ f₁ r a m o
   checks-does p d = record { does = d; past = λ z. p }
 
   -- one that leaves the store as it is, too
-  pub checks-here : Stored K E P f → Past m → outcomeOf r a (termsIn K E P f) ≡ o → Checks K E P f K E P f r a m o
+  pub checks-here : Indexed K E P I f → Past m → outcomeOf r a (termsIn K E P f) ≡ o → Checks K E P I f K E P I f r a m o
   checks-here S p e = checks-does p (does-here S e)
 
   -- the same outcome, said otherwise
-  pub checks-as : {K₁ E₁ P₁ : List ℕ} {f₁ : Fill} {o′ : Outcome A} → o ≡ o′ → Checks K E P f K₁ E₁ P₁ f₁ r a m o → Checks K E P f K₁ E₁ P₁ f₁ r a m o′
-  checks-as {K₁} {E₁} {P₁} {f₁} e d = subst (Checks K E P f K₁ E₁ P₁ f₁ r a m) e d
+  pub checks-as : {K₁ E₁ P₁ I₁ : List ℕ} {f₁ : Fill} {o′ : Outcome A} → o ≡ o′ → Checks K E P I f K₁ E₁ P₁ I₁ f₁ r a m o → Checks K E P I f K₁ E₁ P₁ I₁ f₁ r a m o′
+  checks-as {K₁} {E₁} {P₁} {I₁} {f₁} e d = subst (Checks K E P I f K₁ E₁ P₁ I₁ f₁ r a m) e d
 
 -- an evaluation is a check
-pub checks-value : {args : ℕ → List ℕ} {eval : Room → ℕ → Check ℕ} {n e : ℕ} {K E P : List ℕ} {f : Fill} {K₁ E₁ P₁ : List ℕ} {c : Checked} {m : List ℕ}
-    → EvaluatesRoot args eval n e K E P f K₁ E₁ P₁ c m → Checks K E P f K₁ E₁ P₁ (c .fill) (c .refusal) (c .value) m (eval (roomOf K P) e (termsIn K E P f))
+pub checks-value : {args : ℕ → List ℕ} {eval : Room → ℕ → Check ℕ} {n e : ℕ} {K E P I : List ℕ} {f : Fill} {K₁ E₁ P₁ I₁ : List ℕ} {c : Checked} {m : List ℕ}
+    → EvaluatesRoot args eval n e K E P I f K₁ E₁ P₁ I₁ c m → Checks K E P I f K₁ E₁ P₁ I₁ (c .fill) (c .refusal) (c .value) m (eval (roomOf K P) e (termsIn K E P f))
 checks-value d = record { does = d .does; past = d .past }
 
 -- what is done with a value's term alone

@@ -8,8 +8,8 @@ use lib.ListN.{length, getD, set, take, drop, drop-of-length-le}
 use lib.Seq.{drop-cons, take-suc-set}
 use Rattle.model.specs.Term.{Term}
 use Rattle.model.specs.Check.{Outcome, ok, refused, Check, andThen, _>>=_, pure, Room}
-use Rattle.cells.specs.declared.Fill.{Fill}
-use Rattle.termdag.specs.Store.{termsIn, Stored, roomOf}
+use Rattle.index.specs.declared.Fill.{Fill}
+use Rattle.termdag.specs.Store.{termsIn, Indexed, roomOf}
 use Rattle.outcome.specs.Does.{refusalOf, outcomeOf, Grown, Does}
 use Rattle.outcome.specs.declared.Refusal.{Refusal}
 use Rattle.outcome.proofs.Laws.{ok-of, refused-of, grown-same, grown-then, room-same}
@@ -59,17 +59,17 @@ module _ {B : Type 0} where
       rest-refused r s′ q = rest-by q
 
   -- after the first i of xs, whose values are in vals; the whole gives o
-  pub record Run (eval : Room → ℕ → Check ℕ) (k : Room → List ℕ → Check B) (xs K₀ E₀ P₀ : List ℕ) (f₀ : Fill) (K E P : List ℕ) (f : Fill) (vals : List ℕ) (i : ℕ) (o : Outcome B) : Type 0 where
+  pub record Run (eval : Room → ℕ → Check ℕ) (k : Room → List ℕ → Check B) (xs K₀ E₀ P₀ I₀ : List ℕ) (f₀ : Fill) (K E P I : List ℕ) (f : Fill) (vals : List ℕ) (i : ℕ) (o : Outcome B) : Type 0 where
     pub upto : i ≤ length xs
-    pub grown : Grown K₀ E₀ P₀ f₀ K E P f
+    pub grown : Grown K₀ E₀ P₀ I₀ f₀ K E P I f
     pub left : rest (eval (roomOf K₀ P₀)) (k (roomOf K₀ P₀)) (take i vals) (drop i xs) (termsIn K E P f) ≡ o
 
-  pub run-start : {eval : Room → ℕ → Check ℕ} {k : Room → List ℕ → Check B} {xs K E P : List ℕ} {f : Fill} {vals : List ℕ} {o : Outcome B}
-      → Stored K E P f → rest (eval (roomOf K P)) (k (roomOf K P)) [] xs (termsIn K E P f) ≡ o → Run eval k xs K E P f K E P f vals 0 o
+  pub run-start : {eval : Room → ℕ → Check ℕ} {k : Room → List ℕ → Check B} {xs K E P I : List ℕ} {f : Fill} {vals : List ℕ} {o : Outcome B}
+      → Indexed K E P I f → rest (eval (roomOf K P)) (k (roomOf K P)) [] xs (termsIn K E P f) ≡ o → Run eval k xs K E P I f K E P I f vals 0 o
   run-start S e = record { upto = omega arith; grown = grown-same S; left = e }
 
-  module _ {eval : Room → ℕ → Check ℕ} {k : Room → List ℕ → Check B} {xs K₀ E₀ P₀ : List ℕ} {f₀ : Fill} {K E P : List ℕ} {f : Fill} {vals : List ℕ} {i : ℕ} {o : Outcome B}
-      (R : Run eval k xs K₀ E₀ P₀ f₀ K E P f vals i o) where
+  module _ {eval : Room → ℕ → Check ℕ} {k : Room → List ℕ → Check B} {xs K₀ E₀ P₀ I₀ : List ℕ} {f₀ : Fill} {K E P I : List ℕ} {f : Fill} {vals : List ℕ} {i : ℕ} {o : Outcome B}
+      (R : Run eval k xs K₀ E₀ P₀ I₀ f₀ K E P I f vals i o) where
     abbrev room : Room
     room = roomOf K₀ P₀
 
@@ -80,7 +80,7 @@ module _ {B : Type 0} where
     same-room = room-same (R .grown)
 
     -- the next one refused, or evaluated
-    module _ {K′ E′ P′ : List ℕ} {f′ : Fill} {r : Refusal} {a : ℕ} (h : i < length xs) (d : Does K E P f K′ E′ P′ f′ r a (eval (roomOf K P) (getD xs i 0) s)) where
+    module _ {K′ E′ P′ I′ : List ℕ} {f′ : Fill} {r : Refusal} {a : ℕ} (h : i < length xs) (d : Does K E P I f K′ E′ P′ I′ f′ r a (eval (roomOf K P) (getD xs i 0) s)) where
       abbrev s′ : List Term
       s′ = termsIn K′ E′ P′ f′
 
@@ -90,13 +90,13 @@ module _ {B : Type 0} where
       left-next : rest (eval room) (k room) (take i vals) (getD xs i 0 ∷ drop (suc i) xs) s ≡ o
       left-next = ap (λ (ys : List ℕ). rest (eval room) (k room) (take i vals) ys s) (sym (drop-cons xs i 0 h)) ∙ R .left
 
-      pub run-stop : (b : B) → (r .number ≡ 0 → ⊥) → Does K₀ E₀ P₀ f₀ K′ E′ P′ f′ r b o
+      pub run-stop : (b : B) → (r .number ≡ 0 → ⊥) → Does K₀ E₀ P₀ I₀ f₀ K′ E′ P′ I′ f′ r b o
       run-stop b z = record {
         outcome = refused-of r b s′ z ∙ sym (rest-refused (eval room) (k room) (take i vals) (getD xs i 0) (drop (suc i) xs) s r s′ (sym next ∙ refused-of r a s′ z)) ∙ left-next;
         grown = grown-then (R .grown) (d .grown);
       }
 
-      pub run-turn : i < length vals → r .number ≡ 0 → Run eval k xs K₀ E₀ P₀ f₀ K′ E′ P′ f′ (set vals i a) (i + 1) o
+      pub run-turn : i < length vals → r .number ≡ 0 → Run eval k xs K₀ E₀ P₀ I₀ f₀ K′ E′ P′ I′ f′ (set vals i a) (i + 1) o
       run-turn l z = record {
         upto = omega arith;
         grown = grown-then (R .grown) (d .grown);
@@ -108,8 +108,8 @@ module _ {B : Type 0} where
           values = ap (λ (j : ℕ). take j (set vals i a)) (add-one i) ∙ take-suc-set vals i a l
 
     -- all of them evaluated
-    pub run-done : {K′ E′ P′ : List ℕ} {f′ : Fill} {r : Refusal} {b : B} → length xs ≤ i → Does K E P f K′ E′ P′ f′ r b (k (roomOf K P) (take (length xs) vals) s)
-        → Does K₀ E₀ P₀ f₀ K′ E′ P′ f′ r b o
+    pub run-done : {K′ E′ P′ I′ : List ℕ} {f′ : Fill} {r : Refusal} {b : B} → length xs ≤ i → Does K E P I f K′ E′ P′ I′ f′ r b (k (roomOf K P) (take (length xs) vals) s)
+        → Does K₀ E₀ P₀ I₀ f₀ K′ E′ P′ I′ f′ r b o
     run-done h d = record {
       outcome = d .outcome
           ∙ (λ j. k (same-room j) (take (all j) vals) s)

@@ -16,8 +16,8 @@ use Rattle.model.specs.Decode.{argumentsBy}
 use Rattle.model.specs.Check.{Outcome, ok, refused, Check, andThen, Room}
 use Rattle.model.proofs.Post.{post-result}
 use Rattle.model.proofs.Store.{extends-same}
-use Rattle.cells.specs.declared.Fill.{Fill}
-use Rattle.termdag.specs.Store.{termsIn, Stored, roomOf}
+use Rattle.index.specs.declared.Fill.{Fill}
+use Rattle.termdag.specs.Store.{termsIn, Indexed, roomOf}
 use Rattle.memo.specs.Memo.{valueAt, isNoted, noteAt, Started}
 use Rattle.memo.proofs.Laws.{note-length, note-other, note-value-other, note-here, note-value, note-past}
 use Rattle.outcome.specs.Does.{passed, Does}
@@ -68,9 +68,9 @@ module _ (fact : Bool) (prog : Program) (rule : ℕ) (σ : List Binding) (n : �
   memo-room {s = s} {m = m} q M = subst (λ (x : Room). Memo args (eval x) n s m) q M
 
   -- after i arguments of e, whose numbers are xs
-  pub record Turn (e : ℕ) (xs K₀ E₀ P₀ : List ℕ) (f₀ : Fill) (m₀ K E P : List ℕ) (f : Fill) (m vals : List ℕ) (i : ℕ) : Type 0 where
+  pub record Turn (e : ℕ) (xs K₀ E₀ P₀ I₀ : List ℕ) (f₀ : Fill) (m₀ K E P I : List ℕ) (f : Fill) (m vals : List ℕ) (i : ℕ) : Type 0 where
     pub full : length vals ≡ 16
-    pub run : Run eval (value e) xs K₀ E₀ P₀ f₀ K E P f vals i (eval (roomOf K₀ P₀) e (termsIn K₀ E₀ P₀ f₀))
+    pub run : Run eval (value e) xs K₀ E₀ P₀ I₀ f₀ K E P I f vals i (eval (roomOf K₀ P₀) e (termsIn K₀ E₀ P₀ f₀))
     pub memo : Memo args (eval (roomOf K₀ P₀)) n (termsIn K E P f) m
     pub lenM : length m ≡ length m₀
     pub keeps : (k : ℕ) → k < n → isNoted m₀ k ≡ true → isNoted m k ≡ true
@@ -78,17 +78,17 @@ module _ (fact : Bool) (prog : Program) (rule : ℕ) (σ : List Binding) (n : �
     pub each : (j : ℕ) → j < i → isNoted m (getD xs j 0) ≡ true
 
   -- an expression that is noted
-  pub known : {e : ℕ} {K E P : List ℕ} {f : Fill} {m : List ℕ} {c : Checked} → e < n → Stored K E P f → Memo args (eval (roomOf K P)) n (termsIn K E P f) m → isNoted m e ≡ true
-      → c ≡ record { refusal = passed; value = valueAt m e; fill = f } → Evaluates args eval n e K E P f m K E P c m
-  known {e} {K} {E} {P} {f} {m} {c} h S M q d = subst (λ (x : Checked). Evaluates args eval n e K E P f m K E P x m) (sym d) (record {
+  pub known : {e : ℕ} {K E P I : List ℕ} {f : Fill} {m : List ℕ} {c : Checked} → e < n → Indexed K E P I f → Memo args (eval (roomOf K P)) n (termsIn K E P f) m → isNoted m e ≡ true
+      → c ≡ record { refusal = passed; value = valueAt m e; fill = f } → Evaluates args eval n e K E P I f m K E P I c m
+  known {e} {K} {E} {P} {I} {f} {m} {c} h S M q d = subst (λ (x : Checked). Evaluates args eval n e K E P I f m K E P I x m) (sym d) (record {
     does = does-here S (sym (M .value e h q));
     memo = λ z. M;
     noted = λ z. record { root = q; keeps = λ k l p. p; only = λ k l p. inl p };
   })
 
-  pub start : {e : ℕ} {xs K E P : List ℕ} {f : Fill} {m vals : List ℕ} → expr e ≡ node e (head e) (argumentsBy expr (args e)) → xs ≡ args e → Stored K E P f → Memo args (eval (roomOf K P)) n (termsIn K E P f) m → length vals ≡ 16
-      → Turn e xs K E P f m K E P f m vals 0
-  start {e} {xs} {K} {E} {P} {f} d q S M l = record {
+  pub start : {e : ℕ} {xs K E P I : List ℕ} {f : Fill} {m vals : List ℕ} → expr e ≡ node e (head e) (argumentsBy expr (args e)) → xs ≡ args e → Indexed K E P I f → Memo args (eval (roomOf K P)) n (termsIn K E P f) m → length vals ≡ 16
+      → Turn e xs K E P I f m K E P I f m vals 0
+  start {e} {xs} {K} {E} {P} {I} {f} d q S M l = record {
     full = l;
     run = run-start S (ap (λ (ys : List ℕ). rest (eval (roomOf K P)) (value e (roomOf K P)) [] ys (termsIn K E P f)) q ∙ rest-all (roomOf K P) e (termsIn K E P f) d);
     memo = M;
@@ -98,7 +98,7 @@ module _ (fact : Bool) (prog : Program) (rule : ℕ) (σ : List Binding) (n : �
     each = λ j h. absurd (not-suc-le-zero h);
   }
 
-  module _ {e : ℕ} {xs K₀ E₀ P₀ : List ℕ} {f₀ : Fill} {m₀ K E P : List ℕ} {f : Fill} {m vals : List ℕ} {i : ℕ} (T : Turn e xs K₀ E₀ P₀ f₀ m₀ K E P f m vals i) where
+  module _ {e : ℕ} {xs K₀ E₀ P₀ I₀ : List ℕ} {f₀ : Fill} {m₀ K E P I : List ℕ} {f : Fill} {m vals : List ℕ} {i : ℕ} (T : Turn e xs K₀ E₀ P₀ I₀ f₀ m₀ K E P I f m vals i) where
     abbrev room : Room
     room = roomOf K₀ P₀
 
@@ -109,8 +109,8 @@ module _ (fact : Bool) (prog : Program) (rule : ℕ) (σ : List Binding) (n : �
     pub next-memo : Memo args (eval (roomOf K P)) n (termsIn K E P f) m
     next-memo = memo-room (sym same-room) (T .memo)
 
-    module _ {K′ E′ P′ : List ℕ} {c : Checked} {m′ : List ℕ} (h : i < length xs) (d : Evaluates args eval n (getD xs i 0) K E P f m K′ E′ P′ c m′) where
-      pub stops : (c .refusal .number ≡ 0 → ⊥) → Evaluates args eval n e K₀ E₀ P₀ f₀ m₀ K′ E′ P′ c m′
+    module _ {K′ E′ P′ I′ : List ℕ} {c : Checked} {m′ : List ℕ} (h : i < length xs) (d : Evaluates args eval n (getD xs i 0) K E P I f m K′ E′ P′ I′ c m′) where
+      pub stops : (c .refusal .number ≡ 0 → ⊥) → Evaluates args eval n e K₀ E₀ P₀ I₀ f₀ m₀ K′ E′ P′ I′ c m′
       stops z = record {
         does = run-stop (T .run) h (d .does) (c .value) z;
         memo = λ q. absurd (z q);
@@ -118,7 +118,7 @@ module _ (fact : Bool) (prog : Program) (rule : ℕ) (σ : List Binding) (n : �
       }
 
       pub turns : xs ≡ args e → length xs ≤ 16 → ((j : ℕ) → j < length xs → getD xs j 0 < n) → length m′ ≡ length m → c .refusal .number ≡ 0
-          → Turn e xs K₀ E₀ P₀ f₀ m₀ K′ E′ P′ (c .fill) m′ (set vals i (c .value)) (i + 1)
+          → Turn e xs K₀ E₀ P₀ I₀ f₀ m₀ K′ E′ P′ I′ (c .fill) m′ (set vals i (c .value)) (i + 1)
       turns q few low l z = record {
         full = length-set vals i (c .value) ∙ T .full;
         run = run-turn (T .run) h (d .does) (let w = T .full in omega arith) z;
@@ -141,13 +141,13 @@ module _ (fact : Bool) (prog : Program) (rule : ℕ) (σ : List Binding) (n : �
               d .noted z .keeps (getD xs j 0) (low j (omega arith)) (T .each j lt)
 
     -- all arguments, the head's value, and its note
-    module _ {K′ E′ P′ : List ℕ} {c : Checked} {m′ : List ℕ} (h : length xs ≤ i) (q : xs ≡ args e) (lt : e < n)
-        (d : Does K E P f K′ E′ P′ (c .fill) (c .refusal) (c .value) (headTerm fact (roomOf K P) prog rule σ (head e) (take (length xs) vals) (termsIn K E P f)))
+    module _ {K′ E′ P′ I′ : List ℕ} {c : Checked} {m′ : List ℕ} (h : length xs ≤ i) (q : xs ≡ args e) (lt : e < n)
+        (d : Does K E P I f K′ E′ P′ I′ (c .fill) (c .refusal) (c .value) (headTerm fact (roomOf K P) prog rule σ (head e) (take (length xs) vals) (termsIn K E P f)))
         (g : m′ ≡ noteAt m e (c .value)) where
       abbrev s″ : List Term
       s″ = termsIn K′ E′ P′ (c .fill)
 
-      whole : Does K₀ E₀ P₀ f₀ K′ E′ P′ (c .fill) (c .refusal) (c .value) (eval room e (termsIn K₀ E₀ P₀ f₀))
+      whole : Does K₀ E₀ P₀ I₀ f₀ K′ E′ P′ I′ (c .fill) (c .refusal) (c .value) (eval room e (termsIn K₀ E₀ P₀ f₀))
       whole = run-done (T .run) h d
 
       module _ (z : c .refusal .number ≡ 0) where
@@ -201,8 +201,8 @@ module _ (fact : Bool) (prog : Program) (rule : ℕ) (σ : List Binding) (n : �
             only-at k u p true w = inr (here (eqb-true k e w))
             only-at k u p false w = T .only k u (sym (note-other m e (c .value) k (eqb-false k e w)) ∙ p)
 
-      pub finishes : Evaluates args eval n e K₀ E₀ P₀ f₀ m₀ K′ E′ P′ c m′
-      finishes = subst⁻¹ (Evaluates args eval n e K₀ E₀ P₀ f₀ m₀ K′ E′ P′ c) g (record {
+      pub finishes : Evaluates args eval n e K₀ E₀ P₀ I₀ f₀ m₀ K′ E′ P′ I′ c m′
+      finishes = subst⁻¹ (Evaluates args eval n e K₀ E₀ P₀ I₀ f₀ m₀ K′ E′ P′ I′ c) g (record {
         does = whole;
         memo = note-memo;
         noted = note-noted;
@@ -214,10 +214,10 @@ node-for {J} R e = expr-node (tablesFor J .expressions) (expressions-lower (size
 
 -- the head that was read
 pub at-head : (fact : Bool) (room : Room) (prog : Program) (rule : ℕ) (σ : List Binding) (ts : List ℕ) (s : List Term) {g h : Head}
-    {K E P : List ℕ} {f : Fill} {K′ E′ P′ : List ℕ} {f′ : Fill} {r : Refusal} {a : ℕ} → g ≡ h
-    → Does K E P f K′ E′ P′ f′ r a (headTerm fact room prog rule σ g ts s) → Does K E P f K′ E′ P′ f′ r a (headTerm fact room prog rule σ h ts s)
-at-head fact room prog rule σ ts s {K = K} {E = E} {P = P} {f = f} {K′ = K′} {E′ = E′} {P′ = P′} {f′ = f′} {r = r} {a = a} e d =
-    subst (λ (x : Head). Does K E P f K′ E′ P′ f′ r a (headTerm fact room prog rule σ x ts s)) e d
+    {K E P I : List ℕ} {f : Fill} {K′ E′ P′ I′ : List ℕ} {f′ : Fill} {r : Refusal} {a : ℕ} → g ≡ h
+    → Does K E P I f K′ E′ P′ I′ f′ r a (headTerm fact room prog rule σ g ts s) → Does K E P I f K′ E′ P′ I′ f′ r a (headTerm fact room prog rule σ h ts s)
+at-head fact room prog rule σ ts s {K = K} {E = E} {P = P} {I = I} {f = f} {K′ = K′} {E′ = E′} {P′ = P′} {I′ = I′} {f′ = f′} {r = r} {a = a} e d =
+    subst (λ (x : Head). Does K E P I f K′ E′ P′ I′ f′ r a (headTerm fact room prog rule σ x ts s)) e d
 
 -- an evaluation by itself: the memo says nothing yet
 pub root-memo : {args : ℕ → List ℕ} {eval : ℕ → Check ℕ} {n : ℕ} {s : List Term} {m : List ℕ} → n + n < length m → Started m → Memo args eval n s m
@@ -232,11 +232,11 @@ module _ (fact : Bool) (J : List ℕ) (rule : ℕ) (σ : List Binding) where
   value-is : (room : Room) (e : ℕ) (s : List Term) → evalFor fact J rule σ room e s ≡ valueFor fact J rule σ room e s
   value-is room e s = sym (value-term fact room (programFor J) rule σ (exprFor J e) s)
 
-  pub root-done : {e : ℕ} {k e′ p : List ℕ} {f : Fill} {m k′ e″ p′ : List ℕ} {c : Checked} {m′ : List ℕ} → Ready J → e < sizesOf J .expressions → Started m
-      → Evaluates (argumentsFor J) (evalFor fact J rule σ) (sizesOf J .expressions) e k e′ p f m k′ e″ p′ c m′
-      → EvaluatesRoot (argumentsFor J) (valueFor fact J rule σ) (sizesOf J .expressions) e k e′ p f k′ e″ p′ c m′
-  root-done {e} {k} {e′} {p} {f} {m} {k′} {e″} {p′} {c} {m′} R h S d = record {
-    does = subst (Does k e′ p f k′ e″ p′ (c .fill) (c .refusal) (c .value)) (value-is (roomOf k p) e (termsIn k e′ p f)) (d .does);
+  pub root-done : {e : ℕ} {k e′ p ix : List ℕ} {f : Fill} {m k′ e″ p′ ix′ : List ℕ} {c : Checked} {m′ : List ℕ} → Ready J → e < sizesOf J .expressions → Started m
+      → Evaluates (argumentsFor J) (evalFor fact J rule σ) (sizesOf J .expressions) e k e′ p ix f m k′ e″ p′ ix′ c m′
+      → EvaluatesRoot (argumentsFor J) (valueFor fact J rule σ) (sizesOf J .expressions) e k e′ p ix f k′ e″ p′ ix′ c m′
+  root-done {e} {k} {e′} {p} {ix} {f} {m} {k′} {e″} {p′} {ix′} {c} {m′} R h S d = record {
+    does = subst (Does k e′ p ix f k′ e″ p′ ix′ (c .fill) (c .refusal) (c .value)) (value-is (roomOf k p) e (termsIn k e′ p f)) (d .does);
     past = λ q. d .memo q .past;
     value = λ q j l u. sym (value-is (roomOf k p) j (termsIn k′ e″ p′ (c .fill))) ∙ d .memo q .value j l u;
     below = λ q j r. reach q e h (d .noted q .root) j r;

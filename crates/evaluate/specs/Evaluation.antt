@@ -13,7 +13,7 @@ use Rattle.memo.specs.Memo.{valueAt, isNoted, Past}
 use Rattle.outcome.specs.Does.{Does}
 use Rattle.outcome.specs.declared.Checked.{Checked}
 use Rattle.outcome.specs.declared.Refusal.{Refusal}
-use Rattle.cells.specs.declared.Fill.{Fill}
+use Rattle.index.specs.declared.Fill.{Fill}
 use Rattle.evaluate.specs.Value.{Reaches}
 
 -- Children are lower than their own number, and the terms that the bindings and the rows name are in the store.
@@ -36,20 +36,20 @@ pub record Noted (args : ℕ → List ℕ) (n e : ℕ) (m m′ : List ℕ) : Typ
   pub only : (k : ℕ) → k < n → isNoted m′ k ≡ true → (isNoted m k ≡ true) ⊎ Reaches args k e
 
 -- The evaluation of e, with a memo that holds in the store: the outcome is the definition's, and after a value the memo holds in the store that there is.
-pub record Evaluates (args : ℕ → List ℕ) (eval : Room → ℕ → Check ℕ) (n e : ℕ) (K E P : List ℕ) (f : Fill) (m K′ E′ P′ : List ℕ) (r : Checked) (m′ : List ℕ) : Type 0 where
-  pub does : Does K E P f K′ E′ P′ (r .fill) (r .refusal) (r .value) (eval (roomOf K P) e (termsIn K E P f))
+pub record Evaluates (args : ℕ → List ℕ) (eval : Room → ℕ → Check ℕ) (n e : ℕ) (K E P I : List ℕ) (f : Fill) (m K′ E′ P′ I′ : List ℕ) (r : Checked) (m′ : List ℕ) : Type 0 where
+  pub does : Does K E P I f K′ E′ P′ I′ (r .fill) (r .refusal) (r .value) (eval (roomOf K P) e (termsIn K E P f))
   pub memo : r .refusal .number ≡ 0 → Memo args (eval (roomOf K P)) n (termsIn K′ E′ P′ (r .fill)) m′
   pub noted : r .refusal .number ≡ 0 → Noted args n e m m′
 
 -- The evaluation of e by itself: what is noted then is e with all below it.
-pub record EvaluatesRoot (args : ℕ → List ℕ) (eval : Room → ℕ → Check ℕ) (n e : ℕ) (K E P : List ℕ) (f : Fill) (K′ E′ P′ : List ℕ) (r : Checked) (m′ : List ℕ) : Type 0 where
-  pub does : Does K E P f K′ E′ P′ (r .fill) (r .refusal) (r .value) (eval (roomOf K P) e (termsIn K E P f))
+pub record EvaluatesRoot (args : ℕ → List ℕ) (eval : Room → ℕ → Check ℕ) (n e : ℕ) (K E P I : List ℕ) (f : Fill) (K′ E′ P′ I′ : List ℕ) (r : Checked) (m′ : List ℕ) : Type 0 where
+  pub does : Does K E P I f K′ E′ P′ I′ (r .fill) (r .refusal) (r .value) (eval (roomOf K P) e (termsIn K E P f))
   pub past : r .refusal .number ≡ 0 → Past m′
   pub value : r .refusal .number ≡ 0 → (k : ℕ) → k < n → isNoted m′ k ≡ true → eval (roomOf K P) k (termsIn K′ E′ P′ (r .fill)) ≡ ok (valueAt m′ k) (termsIn K′ E′ P′ (r .fill))
   pub below : r .refusal .number ≡ 0 → (k : ℕ) → Reaches args k e → isNoted m′ k ≡ true
   pub only : r .refusal .number ≡ 0 → (k : ℕ) → k < n → isNoted m′ k ≡ true → Reaches args k e
 
 -- The contract of a check that evaluates: value a or refusal r, and the terms after, are the outcome o of the definition; after a value the memo m′ can be used again.
-pub record Checks {A : Type 0} (K E P : List ℕ) (f : Fill) (K′ E′ P′ : List ℕ) (f′ : Fill) (r : Refusal) (a : A) (m′ : List ℕ) (o : Outcome A) : Type 0 where
-  pub does : Does K E P f K′ E′ P′ f′ r a o
+pub record Checks {A : Type 0} (K E P I : List ℕ) (f : Fill) (K′ E′ P′ I′ : List ℕ) (f′ : Fill) (r : Refusal) (a : A) (m′ : List ℕ) (o : Outcome A) : Type 0 where
+  pub does : Does K E P I f K′ E′ P′ I′ f′ r a o
   pub past : r .number ≡ 0 → Past m′

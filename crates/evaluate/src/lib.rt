@@ -1,9 +1,9 @@
 // The value of an expression: `eval_expr_with_subst` of proof_checker.rs, and the method of `ProofStore` that has the same name. Each expression is evaluated at
 // most once in an evaluation.
-use cells::Fill;
 use cells::wide;
 use computing::computed;
 use decode::Head;
+use index::Fill;
 use outcome::Checked;
 use outcome::add_app;
 use outcome::add_lit;
@@ -25,7 +25,7 @@ ghost use Rattle.model.specs.Layout.{sizesOf};
 ghost use Rattle.model.specs.Term.{Term};
 ghost use Rattle.model.specs.Check.{orRefuse};
 ghost use Rattle.model.specs.Evaluate.{lookup, validated};
-ghost use Rattle.termdag.specs.Store.{termsIn, Stored, roomOf};
+ghost use Rattle.termdag.specs.Store.{termsIn, Indexed, roomOf};
 ghost use Rattle.program.specs.Ready.{Ready, programFor, optionOf};
 ghost use Rattle.decode.specs.View.{headOf};
 ghost use Rattle.decode.specs.declared.Head as heads;
@@ -57,16 +57,16 @@ fn validated(
     skinds: &mut [u32],
     sends: &mut [u32],
     spool: &mut [u32],
+    index: &mut [u32],
     fill: Fill,
-    near: u32,
     p: u32,
     args: &[u32],
 ) -> Checked
     requires { ⌜ Ready (now job) ⌝ }
-    requires { ⌜ Stored (now skinds) (now sends) (now spool) fill ⌝ }
+    requires { ⌜ Indexed (now skinds) (now sends) (now spool) (now index) fill ⌝ }
     requires { ⌜ p < sizesOf (now job) .primitives ⌝ }
     requires { ⌜ 0 < n ⌝ }
-    ensures { λ r. ⌜ Does (now (skinds .entry)) (now (sends .entry)) (now (spool .entry)) fill (now (skinds .exit)) (now (sends .exit)) (now (spool .exit)) (r .fill) (r .refusal) (r .value) (validated (roomOf (now (skinds .entry)) (now (spool .entry))) (programFor (now (job .entry))) n p (now (args .entry)) (termsIn (now (skinds .entry)) (now (sends .entry)) (now (spool .entry)) fill)) ⌝ }
+    ensures { λ r. ⌜ Does (now (skinds .entry)) (now (sends .entry)) (now (spool .entry)) (now (index .entry)) fill (now (skinds .exit)) (now (sends .exit)) (now (spool .exit)) (now (index .exit)) (r .fill) (r .refusal) (r .value) (validated (roomOf (now (skinds .entry)) (now (spool .entry))) (programFor (now (job .entry))) n p (now (args .entry)) (termsIn (now (skinds .entry)) (now (sends .entry)) (now (spool .entry)) fill)) ⌝ }
 {
     let primitive = primitive_at(job, wide(p));
     if !primitive.validator {
@@ -77,8 +77,8 @@ fn validated(
             skinds,
             sends,
             spool,
+            index,
             fill,
-            near,
             primitive.kind,
             primitive.name,
             args,
@@ -121,22 +121,22 @@ fn custom_value(
     skinds: &mut [u32],
     sends: &mut [u32],
     spool: &mut [u32],
+    index: &mut [u32],
     fill: Fill,
-    near: u32,
     f: u32,
     args: &[u32],
 ) -> Checked
-    requires { ⌜ Stored (now skinds) (now sends) (now spool) fill ⌝ }
+    requires { ⌜ Indexed (now skinds) (now sends) (now spool) (now index) fill ⌝ }
     requires { ⌜ length (now args) ≤ 16 ⌝ }
-    ensures { λ r. ⌜ Does (now (skinds .entry)) (now (sends .entry)) (now (spool .entry)) fill (now (skinds .exit)) (now (sends .exit)) (now (spool .exit)) (r .fill) (r .refusal) (r .value) (customTerm fact (roomOf (now (skinds .entry)) (now (spool .entry))) f (now (args .entry)) (termsIn (now (skinds .entry)) (now (sends .entry)) (now (spool .entry)) fill)) ⌝ }
+    ensures { λ r. ⌜ Does (now (skinds .entry)) (now (sends .entry)) (now (spool .entry)) (now (index .entry)) fill (now (skinds .exit)) (now (sends .exit)) (now (spool .exit)) (now (index .exit)) (r .fill) (r .refusal) (r .value) (customTerm fact (roomOf (now (skinds .entry)) (now (spool .entry))) f (now (args .entry)) (termsIn (now (skinds .entry)) (now (sends .entry)) (now (spool .entry)) fill)) ⌝ }
 {
     if fact {
         return refuse1(52, f, fill);
     }
-    add_app(skinds, sends, spool, fill, near, f, args)
+    add_app(skinds, sends, spool, index, fill, f, args)
 }
 
-// The value of an expression from its head and its arguments' values. The term near is looked at first.
+// The value of an expression from its head and its arguments' values.
 pub fn head_value(
     job: &[u32],
     bound: &[u32],
@@ -147,25 +147,25 @@ pub fn head_value(
     skinds: &mut [u32],
     sends: &mut [u32],
     spool: &mut [u32],
+    index: &mut [u32],
     fill: Fill,
-    near: u32,
     head: Head,
     args: &[u32],
 ) -> Checked
     requires { ⌜ Ready (now job) ⌝ }
-    requires { ⌜ Stored (now skinds) (now sends) (now spool) fill ⌝ }
+    requires { ⌜ Indexed (now skinds) (now sends) (now spool) (now index) fill ⌝ }
     requires { ⌜ length (now args) ≤ 16 ⌝ }
     requires { ⌜ ((p : ℕ) → head ≡ heads.Head.Primitive p → p < sizesOf (now job) .primitives) ⌝ }
-    ensures { λ r. ⌜ Does (now (skinds .entry)) (now (sends .entry)) (now (spool .entry)) fill (now (skinds .exit)) (now (sends .exit)) (now (spool .exit)) (r .fill) (r .refusal) (r .value) (headTerm fact (roomOf (now (skinds .entry)) (now (spool .entry))) (programFor (now (job .entry))) rule (bindingsIn (now (bound .entry)) (now (pairs .entry)) (now (globals .entry))) (headOf head) (now (args .entry)) (termsIn (now (skinds .entry)) (now (sends .entry)) (now (spool .entry)) fill)) ⌝ }
+    ensures { λ r. ⌜ Does (now (skinds .entry)) (now (sends .entry)) (now (spool .entry)) (now (index .entry)) fill (now (skinds .exit)) (now (sends .exit)) (now (spool .exit)) (now (index .exit)) (r .fill) (r .refusal) (r .value) (headTerm fact (roomOf (now (skinds .entry)) (now (spool .entry))) (programFor (now (job .entry))) rule (bindingsIn (now (bound .entry)) (now (pairs .entry)) (now (globals .entry))) (headOf head) (now (args .entry)) (termsIn (now (skinds .entry)) (now (sends .entry)) (now (spool .entry)) fill)) ⌝ }
 {
     match head {
-        Head::Lit(l) => add_lit(skinds, sends, spool, fill, near, l),
+        Head::Lit(l) => add_lit(skinds, sends, spool, index, fill, l),
         Head::Var(x) => variable(bound, pairs, globals, rule, x, fill),
-        Head::Constructor(f) => add_app(skinds, sends, spool, fill, near, f, args),
-        Head::Custom(f) => custom_value(fact, skinds, sends, spool, fill, near, f, args),
+        Head::Constructor(f) => add_app(skinds, sends, spool, index, fill, f, args),
+        Head::Custom(f) => custom_value(fact, skinds, sends, spool, index, fill, f, args),
         Head::Primitive(p) => {
             let n = no_validator(fact);
-            validated(job, n, skinds, sends, spool, fill, near, p, args)
+            validated(job, n, skinds, sends, spool, index, fill, p, args)
         }
     }
 }
@@ -181,15 +181,16 @@ fn eval(
     skinds: &mut [u32],
     sends: &mut [u32],
     spool: &mut [u32],
+    index: &mut [u32],
     fill: Fill,
     memo: &mut [u32],
     e: u32,
 ) -> Checked
     requires { ⌜ Ready (now job) ⌝ }
-    requires { ⌜ Stored (now skinds) (now sends) (now spool) fill ⌝ }
+    requires { ⌜ Indexed (now skinds) (now sends) (now spool) (now index) fill ⌝ }
     requires { ⌜ e < sizesOf (now job) .expressions ⌝ }
     requires { ⌜ Memo (argumentsFor (now job)) (evalFor fact (now job) rule (bindingsIn (now bound) (now pairs) (now globals)) (roomOf (now skinds) (now spool))) (sizesOf (now job) .expressions) (termsIn (now skinds) (now sends) (now spool) fill) (now memo) ⌝ }
-    ensures { λ r. ⌜ Evaluates (argumentsFor (now (job .entry))) (evalFor fact (now (job .entry)) rule (bindingsIn (now (bound .entry)) (now (pairs .entry)) (now (globals .entry)))) (sizesOf (now (job .entry)) .expressions) e (now (skinds .entry)) (now (sends .entry)) (now (spool .entry)) fill (now (memo .entry)) (now (skinds .exit)) (now (sends .exit)) (now (spool .exit)) r (now (memo .exit)) ⌝ }
+    ensures { λ r. ⌜ Evaluates (argumentsFor (now (job .entry))) (evalFor fact (now (job .entry)) rule (bindingsIn (now (bound .entry)) (now (pairs .entry)) (now (globals .entry)))) (sizesOf (now (job .entry)) .expressions) e (now (skinds .entry)) (now (sends .entry)) (now (spool .entry)) (now (index .entry)) fill (now (memo .entry)) (now (skinds .exit)) (now (sends .exit)) (now (spool .exit)) (now (index .exit)) r (now (memo .exit)) ⌝ }
 {
     let at = wide(e);
     if memo::is_noted(memo, at) {
@@ -211,6 +212,7 @@ fn eval(
             skinds,
             sends,
             spool,
+            index,
             have,
             memo,
             args[i],
@@ -223,7 +225,6 @@ fn eval(
         i += 1;
     }
     let head = head_at(job, at);
-    let near = memo::value_of(memo, at);
     let r = head_value(
         job,
         bound,
@@ -234,8 +235,8 @@ fn eval(
         skinds,
         sends,
         spool,
+        index,
         have,
-        near,
         head,
         &vals[..count],
     );
@@ -254,16 +255,17 @@ pub fn evaluate(
     skinds: &mut [u32],
     sends: &mut [u32],
     spool: &mut [u32],
+    index: &mut [u32],
     fill: Fill,
     memo: &mut [u32],
     e: u32,
 ) -> Checked
     requires { ⌜ Ready (now job) ⌝ }
-    requires { ⌜ Stored (now skinds) (now sends) (now spool) fill ⌝ }
+    requires { ⌜ Indexed (now skinds) (now sends) (now spool) (now index) fill ⌝ }
     requires { ⌜ e < sizesOf (now job) .expressions ⌝ }
     requires { ⌜ sizesOf (now job) .expressions + sizesOf (now job) .expressions < length (now memo) ⌝ }
     requires { ⌜ Past (now memo) ⌝ }
-    ensures { λ r. ⌜ EvaluatesRoot (argumentsFor (now (job .entry))) (valueFor fact (now (job .entry)) rule (bindingsIn (now (bound .entry)) (now (pairs .entry)) (now (globals .entry)))) (sizesOf (now (job .entry)) .expressions) e (now (skinds .entry)) (now (sends .entry)) (now (spool .entry)) fill (now (skinds .exit)) (now (sends .exit)) (now (spool .exit)) r (now (memo .exit)) ⌝ }
+    ensures { λ r. ⌜ EvaluatesRoot (argumentsFor (now (job .entry))) (valueFor fact (now (job .entry)) rule (bindingsIn (now (bound .entry)) (now (pairs .entry)) (now (globals .entry)))) (sizesOf (now (job .entry)) .expressions) e (now (skinds .entry)) (now (sends .entry)) (now (spool .entry)) (now (index .entry)) fill (now (skinds .exit)) (now (sends .exit)) (now (spool .exit)) (now (index .exit)) r (now (memo .exit)) ⌝ }
 {
     memo::new_round(memo);
     eval(
@@ -276,6 +278,7 @@ pub fn evaluate(
         skinds,
         sends,
         spool,
+        index,
         fill,
         memo,
         e,

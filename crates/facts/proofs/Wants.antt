@@ -15,9 +15,9 @@ use Rattle.model.specs.Check.{Outcome, ok, refused, Check, andThen, pure, orRef
 use Rattle.model.specs.Evaluate.{lookup, same, evalFactExpr, evalFactExprs}
 use Rattle.model.specs.Fact as model
 use Rattle.model.specs.Fact.{argsOf, functionFact, wantedEquality, wanted, matchesEquality, matches, checkFactMatchesProposition, functionFactBy}
-use Rattle.cells.specs.declared.Fill.{Fill}
+use Rattle.index.specs.declared.Fill.{Fill}
 use Rattle.decode.specs.View.{propositionOf}
-use Rattle.termdag.specs.Store.{termsIn, Stored, roomOf}
+use Rattle.termdag.specs.Store.{termsIn, Indexed, roomOf}
 use Rattle.memo.specs.Memo.{Past}
 use Rattle.outcome.specs.Does.{passed, outcomeOf, Does}
 use Rattle.outcome.specs.declared.Refusal.{Refusal}
@@ -35,8 +35,8 @@ use Rattle.facts.specs.declared.Asked.{Asked}
 use Rattle.facts.specs.declared.FunctionCall.{FunctionCall}
 
 -- a value that is only rewritten
-checks-map : {A B : Type 0} (g : A → B) {K E P : List ℕ} {f : Fill} {K₁ E₁ P₁ : List ℕ} {f₁ : Fill} {r : Refusal} {a : A} {m : List ℕ} {o : Outcome A}
-    → Checks K E P f K₁ E₁ P₁ f₁ r a m o → Checks K E P f K₁ E₁ P₁ f₁ r (g a) m (andThen o (λ x. pure (g x)))
+checks-map : {A B : Type 0} (g : A → B) {K E P I : List ℕ} {f : Fill} {K₁ E₁ P₁ I₁ : List ℕ} {f₁ : Fill} {r : Refusal} {a : A} {m : List ℕ} {o : Outcome A}
+    → Checks K E P I f K₁ E₁ P₁ I₁ f₁ r a m o → Checks K E P I f K₁ E₁ P₁ I₁ f₁ r (g a) m (andThen o (λ x. pure (g x)))
 checks-map g {a = a} d = record { does = does-map g (g a) (d .does) (λ _. refl); past = d .past }
 
 then-pure : {A : Type 0} (o : Outcome A) → andThen o pure ≡ o
@@ -56,14 +56,14 @@ module _ (J : List ℕ) (rule : ℕ) (σ : List Binding) where
   values-each room xs s = each-is (value room) (values room) (λ u. refl) (λ y ys u. refl) xs s
 
   -- after i of them, whose numbers are xs
-  pub record Turn (e : ℕ) (xs K₀ E₀ P₀ : List ℕ) (f₀ : Fill) (m₀ v₀ K₁ E₁ P₁ : List ℕ) (f₁ : Fill) (m vals : List ℕ) (i : ℕ) : Type 0 where
-    pub run : Run value (λ room. pure) xs K₀ E₀ P₀ f₀ K₁ E₁ P₁ f₁ vals i (values (roomOf K₀ P₀) (argumentsFor J e) (termsIn K₀ E₀ P₀ f₀))
+  pub record Turn (e : ℕ) (xs K₀ E₀ P₀ I₀ : List ℕ) (f₀ : Fill) (m₀ v₀ K₁ E₁ P₁ I₁ : List ℕ) (f₁ : Fill) (m vals : List ℕ) (i : ℕ) : Type 0 where
+    pub run : Run value (λ room. pure) xs K₀ E₀ P₀ I₀ f₀ K₁ E₁ P₁ I₁ f₁ vals i (values (roomOf K₀ P₀) (argumentsFor J e) (termsIn K₀ E₀ P₀ f₀))
     pub past : Past m
     pub lenM : length m ≡ length m₀
     pub lenV : length vals ≡ length v₀
 
-  pub arguments-start : {e : ℕ} {xs K₀ E₀ P₀ : List ℕ} {f₀ : Fill} {m v : List ℕ} → xs ≡ argumentsFor J e → Stored K₀ E₀ P₀ f₀ → Past m → Turn e xs K₀ E₀ P₀ f₀ m v K₀ E₀ P₀ f₀ m v 0
-  arguments-start {e} {xs} {K₀} {E₀} {P₀} {f₀} q S p = record {
+  pub arguments-start : {e : ℕ} {xs K₀ E₀ P₀ I₀ : List ℕ} {f₀ : Fill} {m v : List ℕ} → xs ≡ argumentsFor J e → Indexed K₀ E₀ P₀ I₀ f₀ → Past m → Turn e xs K₀ E₀ P₀ I₀ f₀ m v K₀ E₀ P₀ I₀ f₀ m v 0
+  arguments-start {e} {xs} {K₀} {E₀} {P₀} {I₀} {f₀} q S p = record {
     run = run-start S (then-pure (each (value (roomOf K₀ P₀)) xs (termsIn K₀ E₀ P₀ f₀)) ∙ values-each (roomOf K₀ P₀) xs (termsIn K₀ E₀ P₀ f₀)
         ∙ ap (λ (ys : List ℕ). values (roomOf K₀ P₀) ys (termsIn K₀ E₀ P₀ f₀)) q);
     past = p;
@@ -71,16 +71,16 @@ module _ (J : List ℕ) (rule : ℕ) (σ : List Binding) where
     lenV = refl;
   }
 
-  module _ {e : ℕ} {xs K₀ E₀ P₀ : List ℕ} {f₀ : Fill} {m₀ v₀ K₁ E₁ P₁ : List ℕ} {f₁ : Fill} {m vals : List ℕ} {i : ℕ} (T : Turn e xs K₀ E₀ P₀ f₀ m₀ v₀ K₁ E₁ P₁ f₁ m vals i) where
+  module _ {e : ℕ} {xs K₀ E₀ P₀ I₀ : List ℕ} {f₀ : Fill} {m₀ v₀ K₁ E₁ P₁ I₁ : List ℕ} {f₁ : Fill} {m vals : List ℕ} {i : ℕ} (T : Turn e xs K₀ E₀ P₀ I₀ f₀ m₀ v₀ K₁ E₁ P₁ I₁ f₁ m vals i) where
     abbrev whole : Outcome (List ℕ)
     whole = values (roomOf K₀ P₀) (argumentsFor J e) (termsIn K₀ E₀ P₀ f₀)
 
-    module _ {args : ℕ → List ℕ} {n : ℕ} {K₂ E₂ P₂ : List ℕ} {c : Checked} {m₂ : List ℕ} (h : i < length xs)
-        (d : EvaluatesRoot args value n (getD xs i 0) K₁ E₁ P₁ f₁ K₂ E₂ P₂ c m₂) where
-      pub arguments-stop : (ts : List ℕ) → (c .refusal .number ≡ 0 → ⊥) → Checks K₀ E₀ P₀ f₀ K₂ E₂ P₂ (c .fill) (c .refusal) ts m₂ whole
+    module _ {args : ℕ → List ℕ} {n : ℕ} {K₂ E₂ P₂ I₂ : List ℕ} {c : Checked} {m₂ : List ℕ} (h : i < length xs)
+        (d : EvaluatesRoot args value n (getD xs i 0) K₁ E₁ P₁ I₁ f₁ K₂ E₂ P₂ I₂ c m₂) where
+      pub arguments-stop : (ts : List ℕ) → (c .refusal .number ≡ 0 → ⊥) → Checks K₀ E₀ P₀ I₀ f₀ K₂ E₂ P₂ I₂ (c .fill) (c .refusal) ts m₂ whole
       arguments-stop ts q = record { does = run-stop (T .run) h (d .does) ts q; past = λ p. absurd (q p) }
 
-      pub arguments-turn : i < length vals → length m₂ ≡ length m → c .refusal .number ≡ 0 → Turn e xs K₀ E₀ P₀ f₀ m₀ v₀ K₂ E₂ P₂ (c .fill) m₂ (set vals i (c .value)) (i + 1)
+      pub arguments-turn : i < length vals → length m₂ ≡ length m → c .refusal .number ≡ 0 → Turn e xs K₀ E₀ P₀ I₀ f₀ m₀ v₀ K₂ E₂ P₂ I₂ (c .fill) m₂ (set vals i (c .value)) (i + 1)
       arguments-turn l k q = record {
         run = run-turn (T .run) h (d .does) l q;
         past = d .past q;
@@ -89,11 +89,11 @@ module _ (J : List ℕ) (rule : ℕ) (σ : List Binding) where
       }
 
     pub arguments-done : {c : Checked} → xs ≡ argumentsFor J e → length xs ≤ i → c ≡ record { refusal = passed; value = 0; fill = f₁ }
-        → Checks K₀ E₀ P₀ f₀ K₁ E₁ P₁ (c .fill) (c .refusal) (take (length (argumentsFor J e)) vals) m whole
+        → Checks K₀ E₀ P₀ I₀ f₀ K₁ E₁ P₁ I₁ (c .fill) (c .refusal) (take (length (argumentsFor J e)) vals) m whole
     arguments-done q h g =
-        subst (λ (x : Checked). Checks K₀ E₀ P₀ f₀ K₁ E₁ P₁ (x .fill) (x .refusal) (take (length (argumentsFor J e)) vals) m whole) (sym g)
-        (subst (λ (ys : List ℕ). Checks K₀ E₀ P₀ f₀ K₁ E₁ P₁ f₁ passed (take (length ys) vals) m whole) q
-        (checks-does (T .past) (run-done (T .run) h (does-here (T .run .grown .stored) refl))))
+        subst (λ (x : Checked). Checks K₀ E₀ P₀ I₀ f₀ K₁ E₁ P₁ I₁ (x .fill) (x .refusal) (take (length (argumentsFor J e)) vals) m whole) (sym g)
+        (subst (λ (ys : List ℕ). Checks K₀ E₀ P₀ I₀ f₀ K₁ E₁ P₁ I₁ f₁ passed (take (length ys) vals) m whole) q
+        (checks-does (T .past) (run-done (T .run) h (does-here (T .run .grown .indexed) refl))))
 
 -- a function fact, by the function and the variable that were found
 module _ {u : Looked} {o : Option ℕ} (p : Option ℕ) (first : optionOf u ≡ o) where
@@ -107,22 +107,22 @@ module _ {u : Looked} {o : Option ℕ} (p : Option ℕ) (first : optionOf u ≡ 
   call-some e second d = ap₂ functionFactBy (ap optionOf (sym e) ∙ first) (ap optionOf (sym d) ∙ second)
 
 -- what is asked for, as the code holds it
-module _ {K E P : List ℕ} {f : Fill} {K₁ E₁ P₁ : List ℕ} {m : List ℕ} {o : Outcome Proposition} where
-  asked-as : {a b : Asked} → a ≡ b → Checks K E P f K₁ E₁ P₁ (b .fill) (b .refusal) (propositionOf (b .pair)) m o → Checks K E P f K₁ E₁ P₁ (a .fill) (a .refusal) (propositionOf (a .pair)) m o
-  asked-as e d = subst (λ (x : Asked). Checks K E P f K₁ E₁ P₁ (x .fill) (x .refusal) (propositionOf (x .pair)) m o) (sym e) d
+module _ {K E P I : List ℕ} {f : Fill} {K₁ E₁ P₁ I₁ : List ℕ} {m : List ℕ} {o : Outcome Proposition} where
+  asked-as : {a b : Asked} → a ≡ b → Checks K E P I f K₁ E₁ P₁ I₁ (b .fill) (b .refusal) (propositionOf (b .pair)) m o → Checks K E P I f K₁ E₁ P₁ I₁ (a .fill) (a .refusal) (propositionOf (a .pair)) m o
+  asked-as e d = subst (λ (x : Asked). Checks K E P I f K₁ E₁ P₁ I₁ (x .fill) (x .refusal) (propositionOf (x .pair)) m o) (sym e) d
 
 abbrev askedOf : Checked → ℕ → ℕ → Asked
 askedOf c l r = record { refusal = c .refusal; pair = record { lhs = l; rhs = r }; fill = c .fill }
 
 -- a bare fact
 module _ (prog : Program) (rule : ℕ) (σ : List Binding) where
-  fact-checks : (e : Expr) {K E P : List ℕ} {f : Fill} {K₁ E₁ P₁ : List ℕ} {f₁ : Fill} {r : Refusal} {t : ℕ} {m : List ℕ}
-      → Checks K E P f K₁ E₁ P₁ f₁ r t m (valueOf true (roomOf K P) prog rule σ e (termsIn K E P f)) → Checks K E P f K₁ E₁ P₁ f₁ r t m (evalFactExpr (roomOf K P) prog rule σ e (termsIn K E P f))
-  fact-checks e {K} {E} {P} {f} d = checks-as (value-fact (roomOf K P) prog rule σ e (termsIn K E P f)) d
+  fact-checks : (e : Expr) {K E P I : List ℕ} {f : Fill} {K₁ E₁ P₁ I₁ : List ℕ} {f₁ : Fill} {r : Refusal} {t : ℕ} {m : List ℕ}
+      → Checks K E P I f K₁ E₁ P₁ I₁ f₁ r t m (valueOf true (roomOf K P) prog rule σ e (termsIn K E P f)) → Checks K E P I f K₁ E₁ P₁ I₁ f₁ r t m (evalFactExpr (roomOf K P) prog rule σ e (termsIn K E P f))
+  fact-checks e {K} {E} {P} {I} {f} d = checks-as (value-fact (roomOf K P) prog rule σ e (termsIn K E P f)) d
 
-  pub bare-asks : (i : ℕ) (e : Expr) {K E P : List ℕ} {f : Fill} {K₁ E₁ P₁ : List ℕ} (c : Checked) {m : List ℕ} {a : Asked}
-      → Checks K E P f K₁ E₁ P₁ (c .fill) (c .refusal) (c .value) m (valueOf true (roomOf K P) prog rule σ e (termsIn K E P f)) → a ≡ askedOf c (c .value) (c .value)
-      → Checks K E P f K₁ E₁ P₁ (a .fill) (a .refusal) (propositionOf (a .pair)) m (wanted (roomOf K P) prog rule σ (bare i e) (termsIn K E P f))
+  pub bare-asks : (i : ℕ) (e : Expr) {K E P I : List ℕ} {f : Fill} {K₁ E₁ P₁ I₁ : List ℕ} (c : Checked) {m : List ℕ} {a : Asked}
+      → Checks K E P I f K₁ E₁ P₁ I₁ (c .fill) (c .refusal) (c .value) m (valueOf true (roomOf K P) prog rule σ e (termsIn K E P f)) → a ≡ askedOf c (c .value) (c .value)
+      → Checks K E P I f K₁ E₁ P₁ I₁ (a .fill) (a .refusal) (propositionOf (a .pair)) m (wanted (roomOf K P) prog rule σ (bare i e) (termsIn K E P f))
   unfolding wanted
   bare-asks i e c d q = asked-as q (checks-map same (fact-checks e d))
 
@@ -134,22 +134,22 @@ module _ (prog : Program) (rule : ℕ) (σ : List Binding) where
     abbrev after : Room → ℕ → Check Proposition
     after room a s = andThen (evalFactExpr room prog rule σ r s) (λ b. pure (pair a b))
 
-    module _ {K E P : List ℕ} {f : Fill} {K₁ E₁ P₁ m₁ : List ℕ} (c : Checked)
-        (A : Checks K E P f K₁ E₁ P₁ (c .fill) (c .refusal) (c .value) m₁ (valueOf true (roomOf K P) prog rule σ l (termsIn K E P f))) where
+    module _ {K E P I : List ℕ} {f : Fill} {K₁ E₁ P₁ I₁ m₁ : List ℕ} (c : Checked)
+        (A : Checks K E P I f K₁ E₁ P₁ I₁ (c .fill) (c .refusal) (c .value) m₁ (valueOf true (roomOf K P) prog rule σ l (termsIn K E P f))) where
       pub values-refused : {a : Asked} → (c .refusal .number ≡ 0 → ⊥) → a ≡ askedOf c 0 0
-          → Checks K E P f K₁ E₁ P₁ (a .fill) (a .refusal) (propositionOf (a .pair)) m₁ (wantedEquality (roomOf K P) prog rule σ l r none (termsIn K E P f))
+          → Checks K E P I f K₁ E₁ P₁ I₁ (a .fill) (a .refusal) (propositionOf (a .pair)) m₁ (wantedEquality (roomOf K P) prog rule σ l r none (termsIn K E P f))
       unfolding wantedEquality
       values-refused h q = asked-as q (checks-stop (pair 0 0) (after (roomOf K P)) (fact-checks l A) h)
 
-      pub values-ask : {K₂ E₂ P₂ m₂ : List ℕ} (d : Checked) {a : Asked} → c .refusal .number ≡ 0
-          → Checks K₁ E₁ P₁ (c .fill) K₂ E₂ P₂ (d .fill) (d .refusal) (d .value) m₂ (valueOf true (roomOf K₁ P₁) prog rule σ r (termsIn K₁ E₁ P₁ (c .fill)))
+      pub values-ask : {K₂ E₂ P₂ I₂ m₂ : List ℕ} (d : Checked) {a : Asked} → c .refusal .number ≡ 0
+          → Checks K₁ E₁ P₁ I₁ (c .fill) K₂ E₂ P₂ I₂ (d .fill) (d .refusal) (d .value) m₂ (valueOf true (roomOf K₁ P₁) prog rule σ r (termsIn K₁ E₁ P₁ (c .fill)))
           → a ≡ askedOf d (c .value) (d .value)
-          → Checks K E P f K₂ E₂ P₂ (a .fill) (a .refusal) (propositionOf (a .pair)) m₂ (wantedEquality (roomOf K P) prog rule σ l r none (termsIn K E P f))
+          → Checks K E P I f K₂ E₂ P₂ I₂ (a .fill) (a .refusal) (propositionOf (a .pair)) m₂ (wantedEquality (roomOf K P) prog rule σ l r none (termsIn K E P f))
       unfolding wantedEquality
       values-ask d h B q = asked-as q (checks-then after (fact-checks l A) h (checks-map (pair (c .value)) (fact-checks r B)))
 
   -- a function fact
-  module _ (l r : Expr) (function variable : ℕ) {K E P : List ℕ} {f : Fill} {m : List ℕ} (S : Stored K E P f) (p : Past m) where
+  module _ (l r : Expr) (function variable : ℕ) {K E P I : List ℕ} {f : Fill} {m : List ℕ} (S : Indexed K E P I f) (p : Past m) where
     abbrev call : model.FunctionFact
     call = record { function = function; variable = variable }
 
@@ -160,44 +160,44 @@ module _ (prog : Program) (rule : ℕ) (σ : List Binding) where
     arguments room v s = andThen (evalFactExprs room prog rule σ (argsOf l) s) (build v room)
 
     module _ (c : Checked) (F : (c .fill ≡ f) × ((s : List Term) → outcomeOf (c .refusal) (c .value) s ≡ orRefuse (lookup σ variable) 45 (rule ∷ variable ∷ []) s)) where
-      bound : Checks K E P f K E P f (c .refusal) (c .value) m (orRefuse (lookup σ variable) 45 (rule ∷ variable ∷ []) (termsIn K E P f))
+      bound : Checks K E P I f K E P I f (c .refusal) (c .value) m (orRefuse (lookup σ variable) 45 (rule ∷ variable ∷ []) (termsIn K E P f))
       bound = checks-here S p (F .1 (termsIn K E P f))
 
       pub call-unbound : {a : Asked} → (c .refusal .number ≡ 0 → ⊥) → a ≡ askedOf c 0 0
-          → Checks K E P f K E P (a .fill) (a .refusal) (propositionOf (a .pair)) m (wantedEquality (roomOf K P) prog rule σ l r (some call) (termsIn K E P f))
+          → Checks K E P I f K E P I (a .fill) (a .refusal) (propositionOf (a .pair)) m (wantedEquality (roomOf K P) prog rule σ l r (some call) (termsIn K E P f))
       unfolding wantedEquality
       call-unbound h q = asked-as (q ∙ ap (λ (x : Fill). record { refusal = c .refusal; pair = record { lhs = 0; rhs = 0 }; fill = x }) (F .0)) (checks-stop (same 0) (arguments (roomOf K P)) bound h)
 
-      module _ (h : c .refusal .number ≡ 0) {K₁ E₁ P₁ m₁ ts : List ℕ} {es : Exprs} (is : es ≡ argsOf l) (d : Checked)
-          (A : Checks K E P f K₁ E₁ P₁ (d .fill) (d .refusal) ts m₁ (evalFactExprs (roomOf K P) prog rule σ es (termsIn K E P f))) where
-        given : Checks K E P f K₁ E₁ P₁ (d .fill) (d .refusal) ts m₁ (evalFactExprs (roomOf K P) prog rule σ (argsOf l) (termsIn K E P f))
+      module _ (h : c .refusal .number ≡ 0) {K₁ E₁ P₁ I₁ m₁ ts : List ℕ} {es : Exprs} (is : es ≡ argsOf l) (d : Checked)
+          (A : Checks K E P I f K₁ E₁ P₁ I₁ (d .fill) (d .refusal) ts m₁ (evalFactExprs (roomOf K P) prog rule σ es (termsIn K E P f))) where
+        given : Checks K E P I f K₁ E₁ P₁ I₁ (d .fill) (d .refusal) ts m₁ (evalFactExprs (roomOf K P) prog rule σ (argsOf l) (termsIn K E P f))
         given = checks-as (ap (λ (x : Exprs). evalFactExprs (roomOf K P) prog rule σ x (termsIn K E P f)) is) A
 
         pub call-refused : {a : Asked} → (d .refusal .number ≡ 0 → ⊥) → a ≡ askedOf d 0 0
-            → Checks K E P f K₁ E₁ P₁ (a .fill) (a .refusal) (propositionOf (a .pair)) m₁ (wantedEquality (roomOf K P) prog rule σ l r (some call) (termsIn K E P f))
+            → Checks K E P I f K₁ E₁ P₁ I₁ (a .fill) (a .refusal) (propositionOf (a .pair)) m₁ (wantedEquality (roomOf K P) prog rule σ l r (some call) (termsIn K E P f))
         unfolding wantedEquality
         call-refused z q = asked-as q (checks-then arguments bound h (checks-stop (same 0) (build (c .value) (roomOf K P)) given z))
 
-        pub call-asks : {K₂ E₂ P₂ us : List ℕ} (t : Checked) {a : Asked} → d .refusal .number ≡ 0 → us ≡ ts ++ (c .value ∷ [])
-            → Does K₁ E₁ P₁ (d .fill) K₂ E₂ P₂ (t .fill) (t .refusal) (t .value) (addNode (roomOf K₁ P₁) (app function us) (termsIn K₁ E₁ P₁ (d .fill)))
+        pub call-asks : {K₂ E₂ P₂ I₂ us : List ℕ} (t : Checked) {a : Asked} → d .refusal .number ≡ 0 → us ≡ ts ++ (c .value ∷ [])
+            → Does K₁ E₁ P₁ I₁ (d .fill) K₂ E₂ P₂ I₂ (t .fill) (t .refusal) (t .value) (addNode (roomOf K₁ P₁) (app function us) (termsIn K₁ E₁ P₁ (d .fill)))
             → a ≡ askedOf t (t .value) (t .value)
-            → Checks K E P f K₂ E₂ P₂ (a .fill) (a .refusal) (propositionOf (a .pair)) m₁ (wantedEquality (roomOf K P) prog rule σ l r (some call) (termsIn K E P f))
+            → Checks K E P I f K₂ E₂ P₂ I₂ (a .fill) (a .refusal) (propositionOf (a .pair)) m₁ (wantedEquality (roomOf K P) prog rule σ l r (some call) (termsIn K E P f))
         unfolding wantedEquality
-        call-asks {K₂} {E₂} {P₂} {us} t z e D q = asked-as q (checks-then arguments bound h (checks-then (build (c .value)) given z (checks-map same
+        call-asks {K₂} {E₂} {P₂} {I₂} {us} t z e D q = asked-as q (checks-then arguments bound h (checks-then (build (c .value)) given z (checks-map same
             (checks-as (ap (λ (ys : List ℕ). addNode (roomOf K₁ P₁) (app function ys) (termsIn K₁ E₁ P₁ (d .fill))) e) (checks-does (A .past z) D)))))
 
   -- an equality by what it is
-  pub equality-asks : (i : ℕ) (l r : Expr) {c g : FunctionCall} {K E P : List ℕ} {f : Fill} {K₁ E₁ P₁ : List ℕ} {f₁ : Fill} {q : Refusal} {w : Proposition} {m : List ℕ}
+  pub equality-asks : (i : ℕ) (l r : Expr) {c g : FunctionCall} {K E P I : List ℕ} {f : Fill} {K₁ E₁ P₁ I₁ : List ℕ} {f₁ : Fill} {q : Refusal} {w : Proposition} {m : List ℕ}
       → functionFactOf c ≡ functionFact l r → c ≡ g
-      → Checks K E P f K₁ E₁ P₁ f₁ q w m (wantedEquality (roomOf K P) prog rule σ l r (functionFactOf g) (termsIn K E P f))
-      → Checks K E P f K₁ E₁ P₁ f₁ q w m (wanted (roomOf K P) prog rule σ (equal i l r) (termsIn K E P f))
+      → Checks K E P I f K₁ E₁ P₁ I₁ f₁ q w m (wantedEquality (roomOf K P) prog rule σ l r (functionFactOf g) (termsIn K E P f))
+      → Checks K E P I f K₁ E₁ P₁ I₁ f₁ q w m (wanted (roomOf K P) prog rule σ (equal i l r) (termsIn K E P f))
   unfolding wanted
   equality-asks i l r {K = K} {E = E} {P = P} {f = f} e d k =
       checks-as (ap (λ (x : Option model.FunctionFact). wantedEquality (roomOf K P) prog rule σ l r x (termsIn K E P f)) (ap functionFactOf (sym d) ∙ e)) k
 
   -- the fact that was read
-  pub wanted-as : {g h : Fact} {K E P : List ℕ} {f : Fill} {K₁ E₁ P₁ : List ℕ} {f₁ : Fill} {r : Refusal} {w : Proposition} {m : List ℕ} → g ≡ h
-      → Checks K E P f K₁ E₁ P₁ f₁ r w m (wanted (roomOf K P) prog rule σ g (termsIn K E P f)) → Checks K E P f K₁ E₁ P₁ f₁ r w m (wanted (roomOf K P) prog rule σ h (termsIn K E P f))
+  pub wanted-as : {g h : Fact} {K E P I : List ℕ} {f : Fill} {K₁ E₁ P₁ I₁ : List ℕ} {f₁ : Fill} {r : Refusal} {w : Proposition} {m : List ℕ} → g ≡ h
+      → Checks K E P I f K₁ E₁ P₁ I₁ f₁ r w m (wanted (roomOf K P) prog rule σ g (termsIn K E P f)) → Checks K E P I f K₁ E₁ P₁ I₁ f₁ r w m (wanted (roomOf K P) prog rule σ h (termsIn K E P f))
   wanted-as {K = K} {E = E} {P = P} {f = f} e d = checks-as (ap (λ (x : Fact). wanted (roomOf K P) prog rule σ x (termsIn K E P f)) e) d
 
 -- the values with the variable's behind them
@@ -244,14 +244,14 @@ pub matches-as : (rule : ℕ) (w q : Proposition) (s : List Term) {g h : Fact} �
 matches-as rule w q s e = ap (λ (x : Fact). matches rule x w q s) e
 
 -- a fact: what it asks for refused, or compared
-module _ (prog : Program) (rule : ℕ) (σ : List Binding) (g : Fact) (q : Proposition) {K E P : List ℕ} {f : Fill} {K₁ E₁ P₁ m : List ℕ} (a : Asked)
-    (W : Checks K E P f K₁ E₁ P₁ (a .fill) (a .refusal) (propositionOf (a .pair)) m (wanted (roomOf K P) prog rule σ g (termsIn K E P f))) where
+module _ (prog : Program) (rule : ℕ) (σ : List Binding) (g : Fact) (q : Proposition) {K E P I : List ℕ} {f : Fill} {K₁ E₁ P₁ I₁ m : List ℕ} (a : Asked)
+    (W : Checks K E P I f K₁ E₁ P₁ I₁ (a .fill) (a .refusal) (propositionOf (a .pair)) m (wanted (roomOf K P) prog rule σ g (termsIn K E P f))) where
   abbrev compare : Proposition → Check (Unit {0})
   compare w = matches rule g w q
 
-  pub fact-refused : (a .refusal .number ≡ 0 → ⊥) → Checks K E P f K₁ E₁ P₁ (a .fill) (a .refusal) tt m (checkFactMatchesProposition (roomOf K P) prog rule σ g q (termsIn K E P f))
+  pub fact-refused : (a .refusal .number ≡ 0 → ⊥) → Checks K E P I f K₁ E₁ P₁ I₁ (a .fill) (a .refusal) tt m (checkFactMatchesProposition (roomOf K P) prog rule σ g q (termsIn K E P f))
   fact-refused h = checks-stop tt compare W h
 
   pub fact-compared : {r : Refusal} → a .refusal .number ≡ 0 → ((s : List Term) → outcomeOf r tt s ≡ matches rule g (propositionOf (a .pair)) q s)
-      → Checks K E P f K₁ E₁ P₁ (a .fill) r tt m (checkFactMatchesProposition (roomOf K P) prog rule σ g q (termsIn K E P f))
-  fact-compared h M = checks-then (λ room. compare) W h (checks-here (W .does .grown .stored) (W .past h) (M (termsIn K₁ E₁ P₁ (a .fill))))
+      → Checks K E P I f K₁ E₁ P₁ I₁ (a .fill) r tt m (checkFactMatchesProposition (roomOf K P) prog rule σ g q (termsIn K E P f))
+  fact-compared h M = checks-then (λ room. compare) W h (checks-here (W .does .grown .indexed) (W .past h) (M (termsIn K₁ E₁ P₁ (a .fill))))

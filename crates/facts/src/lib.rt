@@ -1,10 +1,10 @@
 // The ordinary facts of a rule's body against their premises, from proof_checker.rs.
-use cells::Fill;
 use cells::wide;
 use decode::Fact;
 use decode::Head;
 use decode::Proposition;
 use evaluate::evaluate;
+use index::Fill;
 use normal_form::variable_of;
 use outcome::Checked;
 use outcome::Refusal;
@@ -27,7 +27,7 @@ ghost use Rattle.model.specs.Decode.{argumentsBy};
 ghost use Rattle.model.specs.Evaluate.{evalFactExprs};
 ghost use Rattle.model.specs.Fact as model;
 ghost use Rattle.decode.specs.View.{propositionOf};
-ghost use Rattle.termdag.specs.Store.{termsIn, Stored, roomOf};
+ghost use Rattle.termdag.specs.Store.{termsIn, Indexed, roomOf};
 ghost use Rattle.memo.specs.Memo.{Past};
 ghost use Rattle.outcome.specs.Does.{outcomeOf};
 ghost use Rattle.program.specs.Ready.{Ready, programFor, optionOf};
@@ -75,18 +75,19 @@ fn evaluate_arguments(
     skinds: &mut [u32],
     sends: &mut [u32],
     spool: &mut [u32],
+    index: &mut [u32],
     fill: Fill,
     memo: &mut [u32],
     e: u32,
     values: &mut [u32],
 ) -> Checked
     requires { ⌜ Ready (now job) ⌝ }
-    requires { ⌜ Stored (now skinds) (now sends) (now spool) fill ⌝ }
+    requires { ⌜ Indexed (now skinds) (now sends) (now spool) (now index) fill ⌝ }
     requires { ⌜ sizesOf (now job) .expressions + sizesOf (now job) .expressions < length (now memo) ⌝ }
     requires { ⌜ Past (now memo) ⌝ }
     requires { ⌜ e < sizesOf (now job) .expressions ⌝ }
     requires { ⌜ 16 < length (now values) ⌝ }
-    ensures { λ r. ⌜ Checks (now (skinds .entry)) (now (sends .entry)) (now (spool .entry)) fill (now (skinds .exit)) (now (sends .exit)) (now (spool .exit)) (r .fill) (r .refusal) (take (length (argumentsFor (now (job .entry)) e)) (now (values .exit))) (now (memo .exit)) (evalFactExprs (roomOf (now (skinds .entry)) (now (spool .entry))) (programFor (now (job .entry))) rule (bindingsIn (now (bound .entry)) (now (pairs .entry)) (now (globals .entry))) (argumentsBy (exprFor (now (job .entry))) (argumentsFor (now (job .entry)) e)) (termsIn (now (skinds .entry)) (now (sends .entry)) (now (spool .entry)) fill)) ⌝ }
+    ensures { λ r. ⌜ Checks (now (skinds .entry)) (now (sends .entry)) (now (spool .entry)) (now (index .entry)) fill (now (skinds .exit)) (now (sends .exit)) (now (spool .exit)) (now (index .exit)) (r .fill) (r .refusal) (take (length (argumentsFor (now (job .entry)) e)) (now (values .exit))) (now (memo .exit)) (evalFactExprs (roomOf (now (skinds .entry)) (now (spool .entry))) (programFor (now (job .entry))) rule (bindingsIn (now (bound .entry)) (now (pairs .entry)) (now (globals .entry))) (argumentsBy (exprFor (now (job .entry))) (argumentsFor (now (job .entry)) e)) (termsIn (now (skinds .entry)) (now (sends .entry)) (now (spool .entry)) fill)) ⌝ }
 {
     let args = arguments_at(job, wide(e));
     let count = args.len();
@@ -103,6 +104,7 @@ fn evaluate_arguments(
             skinds,
             sends,
             spool,
+            index,
             have,
             memo,
             args[i],
@@ -140,6 +142,7 @@ fn wanted_call(
     skinds: &mut [u32],
     sends: &mut [u32],
     spool: &mut [u32],
+    index: &mut [u32],
     fill: Fill,
     memo: &mut [u32],
     e: u32,
@@ -147,11 +150,11 @@ fn wanted_call(
     variable: u32,
 ) -> Asked
     requires { ⌜ Ready (now job) ⌝ }
-    requires { ⌜ Stored (now skinds) (now sends) (now spool) fill ⌝ }
+    requires { ⌜ Indexed (now skinds) (now sends) (now spool) (now index) fill ⌝ }
     requires { ⌜ sizesOf (now job) .expressions + sizesOf (now job) .expressions < length (now memo) ⌝ }
     requires { ⌜ Past (now memo) ⌝ }
     requires { ⌜ e < sizesOf (now job) .expressions ⌝ }
-    ensures { λ r. ⌜ ((right : Expr) → Checks (now (skinds .entry)) (now (sends .entry)) (now (spool .entry)) fill (now (skinds .exit)) (now (sends .exit)) (now (spool .exit)) (r .fill) (r .refusal) (propositionOf (r .pair)) (now (memo .exit)) (model.wantedEquality (roomOf (now (skinds .entry)) (now (spool .entry))) (programFor (now (job .entry))) rule (bindingsIn (now (bound .entry)) (now (pairs .entry)) (now (globals .entry))) (exprFor (now (job .entry)) e) right (some (record { function = function; variable = variable })) (termsIn (now (skinds .entry)) (now (sends .entry)) (now (spool .entry)) fill))) ⌝ }
+    ensures { λ r. ⌜ ((right : Expr) → Checks (now (skinds .entry)) (now (sends .entry)) (now (spool .entry)) (now (index .entry)) fill (now (skinds .exit)) (now (sends .exit)) (now (spool .exit)) (now (index .exit)) (r .fill) (r .refusal) (propositionOf (r .pair)) (now (memo .exit)) (model.wantedEquality (roomOf (now (skinds .entry)) (now (spool .entry))) (programFor (now (job .entry))) rule (bindingsIn (now (bound .entry)) (now (pairs .entry)) (now (globals .entry))) (exprFor (now (job .entry)) e) right (some (record { function = function; variable = variable })) (termsIn (now (skinds .entry)) (now (sends .entry)) (now (spool .entry)) fill))) ⌝ }
 {
     let v = evaluate::variable(bound, pairs, globals, rule, variable, fill);
     if v.refusal.number != 0 {
@@ -167,6 +170,7 @@ fn wanted_call(
         skinds,
         sends,
         spool,
+        index,
         fill,
         memo,
         e,
@@ -178,7 +182,15 @@ fn wanted_call(
     let count = arguments_at(job, wide(e)).len();
     values[count] = v.value;
     let end = count + 1;
-    let t = add_app(skinds, sends, spool, r.fill, 0, function, &values[..end]);
+    let t = add_app(
+        skinds,
+        sends,
+        spool,
+        index,
+        r.fill,
+        function,
+        &values[..end],
+    );
     asks(t, t.value, t.value)
 }
 
@@ -192,18 +204,19 @@ fn wanted_values(
     skinds: &mut [u32],
     sends: &mut [u32],
     spool: &mut [u32],
+    index: &mut [u32],
     fill: Fill,
     memo: &mut [u32],
     left: u32,
     right: u32,
 ) -> Asked
     requires { ⌜ Ready (now job) ⌝ }
-    requires { ⌜ Stored (now skinds) (now sends) (now spool) fill ⌝ }
+    requires { ⌜ Indexed (now skinds) (now sends) (now spool) (now index) fill ⌝ }
     requires { ⌜ sizesOf (now job) .expressions + sizesOf (now job) .expressions < length (now memo) ⌝ }
     requires { ⌜ Past (now memo) ⌝ }
     requires { ⌜ left < sizesOf (now job) .expressions ⌝ }
     requires { ⌜ right < sizesOf (now job) .expressions ⌝ }
-    ensures { λ r. ⌜ Checks (now (skinds .entry)) (now (sends .entry)) (now (spool .entry)) fill (now (skinds .exit)) (now (sends .exit)) (now (spool .exit)) (r .fill) (r .refusal) (propositionOf (r .pair)) (now (memo .exit)) (model.wantedEquality (roomOf (now (skinds .entry)) (now (spool .entry))) (programFor (now (job .entry))) rule (bindingsIn (now (bound .entry)) (now (pairs .entry)) (now (globals .entry))) (exprFor (now (job .entry)) left) (exprFor (now (job .entry)) right) none (termsIn (now (skinds .entry)) (now (sends .entry)) (now (spool .entry)) fill)) ⌝ }
+    ensures { λ r. ⌜ Checks (now (skinds .entry)) (now (sends .entry)) (now (spool .entry)) (now (index .entry)) fill (now (skinds .exit)) (now (sends .exit)) (now (spool .exit)) (now (index .exit)) (r .fill) (r .refusal) (propositionOf (r .pair)) (now (memo .exit)) (model.wantedEquality (roomOf (now (skinds .entry)) (now (spool .entry))) (programFor (now (job .entry))) rule (bindingsIn (now (bound .entry)) (now (pairs .entry)) (now (globals .entry))) (exprFor (now (job .entry)) left) (exprFor (now (job .entry)) right) none (termsIn (now (skinds .entry)) (now (sends .entry)) (now (spool .entry)) fill)) ⌝ }
 {
     let a = evaluate(
         job,
@@ -215,6 +228,7 @@ fn wanted_values(
         skinds,
         sends,
         spool,
+        index,
         fill,
         memo,
         left,
@@ -232,6 +246,7 @@ fn wanted_values(
         skinds,
         sends,
         spool,
+        index,
         a.fill,
         memo,
         right,
@@ -249,17 +264,18 @@ fn wanted_bare(
     skinds: &mut [u32],
     sends: &mut [u32],
     spool: &mut [u32],
+    index: &mut [u32],
     fill: Fill,
     memo: &mut [u32],
     i: u32,
     e: u32,
 ) -> Asked
     requires { ⌜ Ready (now job) ⌝ }
-    requires { ⌜ Stored (now skinds) (now sends) (now spool) fill ⌝ }
+    requires { ⌜ Indexed (now skinds) (now sends) (now spool) (now index) fill ⌝ }
     requires { ⌜ sizesOf (now job) .expressions + sizesOf (now job) .expressions < length (now memo) ⌝ }
     requires { ⌜ Past (now memo) ⌝ }
     requires { ⌜ e < sizesOf (now job) .expressions ⌝ }
-    ensures { λ r. ⌜ Checks (now (skinds .entry)) (now (sends .entry)) (now (spool .entry)) fill (now (skinds .exit)) (now (sends .exit)) (now (spool .exit)) (r .fill) (r .refusal) (propositionOf (r .pair)) (now (memo .exit)) (model.wanted (roomOf (now (skinds .entry)) (now (spool .entry))) (programFor (now (job .entry))) rule (bindingsIn (now (bound .entry)) (now (pairs .entry)) (now (globals .entry))) (bare i (exprFor (now (job .entry)) e)) (termsIn (now (skinds .entry)) (now (sends .entry)) (now (spool .entry)) fill)) ⌝ }
+    ensures { λ r. ⌜ Checks (now (skinds .entry)) (now (sends .entry)) (now (spool .entry)) (now (index .entry)) fill (now (skinds .exit)) (now (sends .exit)) (now (spool .exit)) (now (index .exit)) (r .fill) (r .refusal) (propositionOf (r .pair)) (now (memo .exit)) (model.wanted (roomOf (now (skinds .entry)) (now (spool .entry))) (programFor (now (job .entry))) rule (bindingsIn (now (bound .entry)) (now (pairs .entry)) (now (globals .entry))) (bare i (exprFor (now (job .entry)) e)) (termsIn (now (skinds .entry)) (now (sends .entry)) (now (spool .entry)) fill)) ⌝ }
 {
     let t = evaluate(
         job,
@@ -271,6 +287,7 @@ fn wanted_bare(
         skinds,
         sends,
         spool,
+        index,
         fill,
         memo,
         e,
@@ -306,6 +323,7 @@ fn wanted_equality(
     skinds: &mut [u32],
     sends: &mut [u32],
     spool: &mut [u32],
+    index: &mut [u32],
     fill: Fill,
     memo: &mut [u32],
     i: u32,
@@ -313,12 +331,12 @@ fn wanted_equality(
     right: u32,
 ) -> Asked
     requires { ⌜ Ready (now job) ⌝ }
-    requires { ⌜ Stored (now skinds) (now sends) (now spool) fill ⌝ }
+    requires { ⌜ Indexed (now skinds) (now sends) (now spool) (now index) fill ⌝ }
     requires { ⌜ sizesOf (now job) .expressions + sizesOf (now job) .expressions < length (now memo) ⌝ }
     requires { ⌜ Past (now memo) ⌝ }
     requires { ⌜ left < sizesOf (now job) .expressions ⌝ }
     requires { ⌜ right < sizesOf (now job) .expressions ⌝ }
-    ensures { λ r. ⌜ Checks (now (skinds .entry)) (now (sends .entry)) (now (spool .entry)) fill (now (skinds .exit)) (now (sends .exit)) (now (spool .exit)) (r .fill) (r .refusal) (propositionOf (r .pair)) (now (memo .exit)) (model.wanted (roomOf (now (skinds .entry)) (now (spool .entry))) (programFor (now (job .entry))) rule (bindingsIn (now (bound .entry)) (now (pairs .entry)) (now (globals .entry))) (equal i (exprFor (now (job .entry)) left) (exprFor (now (job .entry)) right)) (termsIn (now (skinds .entry)) (now (sends .entry)) (now (spool .entry)) fill)) ⌝ }
+    ensures { λ r. ⌜ Checks (now (skinds .entry)) (now (sends .entry)) (now (spool .entry)) (now (index .entry)) fill (now (skinds .exit)) (now (sends .exit)) (now (spool .exit)) (now (index .exit)) (r .fill) (r .refusal) (propositionOf (r .pair)) (now (memo .exit)) (model.wanted (roomOf (now (skinds .entry)) (now (spool .entry))) (programFor (now (job .entry))) rule (bindingsIn (now (bound .entry)) (now (pairs .entry)) (now (globals .entry))) (equal i (exprFor (now (job .entry)) left) (exprFor (now (job .entry)) right)) (termsIn (now (skinds .entry)) (now (sends .entry)) (now (spool .entry)) fill)) ⌝ }
 {
     let call = function_fact(job, left, right);
     match call {
@@ -331,6 +349,7 @@ fn wanted_equality(
             skinds,
             sends,
             spool,
+            index,
             fill,
             memo,
             left,
@@ -346,6 +365,7 @@ fn wanted_equality(
             skinds,
             sends,
             spool,
+            index,
             fill,
             memo,
             left,
@@ -364,16 +384,17 @@ fn wanted(
     skinds: &mut [u32],
     sends: &mut [u32],
     spool: &mut [u32],
+    index: &mut [u32],
     fill: Fill,
     memo: &mut [u32],
     i: u32,
 ) -> Asked
     requires { ⌜ Ready (now job) ⌝ }
-    requires { ⌜ Stored (now skinds) (now sends) (now spool) fill ⌝ }
+    requires { ⌜ Indexed (now skinds) (now sends) (now spool) (now index) fill ⌝ }
     requires { ⌜ sizesOf (now job) .expressions + sizesOf (now job) .expressions < length (now memo) ⌝ }
     requires { ⌜ Past (now memo) ⌝ }
     requires { ⌜ i < sizesOf (now job) .facts ⌝ }
-    ensures { λ r. ⌜ Checks (now (skinds .entry)) (now (sends .entry)) (now (spool .entry)) fill (now (skinds .exit)) (now (sends .exit)) (now (spool .exit)) (r .fill) (r .refusal) (propositionOf (r .pair)) (now (memo .exit)) (model.wanted (roomOf (now (skinds .entry)) (now (spool .entry))) (programFor (now (job .entry))) rule (bindingsIn (now (bound .entry)) (now (pairs .entry)) (now (globals .entry))) (factFor (now (job .entry)) i) (termsIn (now (skinds .entry)) (now (sends .entry)) (now (spool .entry)) fill)) ⌝ }
+    ensures { λ r. ⌜ Checks (now (skinds .entry)) (now (sends .entry)) (now (spool .entry)) (now (index .entry)) fill (now (skinds .exit)) (now (sends .exit)) (now (spool .exit)) (now (index .exit)) (r .fill) (r .refusal) (propositionOf (r .pair)) (now (memo .exit)) (model.wanted (roomOf (now (skinds .entry)) (now (spool .entry))) (programFor (now (job .entry))) rule (bindingsIn (now (bound .entry)) (now (pairs .entry)) (now (globals .entry))) (factFor (now (job .entry)) i) (termsIn (now (skinds .entry)) (now (sends .entry)) (now (spool .entry)) fill)) ⌝ }
 {
     let fact = fact_at(job, wide(i));
     match fact {
@@ -386,6 +407,7 @@ fn wanted(
             skinds,
             sends,
             spool,
+            index,
             fill,
             memo,
             i,
@@ -401,6 +423,7 @@ fn wanted(
             skinds,
             sends,
             spool,
+            index,
             fill,
             memo,
             i,
@@ -494,17 +517,18 @@ pub fn check_fact_matches_proposition(
     skinds: &mut [u32],
     sends: &mut [u32],
     spool: &mut [u32],
+    index: &mut [u32],
     fill: Fill,
     memo: &mut [u32],
     i: u32,
     q: Proposition,
 ) -> Checked
     requires { ⌜ Ready (now job) ⌝ }
-    requires { ⌜ Stored (now skinds) (now sends) (now spool) fill ⌝ }
+    requires { ⌜ Indexed (now skinds) (now sends) (now spool) (now index) fill ⌝ }
     requires { ⌜ sizesOf (now job) .expressions + sizesOf (now job) .expressions < length (now memo) ⌝ }
     requires { ⌜ Past (now memo) ⌝ }
     requires { ⌜ i < sizesOf (now job) .facts ⌝ }
-    ensures { λ r. ⌜ Checks (now (skinds .entry)) (now (sends .entry)) (now (spool .entry)) fill (now (skinds .exit)) (now (sends .exit)) (now (spool .exit)) (r .fill) (r .refusal) tt (now (memo .exit)) (model.checkFactMatchesProposition (roomOf (now (skinds .entry)) (now (spool .entry))) (programFor (now (job .entry))) rule (bindingsIn (now (bound .entry)) (now (pairs .entry)) (now (globals .entry))) (factFor (now (job .entry)) i) (propositionOf q) (termsIn (now (skinds .entry)) (now (sends .entry)) (now (spool .entry)) fill)) ⌝ }
+    ensures { λ r. ⌜ Checks (now (skinds .entry)) (now (sends .entry)) (now (spool .entry)) (now (index .entry)) fill (now (skinds .exit)) (now (sends .exit)) (now (spool .exit)) (now (index .exit)) (r .fill) (r .refusal) tt (now (memo .exit)) (model.checkFactMatchesProposition (roomOf (now (skinds .entry)) (now (spool .entry))) (programFor (now (job .entry))) rule (bindingsIn (now (bound .entry)) (now (pairs .entry)) (now (globals .entry))) (factFor (now (job .entry)) i) (propositionOf q) (termsIn (now (skinds .entry)) (now (sends .entry)) (now (spool .entry)) fill)) ⌝ }
 {
     let w = wanted(
         job,
@@ -515,6 +539,7 @@ pub fn check_fact_matches_proposition(
         skinds,
         sends,
         spool,
+        index,
         fill,
         memo,
         i,

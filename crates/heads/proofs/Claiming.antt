@@ -13,7 +13,7 @@ use Rattle.model.specs.Program.{Proposition, Binding, Program, Action, Rule}
 use Rattle.model.specs.Decode.{ruleActions}
 use Rattle.model.specs.Check.{Check, andThen, checkThat, Room}
 use Rattle.model.specs.Action.{startContext, processActions, among, checkRuleProducesEquality}
-use Rattle.cells.specs.declared.Fill.{Fill}
+use Rattle.index.specs.declared.Fill.{Fill}
 use Rattle.termdag.specs.Store.{termsIn, roomOf}
 use Rattle.outcome.specs.Does.{outcomeOf, Does}
 use Rattle.outcome.specs.declared.Checked.{Checked}
@@ -44,16 +44,16 @@ module _ (J : List ℕ) (r : ℕ) (σ : List Binding) (q : Proposition) where
   unfolding checkRuleProducesEquality
   is-check room s {name} {xs} e f = λ i. checkOf room (e i) ((ap (map (actionFor J)) f ∙ ap (λ (t : Rule). t .actions) (sym (rule-for J r))) i) s
 
-  module _ {name : ℕ} {xs k e p : List ℕ} {f : Fill} {m k₁ e₁ p₁ : List ℕ} {h : Headed} {memo₁ m₁ : List ℕ} (nq : name ≡ ruleFor J r .name) (xq : xs ≡ ruleActions (getD (tablesFor J .rules) r noCell))
-      (H : Heads prog name (map (actionFor J) xs) σ q marking k e p f m k₁ e₁ p₁ h memo₁ m₁) where
+  module _ {name : ℕ} {xs k e p ix : List ℕ} {f : Fill} {m k₁ e₁ p₁ ix₁ : List ℕ} {h : Headed} {memo₁ m₁ : List ℕ} (nq : name ≡ ruleFor J r .name) (xq : xs ≡ ruleActions (getD (tablesFor J .rules) r noCell))
+      (H : Heads prog name (map (actionFor J) xs) σ q marking k e p ix f m k₁ e₁ p₁ ix₁ h memo₁ m₁) where
     abbrev s₁ : List Term
     s₁ = termsIn k₁ e₁ p₁ (h .fill)
 
     pub produce-stops : {c : Checked} → (h .refusal .number ≡ 0 → ⊥) → c ≡ record { refusal = h .refusal; value = 0; fill = h .fill }
-        → Produces prog (ruleFor J r) σ q k e p f k₁ e₁ p₁ c memo₁
-    produce-stops n d = subst⁻¹ (λ (x : Checked). Produces prog (ruleFor J r) σ q k e p f k₁ e₁ p₁ x memo₁) d (record {
+        → Produces prog (ruleFor J r) σ q k e p ix f k₁ e₁ p₁ ix₁ c memo₁
+    produce-stops n d = subst⁻¹ (λ (x : Checked). Produces prog (ruleFor J r) σ q k e p ix f k₁ e₁ p₁ ix₁ x memo₁) d (record {
       checks = record {
-        does = subst (Does k e p f k₁ e₁ p₁ (h .fill) (h .refusal) tt) (is-check (roomOf k p) (termsIn k e p f) nq xq) (does-stop tt (λ c. checkThat (among q (c .pairs)) 31 (name ∷ q .lhs ∷ q .rhs ∷ [])) (H .does) n);
+        does = subst (Does k e p ix f k₁ e₁ p₁ ix₁ (h .fill) (h .refusal) tt) (is-check (roomOf k p) (termsIn k e p f) nq xq) (does-stop tt (λ c. checkThat (among q (c .pairs)) 31 (name ∷ q .lhs ∷ q .rhs ∷ [])) (H .does) n);
         past = λ u. absurd (n u);
       };
       grows = λ u. absurd (n u);
@@ -68,19 +68,19 @@ module _ (J : List ℕ) (r : ℕ) (σ : List Binding) (q : Proposition) where
           let c : m ≡ zeros (length m₀) = mq ∙ ap (λ (b : Bool). clearedIf b m₀) u in
           let w = H .marks n u (marks-cleared (termsIn k e p f) m (length m₀) c) in
           let l = terms-length k₁ e₁ p₁ (h .fill) in
-          let t = H .does .grown .stored .formed .kinds in
+          let t = H .does .grown .indexed .stored .formed .kinds in
           marks-closed (h .fill .cells) l (H .sane n .ordered) (omega arith) w refl (q .lhs)
           ∙ ap (λ (y : ℕ). among (record { lhs = q .lhs; rhs = y }) (H .context .pairs)) i
 
       pub produce-ends : {claimed : Bool} {c : Checked} → claimed ≡ claimedBy marking (h .found) (ltb 0 (getD (close s₁ (h .fill .cells) m₁) (q .lhs) 0))
           → (c .fill ≡ h .fill) × ((s : List Term) → outcomeOf (c .refusal) tt s ≡ checkThat claimed 31 (name ∷ q .lhs ∷ q .rhs ∷ []) s)
-          → Produces prog (ruleFor J r) σ q k e p f k₁ e₁ p₁ c memo₁
+          → Produces prog (ruleFor J r) σ q k e p ix f k₁ e₁ p₁ ix₁ c memo₁
       produce-ends {claimed} {c} cq d = record {
         checks = record {
-          does = subst (Does k e p f k₁ e₁ p₁ (c .fill) (c .refusal) tt) (is-check (roomOf k p) (termsIn k e p f) nq xq)
+          does = subst (Does k e p ix f k₁ e₁ p₁ ix₁ (c .fill) (c .refusal) tt) (is-check (roomOf k p) (termsIn k e p f) nq xq)
               (does-then (λ room x. checkThat (among q (x .pairs)) 31 (name ∷ q .lhs ∷ q .rhs ∷ [])) (H .does) n
-              (subst⁻¹ (λ (g : Fill). Does k₁ e₁ p₁ (h .fill) k₁ e₁ p₁ g (c .refusal) tt (checkThat (among q (H .context .pairs)) 31 (name ∷ q .lhs ∷ q .rhs ∷ []) s₁)) (d .0)
-              (does-here (H .does .grown .stored) (d .1 s₁ ∙ ap (λ (b : Bool). checkThat b 31 (name ∷ q .lhs ∷ q .rhs ∷ []) s₁) (cq ∙ claimed-is marking refl)))));
+              (subst⁻¹ (λ (g : Fill). Does k₁ e₁ p₁ ix₁ (h .fill) k₁ e₁ p₁ ix₁ g (c .refusal) tt (checkThat (among q (H .context .pairs)) 31 (name ∷ q .lhs ∷ q .rhs ∷ []) s₁)) (d .0)
+              (does-here (H .does .grown .indexed) (d .1 s₁ ∙ ap (λ (b : Bool). checkThat b 31 (name ∷ q .lhs ∷ q .rhs ∷ []) s₁) (cq ∙ claimed-is marking refl)))));
           past = λ _. H .past n;
         };
         grows = λ _. subst⁻¹ (λ (g : Fill). Extends (termsIn k e p f) (termsIn k₁ e₁ p₁ g)) (d .0) (H .grows n);

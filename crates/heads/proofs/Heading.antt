@@ -15,7 +15,7 @@ use Rattle.model.specs.Decode.{readBindings}
 use Rattle.model.specs.Check.{Outcome, ok, refused, andThen, checkThat, Room}
 use Rattle.model.specs.Action.{ActionContext, startContext, processAction, processActions, among}
 use Rattle.model.proofs.Store.{extends-same, extends-then, extends-length}
-use Rattle.cells.specs.declared.Fill.{Fill}
+use Rattle.index.specs.declared.Fill.{Fill}
 use Rattle.termdag.specs.Store.{termsIn, roomOf}
 use Rattle.outcome.specs.Does.{passed, outcomeOf, Grown}
 use Rattle.outcome.specs.declared.Checked.{Checked}
@@ -54,45 +54,45 @@ module _ (J : List ℕ) (rule : ℕ) (S G : List ℕ) (q : Proposition) (marking
   action = actionFor J
 
   -- after i of the actions xs, from the bindings σ
-  pub record Turn (xs : List ℕ) (σ : List Binding) (k₀ e₀ p₀ : List ℕ) (f₀ : Fill) (memo₀ m₀ k e p : List ℕ) (f : Fill) (memo m T : List ℕ) (at : ℕ) (found : Bool) (i : ℕ) : Type 0 where
+  pub record Turn (xs : List ℕ) (σ : List Binding) (k₀ e₀ p₀ ix₀ : List ℕ) (f₀ : Fill) (memo₀ m₀ k e p ix : List ℕ) (f : Fill) (memo m T : List ℕ) (at : ℕ) (found : Bool) (i : ℕ) : Type 0 where
     pub context : ActionContext
     pub upto : i ≤ length xs
     pub full : length T ≡ 160
     pub low : at ≤ 160
     pub free : (length xs - i) + (length xs - i) ≤ at
-    pub first : Standing J σ k₀ e₀ p₀ f₀ memo₀ m₀
-    pub stand : Standing J (bindingsIn (drop at T) S G) k e p f memo m
+    pub first : Standing J σ k₀ e₀ p₀ ix₀ f₀ memo₀ m₀
+    pub stand : Standing J (bindingsIn (drop at T) S G) k e p ix f memo m
     pub lenMemo : length memo ≡ length memo₀
     pub lenM : length m ≡ length m₀
     pub bindings : context .bindings ≡ bindingsIn (drop at T) S G
-    pub grown : Grown k₀ e₀ p₀ f₀ k e p f
+    pub grown : Grown k₀ e₀ p₀ ix₀ f₀ k e p ix f
     pub grows : Extends (termsIn k₀ e₀ p₀ f₀) (termsIn k e p f)
     pub run : processActions (roomOf k₀ p₀) prog rule (map action (drop i xs)) context (termsIn k e p f) ≡ processActions (roomOf k₀ p₀) prog rule (map action xs) (startContext σ) (termsIn k₀ e₀ p₀ f₀)
     pub others : (q .lhs ≡ q .rhs → ⊥) → among q (context .pairs) ≡ found
     pub marks : marking ≡ true → Marks (termsIn k₀ e₀ p₀ f₀) m₀ [] → Marks (termsIn k e p f) m (context .pairs)
 
-  pub start : {xs : List ℕ} {B k e p : List ℕ} {f : Fill} {memo m T : List ℕ} {at : ℕ} → Standing J (bindingsIn B S G) k e p f memo m → length xs ≤ 64 → at ≤ 160 → 128 ≤ at
-      → length T ≡ 160 → drop at T ≡ B → Turn xs (bindingsIn B S G) k e p f memo m k e p f memo m T at false 0
-  start {xs} {B} {k} {e} {p} {f} {memo} {m} {T} {at} st few low high full q = record {
+  pub start : {xs : List ℕ} {B k e p ix : List ℕ} {f : Fill} {memo m T : List ℕ} {at : ℕ} → Standing J (bindingsIn B S G) k e p ix f memo m → length xs ≤ 64 → at ≤ 160 → 128 ≤ at
+      → length T ≡ 160 → drop at T ≡ B → Turn xs (bindingsIn B S G) k e p ix f memo m k e p ix f memo m T at false 0
+  start {xs} {B} {k} {e} {p} {ix} {f} {memo} {m} {T} {at} st few low high full q = record {
     context = startContext (bindingsIn B S G);
     upto = omega arith;
     full = full;
     low = low;
     free = omega arith;
     first = st;
-    stand = subst⁻¹ (λ (X : List ℕ). Standing J (bindingsIn X S G) k e p f memo m) q st;
+    stand = subst⁻¹ (λ (X : List ℕ). Standing J (bindingsIn X S G) k e p ix f memo m) q st;
     lenMemo = refl;
     lenM = refl;
     bindings = ap (λ (X : List ℕ). bindingsIn X S G) (sym q);
-    grown = grown-same (st .stored);
+    grown = grown-same (st .indexed);
     grows = extends-same;
     run = refl;
     others = λ h. refl;
     marks = λ t w. w;
   }
 
-  module _ {xs : List ℕ} {σ : List Binding} {k₀ e₀ p₀ : List ℕ} {f₀ : Fill} {memo₀ m₀ k e p : List ℕ} {f : Fill} {memo m T : List ℕ} {at : ℕ} {found : Bool} {i : ℕ}
-      (t : Turn xs σ k₀ e₀ p₀ f₀ memo₀ m₀ k e p f memo m T at found i) where
+  module _ {xs : List ℕ} {σ : List Binding} {k₀ e₀ p₀ ix₀ : List ℕ} {f₀ : Fill} {memo₀ m₀ k e p ix : List ℕ} {f : Fill} {memo m T : List ℕ} {at : ℕ} {found : Bool} {i : ℕ}
+      (t : Turn xs σ k₀ e₀ p₀ ix₀ f₀ memo₀ m₀ k e p ix f memo m T at found i) where
     abbrev s : List Term
     s = termsIn k e p f
 
@@ -100,8 +100,8 @@ module _ (J : List ℕ) (rule : ℕ) (S G : List ℕ) (q : Proposition) (marking
     room = roomOf k₀ p₀
 
     -- the next action, in the context that there is
-    module _ {k₁ e₁ p₁ : List ℕ} {a : Acted} {memo₁ m₁ : List ℕ} (h : i < length xs)
-        (d : Acts prog rule (action (getD xs i 0)) (bindingsIn (drop at T) S G) marking k e p f m k₁ e₁ p₁ a memo₁ m₁) where
+    module _ {k₁ e₁ p₁ ix₁ : List ℕ} {a : Acted} {memo₁ m₁ : List ℕ} (h : i < length xs)
+        (d : Acts prog rule (action (getD xs i 0)) (bindingsIn (drop at T) S G) marking k e p ix f m k₁ e₁ p₁ ix₁ a memo₁ m₁) where
       abbrev s₁ : List Term
       s₁ = termsIn k₁ e₁ p₁ (a .fill)
 
@@ -121,8 +121,8 @@ module _ (J : List ℕ) (rule : ℕ) (S G : List ℕ) (q : Proposition) (marking
       split = ap (λ (ys : List ℕ). processActions room prog rule (map action ys) (t .context) s) (sym (drop-cons xs i 0 h)) ∙ t .run
 
       pub stops : {c : Headed} → (a .refusal .number ≡ 0 → ⊥) → c ≡ record { refusal = a .refusal; found = false; fill = a .fill }
-          → Heads prog rule (map action xs) σ q marking k₀ e₀ p₀ f₀ m₀ k₁ e₁ p₁ c memo₁ m₁
-      stops n g = subst⁻¹ (λ (x : Headed). Heads prog rule (map action xs) σ q marking k₀ e₀ p₀ f₀ m₀ k₁ e₁ p₁ x memo₁ m₁) g (record {
+          → Heads prog rule (map action xs) σ q marking k₀ e₀ p₀ ix₀ f₀ m₀ k₁ e₁ p₁ ix₁ c memo₁ m₁
+      stops n g = subst⁻¹ (λ (x : Headed). Heads prog rule (map action xs) σ q marking k₀ e₀ p₀ ix₀ f₀ m₀ k₁ e₁ p₁ ix₁ x memo₁ m₁) g (record {
         context = after;
         does = record {
           outcome = refused-of (a .refusal) after s₁ n
@@ -138,7 +138,7 @@ module _ (J : List ℕ) (rule : ℕ) (S G : List ℕ) (q : Proposition) (marking
       })
 
       pub turns : a .refusal .number ≡ 0 → {has found₁ : Bool} → has ≡ effectHas (a .effect) q → found₁ ≡ (found || has) → {T₁ : List ℕ} {at₁ : ℕ} → Pushed T at (a .effect) T₁ at₁ → length T₁ ≡ length T
-          → length memo₁ ≡ length memo → length m₁ ≡ length m → Turn xs σ k₀ e₀ p₀ f₀ memo₀ m₀ k₁ e₁ p₁ (a .fill) memo₁ m₁ T₁ at₁ found₁ (i + 1)
+          → length memo₁ ≡ length memo → length m₁ ≡ length m → Turn xs σ k₀ e₀ p₀ ix₀ f₀ memo₀ m₀ k₁ e₁ p₁ ix₁ (a .fill) memo₁ m₁ T₁ at₁ found₁ (i + 1)
       turns n {found₁ = found₁} hq fq {T₁} {at₁} ps lT lMemo lM = let w = t .free in let v = ps .least in record {
         context = after;
         upto = omega arith;
@@ -172,8 +172,8 @@ module _ (J : List ℕ) (rule : ℕ) (S G : List ℕ) (q : Proposition) (marking
     unfolding processActions
     all-done h = ap (λ (ys : List ℕ). processActions room prog rule (map action ys) (t .context) s) (sym (drop-of-length-le xs {i = i} h))
 
-    pub finishes : {c : Headed} → length xs ≤ i → c ≡ record { refusal = passed; found = found; fill = f } → Heads prog rule (map action xs) σ q marking k₀ e₀ p₀ f₀ m₀ k e p c memo m
-    finishes h g = subst⁻¹ (λ (x : Headed). Heads prog rule (map action xs) σ q marking k₀ e₀ p₀ f₀ m₀ k e p x memo m) g (record {
+    pub finishes : {c : Headed} → length xs ≤ i → c ≡ record { refusal = passed; found = found; fill = f } → Heads prog rule (map action xs) σ q marking k₀ e₀ p₀ ix₀ f₀ m₀ k e p ix c memo m
+    finishes h g = subst⁻¹ (λ (x : Headed). Heads prog rule (map action xs) σ q marking k₀ e₀ p₀ ix₀ f₀ m₀ k e p ix x memo m) g (record {
       context = t .context;
       does = record { outcome = all-done h ∙ t .run; grown = t .grown };
       past = λ _. t .stand .past;
@@ -187,13 +187,13 @@ module _ (J : List ℕ) (rule : ℕ) (S G : List ℕ) (q : Proposition) (marking
 pub part-is : {n : ℕ} (T : List ℕ) (at : ℕ) → length T ≡ n → take (n - at) (drop at T) ≡ drop at T
 part-is T at e = ap (λ (m : ℕ). take (m - at) (drop at T)) (sym e) ∙ to-end at T
 
-pub standing-part : (S G : List ℕ) {J : List ℕ} {X Y k e p : List ℕ} {f : Fill} {memo m : List ℕ} → X ≡ Y → Standing J (bindingsIn Y S G) k e p f memo m → Standing J (bindingsIn X S G) k e p f memo m
-standing-part S G {J} {k = k} {e = e} {p = p} {f = f} {memo = memo} {m = m} q st = subst⁻¹ (λ (X : List ℕ). Standing J (bindingsIn X S G) k e p f memo m) q st
+pub standing-part : (S G : List ℕ) {J : List ℕ} {X Y k e p ix : List ℕ} {f : Fill} {memo m : List ℕ} → X ≡ Y → Standing J (bindingsIn Y S G) k e p ix f memo m → Standing J (bindingsIn X S G) k e p ix f memo m
+standing-part S G {J} {k = k} {e = e} {p = p} {ix = ix} {f = f} {memo = memo} {m = m} q st = subst⁻¹ (λ (X : List ℕ). Standing J (bindingsIn X S G) k e p ix f memo m) q st
 
-pub acts-part : (S G : List ℕ) {prog : Program} {rule : ℕ} {a : Action} {X Y : List ℕ} {marking : Bool} {K E P : List ℕ} {f : Fill} {m K₁ E₁ P₁ : List ℕ} {r : Acted} {memo₁ m₁ : List ℕ} → X ≡ Y
-    → Acts prog rule a (bindingsIn X S G) marking K E P f m K₁ E₁ P₁ r memo₁ m₁ → Acts prog rule a (bindingsIn Y S G) marking K E P f m K₁ E₁ P₁ r memo₁ m₁
-acts-part S G {prog} {rule} {a} {marking = marking} {K = K} {E = E} {P = P} {f = f} {m = m} {K₁ = K₁} {E₁ = E₁} {P₁ = P₁} {r = r} {memo₁ = memo₁} {m₁ = m₁} q d =
-    subst (λ (X : List ℕ). Acts prog rule a (bindingsIn X S G) marking K E P f m K₁ E₁ P₁ r memo₁ m₁) q d
+pub acts-part : (S G : List ℕ) {prog : Program} {rule : ℕ} {a : Action} {X Y : List ℕ} {marking : Bool} {K E P I : List ℕ} {f : Fill} {m K₁ E₁ P₁ I₁ : List ℕ} {r : Acted} {memo₁ m₁ : List ℕ} → X ≡ Y
+    → Acts prog rule a (bindingsIn X S G) marking K E P I f m K₁ E₁ P₁ I₁ r memo₁ m₁ → Acts prog rule a (bindingsIn Y S G) marking K E P I f m K₁ E₁ P₁ I₁ r memo₁ m₁
+acts-part S G {prog} {rule} {a} {marking = marking} {K = K} {E = E} {P = P} {I = I} {f = f} {m = m} {K₁ = K₁} {E₁ = E₁} {P₁ = P₁} {I₁ = I₁} {r = r} {memo₁ = memo₁} {m₁ = m₁} q d =
+    subst (λ (X : List ℕ). Acts prog rule a (bindingsIn X S G) marking K E P I f m K₁ E₁ P₁ I₁ r memo₁ m₁) q d
 
 -- the table with the bindings copied to its end
 pub copied : (T B : List ℕ) (at : ℕ) → at + length B ≡ length T → drop at (put T at B) ≡ B

@@ -8,7 +8,7 @@ use Rattle.model.specs.Term.{Extends}
 use Rattle.model.specs.Program.{Proposition, Binding, Program, Action, Rule}
 use Rattle.model.specs.Action.{ActionContext, startContext, processActions, among, checkRuleProducesEquality}
 use Rattle.termdag.specs.Store.{termsIn, roomOf}
-use Rattle.cells.specs.declared.Fill.{Fill}
+use Rattle.index.specs.declared.Fill.{Fill}
 use Rattle.memo.specs.Memo.{Past}
 use Rattle.outcome.specs.Does.{Does}
 use Rattle.outcome.specs.declared.Checked.{Checked}
@@ -28,9 +28,9 @@ claimedBy true found marked = marked
 claimedBy false found marked = found
 
 -- The actions of a head with the bindings σ: the context after. A pair q of it that is not reflexive is a union's; the marks stand for the reflexive ones, if there is marking.
-pub record Heads (prog : Program) (rule : ℕ) (as′ : List Action) (σ : List Binding) (q : Proposition) (marking : Bool) (K E P : List ℕ) (f : Fill) (m K′ E′ P′ : List ℕ) (r : Headed) (memo′ m′ : List ℕ) : Type 0 where
+pub record Heads (prog : Program) (rule : ℕ) (as′ : List Action) (σ : List Binding) (q : Proposition) (marking : Bool) (K E P I : List ℕ) (f : Fill) (m K′ E′ P′ I′ : List ℕ) (r : Headed) (memo′ m′ : List ℕ) : Type 0 where
   pub context : ActionContext
-  pub does : Does K E P f K′ E′ P′ (r .fill) (r .refusal) context (processActions (roomOf K P) prog rule as′ (startContext σ) (termsIn K E P f))
+  pub does : Does K E P I f K′ E′ P′ I′ (r .fill) (r .refusal) context (processActions (roomOf K P) prog rule as′ (startContext σ) (termsIn K E P f))
   pub past : r .refusal .number ≡ 0 → Past memo′
   pub grows : r .refusal .number ≡ 0 → Extends (termsIn K E P f) (termsIn K′ E′ P′ (r .fill))
   pub sane : r .refusal .number ≡ 0 → Sane prog σ (termsIn K′ E′ P′ (r .fill))
@@ -38,7 +38,7 @@ pub record Heads (prog : Program) (rule : ℕ) (as′ : List Action) (σ : List 
   pub marks : r .refusal .number ≡ 0 → marking ≡ true → Marks (termsIn K E P f) m [] → Marks (termsIn K′ E′ P′ (r .fill)) m′ (context .pairs)
 
 -- A head that must produce the pair q: the outcome is the definition's, and after a value the store is sane.
-pub record Produces (prog : Program) (rule : Rule) (σ : List Binding) (q : Proposition) (K E P : List ℕ) (f : Fill) (K′ E′ P′ : List ℕ) (r : Checked) (memo′ : List ℕ) : Type 0 where
-  pub checks : Checks K E P f K′ E′ P′ (r .fill) (r .refusal) tt memo′ (checkRuleProducesEquality (roomOf K P) prog rule σ q (termsIn K E P f))
+pub record Produces (prog : Program) (rule : Rule) (σ : List Binding) (q : Proposition) (K E P I : List ℕ) (f : Fill) (K′ E′ P′ I′ : List ℕ) (r : Checked) (memo′ : List ℕ) : Type 0 where
+  pub checks : Checks K E P I f K′ E′ P′ I′ (r .fill) (r .refusal) tt memo′ (checkRuleProducesEquality (roomOf K P) prog rule σ q (termsIn K E P f))
   pub grows : r .refusal .number ≡ 0 → Extends (termsIn K E P f) (termsIn K′ E′ P′ (r .fill))
   pub sane : r .refusal .number ≡ 0 → Sane prog σ (termsIn K′ E′ P′ (r .fill))

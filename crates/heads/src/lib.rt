@@ -3,10 +3,10 @@ use actions::Effect;
 use actions::process_action;
 use actions::push_binding;
 use actions::yield_value;
-use cells::Fill;
 use decode::Merge;
 use decode::Name;
 use decode::Proposition;
+use index::Fill;
 use outcome::Checked;
 use outcome::Refusal;
 use outcome::pass;
@@ -61,6 +61,7 @@ fn head_actions(
     skinds: &mut [u32],
     sends: &mut [u32],
     spool: &mut [u32],
+    index: &mut [u32],
     fill: Fill,
     memo: &mut [u32],
     marking: bool,
@@ -68,11 +69,11 @@ fn head_actions(
     actions: &[u32],
     q: Proposition,
 ) -> Headed
-    requires { ⌜ Standing (now job) (bindingsIn (now bound) (now pairs) (now globals)) (now skinds) (now sends) (now spool) fill (now memo) (now marks) ⌝ }
+    requires { ⌜ Standing (now job) (bindingsIn (now bound) (now pairs) (now globals)) (now skinds) (now sends) (now spool) (now index) fill (now memo) (now marks) ⌝ }
     requires { ⌜ length (now bound) ≤ 32 ⌝ }
     requires { ⌜ length (now actions) ≤ 64 ⌝ }
     requires { ⌜ ((i : ℕ) → i < length (now actions) → getD (now actions) i 0 < sizesOf (now job) .actions) ⌝ }
-    ensures { λ r. ⌜ Heads (programFor (now (job .entry))) rule (map (actionFor (now (job .entry))) (now (actions .entry))) (bindingsIn (now (bound .entry)) (now (pairs .entry)) (now (globals .entry))) (propositionOf q) marking (now (skinds .entry)) (now (sends .entry)) (now (spool .entry)) fill (now (marks .entry)) (now (skinds .exit)) (now (sends .exit)) (now (spool .exit)) r (now (memo .exit)) (now (marks .exit)) ⌝ }
+    ensures { λ r. ⌜ Heads (programFor (now (job .entry))) rule (map (actionFor (now (job .entry))) (now (actions .entry))) (bindingsIn (now (bound .entry)) (now (pairs .entry)) (now (globals .entry))) (propositionOf q) marking (now (skinds .entry)) (now (sends .entry)) (now (spool .entry)) (now (index .entry)) fill (now (marks .entry)) (now (skinds .exit)) (now (sends .exit)) (now (spool .exit)) (now (index .exit)) r (now (memo .exit)) (now (marks .exit)) ⌝ }
 {
     let mut table = [0u32; 160];
     let mut at = 160 - bound.len();
@@ -90,6 +91,7 @@ fn head_actions(
             skinds,
             sends,
             spool,
+            index,
             have,
             memo,
             marking,
@@ -195,16 +197,17 @@ pub fn check_rule_produces_equality(
     skinds: &mut [u32],
     sends: &mut [u32],
     spool: &mut [u32],
+    index: &mut [u32],
     fill: Fill,
     memo: &mut [u32],
     marks: &mut [u32],
     r: usize,
     q: Proposition,
 ) -> Checked
-    requires { ⌜ Standing (now job) (bindingsIn (now bound) (now pairs) (now globals)) (now skinds) (now sends) (now spool) fill (now memo) (now marks) ⌝ }
+    requires { ⌜ Standing (now job) (bindingsIn (now bound) (now pairs) (now globals)) (now skinds) (now sends) (now spool) (now index) fill (now memo) (now marks) ⌝ }
     requires { ⌜ length (now bound) ≤ 32 ⌝ }
     requires { ⌜ r < sizesOf (now job) .rules ⌝ }
-    ensures { λ c. ⌜ Produces (programFor (now (job .entry))) (ruleFor (now (job .entry)) r) (bindingsIn (now (bound .entry)) (now (pairs .entry)) (now (globals .entry))) (propositionOf q) (now (skinds .entry)) (now (sends .entry)) (now (spool .entry)) fill (now (skinds .exit)) (now (sends .exit)) (now (spool .exit)) c (now (memo .exit)) ⌝ }
+    ensures { λ c. ⌜ Produces (programFor (now (job .entry))) (ruleFor (now (job .entry)) r) (bindingsIn (now (bound .entry)) (now (pairs .entry)) (now (globals .entry))) (propositionOf q) (now (skinds .entry)) (now (sends .entry)) (now (spool .entry)) (now (index .entry)) fill (now (skinds .exit)) (now (sends .exit)) (now (spool .exit)) (now (index .exit)) c (now (memo .exit)) ⌝ }
 {
     let marking = q.lhs == q.rhs;
     clear_if(marking, marks);
@@ -219,6 +222,7 @@ pub fn check_rule_produces_equality(
         skinds,
         sends,
         spool,
+        index,
         fill,
         memo,
         marking,
@@ -245,6 +249,7 @@ pub fn run_merge(
     skinds: &mut [u32],
     sends: &mut [u32],
     spool: &mut [u32],
+    index: &mut [u32],
     fill: Fill,
     memo: &mut [u32],
     marking: bool,
@@ -253,8 +258,8 @@ pub fn run_merge(
     old: u32,
     new: u32,
 ) -> Checked
-    requires { ⌜ Standing (now job) (model.mergeBindings old new) (now skinds) (now sends) (now spool) fill (now memo) (now marks) ⌝ }
-    ensures { λ r. ⌜ Yields (programFor (now (job .entry))) (model.mergeBindings old new) (model.runMerge (roomOf (now (skinds .entry)) (now (spool .entry))) (programFor (now (job .entry))) function old new (termsIn (now (skinds .entry)) (now (sends .entry)) (now (spool .entry)) fill)) marking (now (skinds .entry)) (now (sends .entry)) (now (spool .entry)) fill (now (marks .entry)) (now (skinds .exit)) (now (sends .exit)) (now (spool .exit)) r (now (memo .exit)) (now (marks .exit)) ⌝ }
+    requires { ⌜ Standing (now job) (model.mergeBindings old new) (now skinds) (now sends) (now spool) (now index) fill (now memo) (now marks) ⌝ }
+    ensures { λ r. ⌜ Yields (programFor (now (job .entry))) (model.mergeBindings old new) (model.runMerge (roomOf (now (skinds .entry)) (now (spool .entry))) (programFor (now (job .entry))) function old new (termsIn (now (skinds .entry)) (now (sends .entry)) (now (spool .entry)) fill)) marking (now (skinds .entry)) (now (sends .entry)) (now (spool .entry)) (now (index .entry)) fill (now (marks .entry)) (now (skinds .exit)) (now (sends .exit)) (now (spool .exit)) (now (index .exit)) r (now (memo .exit)) (now (marks .exit)) ⌝ }
 {
     let merge = merge_of(job, function);
     let bound = [Name::OLD.number, old, Name::NEW.number, new];
@@ -270,6 +275,7 @@ pub fn run_merge(
             skinds,
             sends,
             spool,
+            index,
             fill,
             memo,
             marking,

@@ -14,14 +14,14 @@ use Rattle.model.specs.Walk.{checkProof}
 use Rattle.model.specs.Decode.{jobOf}
 use Rattle.model.specs.Load.{isStrict, loadRefusal}
 use Rattle.model.specs.Answer.{Arrays, Left, lentBy, refusalWords, checkedBy, checked, loaded, check, entry}
-use Rattle.model.specs.Host.{wordsOf, ownArrays, ownScratch, hostAnswer, Answered, hostEntryMode}
+use Rattle.model.specs.Host.{wordsOf, ownArrays, ownSlots, ownScratch, hostAnswer, Answered, hostEntryMode}
 use Rattle.cells.specs.Table.{put}
 use Rattle.entry.proofs.Ending.{entry-check}
 
 -- the number of a check is its answer's first word
-pub first-word : (ws : List ℕ) (p mode : ℕ) (a : Arrays) (scratch : ℕ) → check ws p mode a scratch .number ≡ getD (check ws p mode a scratch .answer) 0 0
+pub first-word : (ws : List ℕ) (p mode : ℕ) (a : Arrays) (index scratch : ℕ) → check ws p mode a index scratch .number ≡ getD (check ws p mode a index scratch .answer) 0 0
 unfolding check checked
-first-word ws p mode a scratch = go (loadRefusal ws p mode (lentBy a scratch))
+first-word ws p mode a index scratch = go (loadRefusal ws p mode (lentBy a index scratch))
   where
     by : (o : Outcome Proposition) → checkedBy (jobOf ws) p a o .number ≡ getD (checkedBy (jobOf ws) p a o .answer) 0 0
     by (ok q s) = refl
@@ -32,16 +32,16 @@ first-word ws p mode a scratch = go (loadRefusal ws p mode (lentBy a scratch))
     go (some r) = refl
 
 -- an entry's answer in a buffer of eight words
-pub checks : {x : ℕ} {A₁ : List ℕ} {a₁ : Arrays} (ws : List ℕ) (p mode : ℕ) (a : Arrays) (scratch : ℕ) (A : List ℕ) → length A ≡ 8
-    → record { number = x; answer = A₁; arrays = a₁ } ≡ entry ws p mode a scratch A → (A₁ ≡ check ws p mode a scratch .answer) × (x ≡ getD A₁ 0 0)
-checks ws p mode a scratch A eight e =
-    let q = e ∙ entry-check ws p mode a scratch A eight in
-    (ap (λ (l : Left). l .answer) q, ap (λ (l : Left). l .number) q ∙ first-word ws p mode a scratch ∙ sym (ap (λ (l : Left). getD (l .answer) 0 0) q))
+pub checks : {x : ℕ} {A₁ : List ℕ} {a₁ : Arrays} (ws : List ℕ) (p mode : ℕ) (a : Arrays) (index scratch : ℕ) (A : List ℕ) → length A ≡ 8
+    → record { number = x; answer = A₁; arrays = a₁ } ≡ entry ws p mode a index scratch A → (A₁ ≡ check ws p mode a index scratch .answer) × (x ≡ getD A₁ 0 0)
+checks ws p mode a index scratch A eight e =
+    let q = e ∙ entry-check ws p mode a index scratch A eight in
+    (ap (λ (l : Left). l .answer) q, ap (λ (l : Left). l .number) q ∙ first-word ws p mode a index scratch ∙ sym (ap (λ (l : Left). getD (l .answer) 0 0) q))
 
--- the same with the host's own store and scratch
-pub own-checks : {x : ℕ} {A₁ : List ℕ} {a₁ : Arrays} (ws : List ℕ) (p mode : ℕ) (A : List ℕ) → length A ≡ 8
-    → record { number = x; answer = A₁; arrays = a₁ } ≡ entry ws p mode ownArrays (length (replicate {A = ℕ} 16384 0)) A → (A₁ ≡ check ws p mode ownArrays ownScratch .answer) × (x ≡ getD A₁ 0 0)
-own-checks ws p mode A eight e = checks ws p mode ownArrays ownScratch A eight (e ∙ ap (λ (n : ℕ). entry ws p mode ownArrays n A) (length-replicate {A = ℕ} 16384 0))
+-- the same with the host's own store, index and scratch
+pub own-checks : {x : ℕ} {A₁ : List ℕ} {a₁ : Arrays} (ws : List ℕ) (p mode : ℕ) (A I : List ℕ) → length A ≡ 8 → length I ≡ ownSlots
+    → record { number = x; answer = A₁; arrays = a₁ } ≡ entry ws p mode ownArrays (length I) (length (replicate {A = ℕ} 16384 0)) A → (A₁ ≡ check ws p mode ownArrays ownSlots ownScratch .answer) × (x ≡ getD A₁ 0 0)
+own-checks ws p mode A I eight l e = checks ws p mode ownArrays ownSlots ownScratch A eight (e ∙ (λ i. entry ws p mode ownArrays (l i) (length-replicate {A = ℕ} 16384 0 i) A))
 
 -- the words of a job's bytes stand at the front
 pub front-words : (bytes W : List ℕ) (n : ℕ) → n ≡ length (wordsOf bytes) → take n (put W 0 (wordsOf bytes)) ≡ wordsOf bytes
@@ -49,15 +49,15 @@ unfolding put
 front-words bytes W n e = ap (λ (k : ℕ). take k (wordsOf bytes ++ drop (0 + length (wordsOf bytes)) W)) e ∙ take-at (wordsOf bytes) _ (length (wordsOf bytes)) refl
 
 pub own-words : {x n : ℕ} {A₁ W₁ : List ℕ} (W bytes : List ℕ) (p mode : ℕ) → n ≡ length (wordsOf bytes) → W₁ ≡ put W 0 (wordsOf bytes)
-    → (A₁ ≡ check (take n W₁) p mode ownArrays ownScratch .answer) × (x ≡ getD A₁ 0 0) → (A₁ ≡ check (wordsOf bytes) p mode ownArrays ownScratch .answer) × (x ≡ getD A₁ 0 0)
+    → (A₁ ≡ check (take n W₁) p mode ownArrays ownSlots ownScratch .answer) × (x ≡ getD A₁ 0 0) → (A₁ ≡ check (wordsOf bytes) p mode ownArrays ownSlots ownScratch .answer) × (x ≡ getD A₁ 0 0)
 own-words {n = n} W bytes p mode e q (a, f) =
-    (a ∙ ap (λ (ws : List ℕ). check ws p mode ownArrays ownScratch .answer) (ap (take n) q ∙ front-words bytes W n e), f)
+    (a ∙ ap (λ (ws : List ℕ). check ws p mode ownArrays ownSlots ownScratch .answer) (ap (take n) q ∙ front-words bytes W n e), f)
 
 module _ (bytes : List ℕ) (p mode : ℕ) where
   answer-by : (b : Bool) → (ltb 65536 (length bytes) || not (eqb (length bytes % 4) 0)) ≡ b
-      → hostAnswer bytes p mode ≡ elim b [ true ↦ refusalWords (record { number = 1; fields = [] }) 0 | false ↦ check (wordsOf bytes) p mode ownArrays ownScratch .answer ]
+      → hostAnswer bytes p mode ≡ elim b [ true ↦ refusalWords (record { number = 1; fields = [] }) 0 | false ↦ check (wordsOf bytes) p mode ownArrays ownSlots ownScratch .answer ]
   unfolding hostAnswer
-  answer-by b h = ap (λ (t : Bool). elim t [ true ↦ refusalWords (record { number = 1; fields = [] }) 0 | false ↦ check (wordsOf bytes) p mode ownArrays ownScratch .answer ]) h
+  answer-by b h = ap (λ (t : Bool). elim t [ true ↦ refusalWords (record { number = 1; fields = [] }) 0 | false ↦ check (wordsOf bytes) p mode ownArrays ownSlots ownScratch .answer ]) h
 
   -- too many bytes, no whole words, and a job that is checked
   pub too-long : 65536 < length bytes → hostAnswer bytes p mode ≡ refusalWords (record { number = 1; fields = [] }) 0
@@ -66,7 +66,7 @@ module _ (bytes : List ℕ) (p mode : ℕ) where
   pub no-words : (length bytes ≤ 65536) → (length bytes % 4 ≡ 0 → ⊥) → hostAnswer bytes p mode ≡ refusalWords (record { number = 1; fields = [] }) 0
   no-words l h = answer-by true (λ i. le-ltb 65536 (length bytes) l i || not (ne-eqb (length bytes % 4) 0 h i))
 
-  pub whole-words : (length bytes ≤ 65536) → length bytes % 4 ≡ 0 → hostAnswer bytes p mode ≡ check (wordsOf bytes) p mode ownArrays ownScratch .answer
+  pub whole-words : (length bytes ≤ 65536) → length bytes % 4 ≡ 0 → hostAnswer bytes p mode ≡ check (wordsOf bytes) p mode ownArrays ownSlots ownScratch .answer
   whole-words l h = answer-by false (λ i. le-ltb 65536 (length bytes) l i || not (eq-eqb (length bytes % 4) 0 h i))
 
   module _ (A : List ℕ) where

@@ -9,7 +9,7 @@ use lib.Dec.{eqb, ltb}
 use Rattle.model.specs.Decode.{jobOf}
 use Rattle.model.specs.Load.{isStrict}
 use Rattle.model.specs.Answer.{Left, refusalWords, check}
-use Rattle.model.specs.Host.{wordsOf, ownArrays, ownScratch, hostAnswer, Answered, hostEntryMode}
+use Rattle.model.specs.Host.{wordsOf, ownArrays, ownSlots, ownScratch, hostAnswer, Answered, hostEntryMode}
 use Rattle.model.specs.Tree.{Tree}
 use Rattle.model.specs.Relation.{ClosedFor}
 use Rattle.model.proofs.Sound.{ClaimRelated, accepted}
@@ -29,13 +29,13 @@ host-sound R bytes asked mode A is zero closed = go (eqb (length A) 8) (sym (ap 
     eight = 0 ∷ 0 ∷ 0 ∷ 0 ∷ 0 ∷ 0 ∷ 0 ∷ 0 ∷ []
 
     words : Bool → List ℕ
-    words b = elim b [ true ↦ refusalWords (record { number = 1; fields = [] }) 0 | false ↦ check (wordsOf bytes) asked mode ownArrays ownScratch .answer ]
+    words b = elim b [ true ↦ refusalWords (record { number = 1; fields = [] }) 0 | false ↦ check (wordsOf bytes) asked mode ownArrays ownSlots ownScratch .answer ]
 
     by : (b : Bool) → getD (words b) 0 0 ≡ 0
         → ClaimRelated (jobOf (wordsOf bytes)) R asked
     by true e = absurd (omega arith)
-    by false e = accepted R (wordsOf bytes) asked mode ownArrays ownScratch eight
-        (ap (λ (l : Left). l .number) (entry-check (wordsOf bytes) asked mode ownArrays ownScratch eight refl) ∙ first-word (wordsOf bytes) asked mode ownArrays ownScratch ∙ e) closed
+    by false e = accepted R (wordsOf bytes) asked mode ownArrays ownSlots ownScratch eight
+        (ap (λ (l : Left). l .number) (entry-check (wordsOf bytes) asked mode ownArrays ownSlots ownScratch eight refl) ∙ first-word (wordsOf bytes) asked mode ownArrays ownSlots ownScratch ∙ e) closed
 
     left : Bool → Answered
     left b = elim b [ true ↦ record { number = getD (hostAnswer bytes asked mode) 0 0; answer = hostAnswer bytes asked mode } | false ↦ record { number = 10; answer = A } ]

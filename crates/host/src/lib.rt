@@ -9,7 +9,7 @@ ghost use Prim.Native.Nat.{_≤_};
 ghost use lib.ListN.{length, getD};
 ghost use Rattle.model.specs.Answer.{entry, refusalWords};
 ghost use Rattle.model.specs.Answer.{check as Answer·check};
-ghost use Rattle.model.specs.Host.{wordsOf, ownArrays, ownScratch, hostEntry, hostEntryMode};
+ghost use Rattle.model.specs.Host.{wordsOf, ownArrays, ownSlots, ownScratch, hostEntry, hostEntryMode};
 
 // Writes the refusal of bytes that are too many or no whole words, and gives its number.
 fn refuse_bytes(answer: &mut [u32]) -> u32
@@ -25,15 +25,17 @@ fn refuse_bytes(answer: &mut [u32]) -> u32
     write_refusal(answer, refusal, 0)
 }
 
-// Checks a job's words with the host's own store and scratch.
+// Checks a job's words with the host's own store, index and scratch. The index's multiplier comes from the answer's first word as it was lent.
 fn check_words(words: &[u32], asked: u32, mode: u32, answer: &mut [u32]) -> u32
     requires { ⌜ length (now answer) ≡ 8 ⌝ }
-    ensures is { λ r. ⌜ now (answer .exit) ≡ Answer·check (now (words .entry)) asked mode ownArrays ownScratch .answer ⌝ }
+    ensures is { λ r. ⌜ now (answer .exit) ≡ Answer·check (now (words .entry)) asked mode ownArrays ownSlots ownScratch .answer ⌝ }
     ensures number { λ r. ⌜ r ≡ getD (now (answer .exit)) 0 0 ⌝ }
 {
     let mut kinds = [0u32; 4096];
     let mut ends = [0u32; 4096];
     let mut pool = [0u32; 16384];
+    let mut index = [0u32; 8192];
+    index[0] = answer[0];
     let mut scratch = [0u32; 16384];
     check(
         words,
@@ -42,6 +44,7 @@ fn check_words(words: &[u32], asked: u32, mode: u32, answer: &mut [u32]) -> u32
         &mut kinds,
         &mut ends,
         &mut pool,
+        &mut index,
         &mut scratch,
         answer,
     )
@@ -51,7 +54,7 @@ fn check_words(words: &[u32], asked: u32, mode: u32, answer: &mut [u32]) -> u32
 fn check_whole(job: &[u8], asked: u32, mode: u32, answer: &mut [u32]) -> u32
     requires { ⌜ length (now job) ≤ 65536 ⌝ }
     requires { ⌜ length (now answer) ≡ 8 ⌝ }
-    ensures is { λ r. ⌜ now (answer .exit) ≡ Answer·check (wordsOf (now (job .entry))) asked mode ownArrays ownScratch .answer ⌝ }
+    ensures is { λ r. ⌜ now (answer .exit) ≡ Answer·check (wordsOf (now (job .entry))) asked mode ownArrays ownSlots ownScratch .answer ⌝ }
     ensures number { λ r. ⌜ r ≡ getD (now (answer .exit)) 0 0 ⌝ }
 {
     let mut words = [0u32; 16384];
@@ -98,10 +101,11 @@ pub extern "C" fn sizercobalt_check(
     kinds: &mut [u32],
     ends: &mut [u32],
     pool: &mut [u32],
+    index: &mut [u32],
     scratch: &mut [u32],
     answer: &mut [u32],
 ) -> u32
-    ensures { λ r. ⌜ record { number = r; answer = now (answer .exit); arrays = record { kinds = now (kinds .exit); ends = now (ends .exit); pool = now (pool .exit) } } ≡ entry (now (job .entry)) asked mode (record { kinds = now (kinds .entry); ends = now (ends .entry); pool = now (pool .entry) }) (length (now (scratch .entry))) (now (answer .entry)) ⌝ }
+    ensures { λ r. ⌜ record { number = r; answer = now (answer .exit); arrays = record { kinds = now (kinds .exit); ends = now (ends .exit); pool = now (pool .exit) } } ≡ entry (now (job .entry)) asked mode (record { kinds = now (kinds .entry); ends = now (ends .entry); pool = now (pool .entry) }) (length (now (index .entry))) (length (now (scratch .entry))) (now (answer .entry)) ⌝ }
 {
-    check(job, asked, mode, kinds, ends, pool, scratch, answer)
+    check(job, asked, mode, kinds, ends, pool, index, scratch, answer)
 }

@@ -1,10 +1,10 @@
 -- Laws of listing the cells of a table one by one.
 use mathlib.Core.Path.{_≡_, refl, sym, ap, subst, _∙_}
 use mathlib.Core.List.{List, []}
-use Prim.Native.Nat.{ℕ, zero, suc, _+_, _-_, _*_, _≤_, _<_, _^_}
+use Prim.Native.Nat.{ℕ, _+_, _-_, _*_, _≤_, _<_, _^_}
 use native.Mathlib.Nat.{not-suc-le-zero}
 use native.Mathlib.Omega.{arith}
-use lib.ListN.{length, getD, set, replicate}
+use lib.ListN.{length, getD, replicate}
 use Rattle.model.specs.Cell.{Cell, noCell, tabulate, cellAt, cellsOf}
 use Rattle.cells.specs.Table.{Formed, Once}
 use Rattle.cells.specs.declared.Fill.{Fill}
@@ -12,7 +12,6 @@ use Rattle.model.proofs.Valid.{length-tabulate}
 use Rattle.cells.proofs.Laws.{getD-tabulate, cell-words, tabulate-more}
 use Rattle.cells.proofs.Appending.{once-append}
 use Rattle.index.specs.Mixing.{slotOf}
-use Rattle.index.specs.Slots.{used}
 use Rattle.index.specs.Listing.{Lists, hits, Looked, Built, noCells, oneMore, Enlisted, Filled}
 use Rattle.index.specs.declared.Probe.{Probe}
 use Rattle.index.proofs.Probing.{comparisons-few}

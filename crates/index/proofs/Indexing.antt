@@ -1,12 +1,12 @@
 -- Laws of an index of cells: what a look-up shows, and what listing one cell more keeps.
 use mathlib.Core.Path.{_≡_, refl, sym, ap, subst, _∙_}
-use mathlib.Core.Logic.{⊎-elim, _⊎_, inl, inr}
+use mathlib.Core.Logic.{_⊎_, inl, inr}
 use mathlib.Core.Bool.{Bool, true, false}
 use mathlib.Core.List.{List, [], _∷_, _++_}
 use Prim.Native.Nat.{ℕ, zero, suc, _+_, _-_, _%_, _≤_, _<_, _^_}
 use native.Mathlib.Nat.{mod-lt}
 use native.Mathlib.Omega.{arith}
-use lib.ListN.{length, getD, set, replicate, length-append, length-set, List·getD-append}
+use lib.ListN.{length, getD, set, length-append, length-set, List·getD-append}
 use lib.Seq.{getD-append-seam}
 use Rattle.model.specs.Cell.{Cell, noCell, sameCell, cellsOf}
 use Rattle.model.proofs.Valid.{cell-same}
@@ -14,13 +14,13 @@ use Rattle.cells.specs.Table.{findCell, foundBy, Once, Table, tableOf, hasRoom,
 use Rattle.cells.specs.declared.Found.{Found}
 use Rattle.cells.proofs.Laws.{found-at, found-some, found-none, once-found, cells-length}
 use Rattle.index.specs.Mixing.{slotOf}
-use Rattle.index.specs.Slots.{onward, Met, Free, used, Listed, roundFrom, comparisons}
+use Rattle.index.specs.Slots.{onward, Free, roundFrom, comparisons}
 use Rattle.index.specs.Listing.{homeOf, Lists, hits, Looked, tableFill, tableAdded, Ready, Kept, Built, noCells, oneMore}
 use Rattle.index.specs.declared.Fill.{Fill}
 use Rattle.index.specs.declared.Added.{Added}
 use Rattle.index.specs.declared.Probe.{Probe}
 use Rattle.index.proofs.Arithmetic.{slot-within}
-use Rattle.index.proofs.Probing.{Passed, passed-none, passed-more, hit-count, empty-count, empty-free, none-hits, passed-all, listed-none, listed-named, listed-more}
+use Rattle.index.proofs.Probing.{Passed, passed-more, hit-count, empty-count, empty-free, none-hits, passed-all, listed-none, listed-named, listed-more}
 
 -- a look-up of c that has taken k steps from c's own slot s
 module _ (m : ℕ) (I : List ℕ) (cs : List Cell) (c : Cell) (s : ℕ) (own : s ≡ slotOf m (length I) c) (some : 0 < length I) where

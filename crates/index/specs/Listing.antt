@@ -1,8 +1,8 @@
 -- An index of cells: slots that list the cells of a table by their numbers, each met from the slot that its mix gives.
 use mathlib.Core.Path.{_≡_}
-use mathlib.Core.Bool.{Bool, true, false}
+use mathlib.Core.Bool.{Bool}
 use mathlib.Core.List.{List, [], _∷_, _++_}
-use Prim.Native.Nat.{ℕ, _+_, _*_, _≤_, _<_}
+use Prim.Native.Nat.{ℕ, _+_, _≤_, _<_}
 use lib.ListN.{length, getD, set, replicate}
 use Rattle.model.specs.Cell.{Cell, noCell, sameCell, tabulate, cellsOf}
 use Rattle.cells.specs.Table.{Formed, findCell, foundBy, Once, Ran, Result}

@@ -17,9 +17,9 @@ multiplierOf w = (golden + (w + w) % 2 ^ 32) % 2 ^ 32
 unfoldable pub upper : ℕ → ℕ
 upper y = (y + y / 65536) % 2 ^ 32
 
--- The mix h with one more word, by the multiplier x.
+-- The mix h with one more word, by the multiplier x, twice: of a product alone the low bits see only the low bits of x.
 unfoldable pub stirred : ℕ → ℕ → ℕ → ℕ
-stirred x h w = upper ((h + w) % 2 ^ 32 * x % 2 ^ 32)
+stirred x h w = upper (upper ((h + w) % 2 ^ 32 * x % 2 ^ 32) * x % 2 ^ 32)
 
 unfoldable pub mixFrom : ℕ → ℕ → List ℕ → ℕ
 mixFrom x h [] = h

@@ -8,7 +8,7 @@ ghost use Prim.Native.Nat.{ℕ, _+_, _*_, _%_, _≤_, _<_, _^_};
 ghost use lib.ListN.{length, getD, set, replicate};
 ghost use Rattle.model.specs.Cell.{cellAt, cellsOf};
 ghost use Rattle.cells.specs.Table.{Formed, Once, addCell, tableOf};
-ghost use Rattle.index.specs.Mixing.{multiplierOf, stirred, spread, mixOf, slotOf};
+ghost use Rattle.index.specs.Mixing.{multiplierOf, upper, stirred, spread, mixOf, slotOf};
 ghost use Rattle.index.specs.Listing.{Lists, Looked, tableFill, Ready, Kept, Enlisted, Filled};
 
 // How much of an indexed table is in use, the number of cells and of pool words, and the multiplier of its index.
@@ -63,12 +63,19 @@ pub fn multiplier(index: &[u32]) -> u32
     wrapping_add_u32(2654435761, wrapping_add_u32(w, w))
 }
 
+// The product with the multiplier, its upper half added.
+fn times(y: u32, x: u32) -> u32
+    ensures { λ r. ⌜ r ≡ upper (y * x % 2 ^ 32) ⌝ }
+{
+    let p = wrapping_mul32(y, x);
+    wrapping_add_u32(p, p / 65536)
+}
+
 // The mix with one more word.
 fn stir(x: u32, h: u32, w: u32) -> u32
     ensures { λ r. ⌜ r ≡ stirred x h w ⌝ }
 {
-    let y = wrapping_mul32(wrapping_add_u32(h, w), x);
-    wrapping_add_u32(y, y / 65536)
+    times(times(wrapping_add_u32(h, w), x), x)
 }
 
 // The mix's last step.

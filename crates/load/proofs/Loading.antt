@@ -15,7 +15,7 @@ use Rattle.model.specs.Cell.{Cell, noCell, tabulate, startOf, cellAt, cellsOf}
 use Rattle.model.specs.Term.{readTerm, termWords, widths}
 use Rattle.model.specs.Layout.{Sizes, sizesOf, cellCount, kindsOf, endsOf, poolOf, Tables, tablesIn, tablesOf}
 use Rattle.model.specs.Check.{Refusal}
-use Rattle.model.specs.Load.{Lent, wrongLength, tooLarge, unknownMode, endsRise, noRoom, refusedIf, termFits, fitTests, firstRefusal, loadTests, loadRefusal}
+use Rattle.model.specs.Load.{Lent, wrongLength, tooLarge, unknownMode, endsRise, noRoom, wrongSlots, refusedIf, termFits, fitTests, firstRefusal, loadTests, loadRefusal}
 use Rattle.model.proofs.Tests.{eq-of, le-of, and-left, and-right, or-left, or-right, not-false}
 use Rattle.model.proofs.Valid.{term-cell, pass, table-passes, length-tabulate}
 use Rattle.cells.specs.Table.{total}
@@ -105,20 +105,30 @@ module _ (E : List ℕ) (z : Sizes) (t : Tables) (l : Lent) where
   unfolding refusedIf cellRefusal
   refuses-5 h = rw h
 
-  behind-5 : endsRise 0 E (z .pool) ≡ true → cellRefusal E z t l ≡ orRest (firstRefusal (writerTests z t)) (orRest (refusedIf (noRoom z (map readTerm (t .terms)) l) 10) none)
-  unfolding refusedIf cellRefusal
-  behind-5 h = rw h (first-append (writerTests z t) ((λ _. refusedIf (noRoom z (map readTerm (t .terms)) l) 10) ∷ []))
+  -- those behind the writer's
+  abbrev lentTests : List (Unit {0} → Option Refusal)
+  lentTests = (λ _. refusedIf (noRoom z (map readTerm (t .terms)) l) 10) ∷ (λ _. refusedIf (wrongSlots l) 12) ∷ []
 
-  pub refuses-writer : (r : Refusal) → endsRise 0 E (z .pool) ≡ true → firstRefusal (writerTests z t) ≡ some r → some r ≡ cellRefusal E z t l
-  refuses-writer r h e = sym (behind-5 h ∙ ap (λ (o : Option Refusal). orRest o (orRest (refusedIf (noRoom z (map readTerm (t .terms)) l) 10) none)) e)
-
-  pub refuses-10 : endsRise 0 E (z .pool) ≡ true → firstRefusal (writerTests z t) ≡ none → noRoom z (map readTerm (t .terms)) l ≡ true → some (host 10) ≡ cellRefusal E z t l
+  behind-5 : endsRise 0 E (z .pool) ≡ true → cellRefusal E z t l ≡ orRest (firstRefusal (writerTests z t)) (firstRefusal lentTests)
   unfolding refusedIf cellRefusal
-  refuses-10 h e n = rw (behind-5 h, e, n)
+  behind-5 h = rw h (first-append (writerTests z t) lentTests)
 
-  pub admits : endsRise 0 E (z .pool) ≡ true → firstRefusal (writerTests z t) ≡ none → noRoom z (map readTerm (t .terms)) l ≡ false → none ≡ cellRefusal E z t l
-  unfolding refusedIf cellRefusal
-  admits h e n = rw (behind-5 h, e, n)
+  module _ (h : endsRise 0 E (z .pool) ≡ true) where
+    pub refuses-writer : (r : Refusal) → firstRefusal (writerTests z t) ≡ some r → some r ≡ cellRefusal E z t l
+    refuses-writer r e = sym (behind-5 h ∙ ap (λ (o : Option Refusal). orRest o (firstRefusal lentTests)) e)
+
+    module _ (e : firstRefusal (writerTests z t) ≡ none) where
+      pub refuses-10 : noRoom z (map readTerm (t .terms)) l ≡ true → some (host 10) ≡ cellRefusal E z t l
+      unfolding refusedIf cellRefusal
+      refuses-10 n = rw (behind-5 h, e, n)
+
+      pub refuses-12 : noRoom z (map readTerm (t .terms)) l ≡ false → wrongSlots l ≡ true → some (host 12) ≡ cellRefusal E z t l
+      unfolding refusedIf cellRefusal
+      refuses-12 n w = rw (behind-5 h, e, n, w)
+
+      pub admits : noRoom z (map readTerm (t .terms)) l ≡ false → wrongSlots l ≡ false → none ≡ cellRefusal E z t l
+      unfolding refusedIf cellRefusal
+      admits n w = rw (behind-5 h, e, n, w)
 
 -- the words that terms take
 fits-total : (cs : List Cell) → ((k : ℕ) → k < length cs → termFits (getD cs k noCell) ≡ true) → widths (map readTerm cs) ≡ total cs
@@ -140,20 +150,20 @@ module _ {A : Type 0} (f : ℕ → A) where
           take-all k (tabulate (suc n) f) (omega (arith, length-tabulate (suc n) f)) ∙ ap (λ (i : ℕ). tabulate i f) e
       go (no l) r = take-append-le k (tabulate n f) (f n ∷ []) (omega (arith, length-tabulate n f)) ∙ r (omega arith)
 
+pub terms-are : (K E P : List ℕ) (z : SizesHeld) → tablesFor K E P z .terms ≡ cellsOf K E P (z .terms)
+unfolding cellsOf
+terms-are K E P z = take-tabulate (cellAt K E P) (cellCount (sizesIn z)) (z .terms) (omega arith)
+
 module _ {K E P : List ℕ} {z : SizesHeld} (H : Held K E P z) (l : Lent) where
   abbrev tables : Tables
   tables = tablesFor K E P z
-
-  terms-are : tables .terms ≡ cellsOf K E P (z .terms)
-  unfolding cellsOf
-  terms-are = take-tabulate (cellAt K E P) (cellCount (sizesIn z)) (z .terms) (omega arith)
 
   terms-fit : firstRefusal (writerTests (sizesIn z) tables) ≡ none → (k : ℕ) → k < length (tables .terms) → termFits (getD (tables .terms) k noCell) ≡ true
   terms-fit e k h = table-passes tables 6 (fitTests tables) 0 (omega arith) refl k h (pass (writerTests (sizesIn z) tables) e _ (List·Memᴰ·head refl))
 
   pub room-is : firstRefusal (writerTests (sizesIn z) tables) ≡ none → noRoom (sizesIn z) (map readTerm (tables .terms)) l ≡ roomLacks (sizesIn z) (startOf E (z .terms)) l
   room-is e =
-      let w : widths (map readTerm (tables .terms)) ≡ startOf E (z .terms) = fits-total (tables .terms) (terms-fit e) ∙ ap total terms-are ∙ total-at (H .formed) (z .terms) (omega arith) in
+      let w : widths (map readTerm (tables .terms)) ≡ startOf E (z .terms) = fits-total (tables .terms) (terms-fit e) ∙ ap total (terms-are K E P z) ∙ total-at (H .formed) (z .terms) (omega arith) in
       ap (λ (n : ℕ). roomLacks (sizesIn z) n l) w
 
 -- a job's words
@@ -256,6 +266,9 @@ module _ (ws : List ℕ) (z : SizesHeld) (n : ℕ) (s : sizesIn z ≡ sizesOf ws
     pool = simp (length-take, length-drop) (omega (arith, words, e));
     limits = l;
   }
+
+  pub cut-terms : cellsOf (kindsCut ws n) (endsCut ws n) (poolCut ws n) (z .terms) ≡ cellsOf (kindsOf ws) (endsOf ws) (poolOf ws) (sizesOf ws .terms)
+  cut-terms = λ i. cellsOf (kinds-cut ws n count i) (ends-cut ws n count i) (pool-cut ws n count i) (s i .terms)
 
   pub cut-refusal : (l : Lent) → cellRefusal (endsCut ws n) (sizesIn z) (tablesFor (kindsCut ws n) (endsCut ws n) (poolCut ws n) z) l ≡ cellRefusal (endsOf ws) (sizesOf ws) (tablesOf ws) l
   unfolding tablesOf

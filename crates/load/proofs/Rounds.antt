@@ -1,18 +1,20 @@
--- Laws of the rounds 6 to 9, of rising ends and of the room.
-use mathlib.Core.Path.{_≡_, refl, ap, _∙_}
-use mathlib.Core.Bool.{Bool, true, false, not, _&&_, _||_}
+-- Laws of the rounds 6 to 9, of rising ends, of the room and of the slots.
+use mathlib.Core.Path.{_≡_, refl, sym, ap, _∙_}
+use mathlib.Core.Bool.{Bool, true, false, not, _&&_, _||_, true≢false}
 use mathlib.Core.List.{List, [], _∷_}
 use mathlib.Core.Option.{Option, none, some}
-use Prim.Native.Nat.{ℕ, zero, suc, _+_, _*_, _-_, _≤_, _<_}
+use Prim.Native.Nat.{ℕ, zero, suc, _+_, _*_, _-_, _≤_, _<_, _^_}
 use native.Mathlib.Numerals.{add-one}
 use native.Mathlib.Omega.{arith}
+use native.Mathlib.Decide.{decLt}
 use lib.Dec.{eqb, leb, ltb}
 use lib.ListN.{length, getD, drop, drop-of-length-le}
+use lib.Pow.{pow-mono, pow-add}
 use lib.Seq.{drop-cons}
-use borrow.Author.Tests.{lt-ltb, le-ltb, le-leb, lt-leb}
+use borrow.Author.Tests.{eq-eqb, ne-eqb, lt-ltb, le-ltb, le-leb, lt-leb}
 use Rattle.model.specs.Layout.{Sizes, Tables, tableList}
 use Rattle.model.specs.Check.{Refusal}
-use Rattle.model.specs.Load.{Lent, endsRise, marks, firstMarked, firstRefusal, firstFailing}
+use Rattle.model.specs.Load.{Lent, endsRise, marks, firstMarked, firstRefusal, firstFailing, doubles}
 use Rattle.cells.specs.declared.Found.{Found}
 use Rattle.load.specs.Held.{firstFound, testsFor, writerTests, roomLacks}
 
@@ -84,3 +86,33 @@ or-false false = refl
 pub room-few : (z : Sizes) (words : ℕ) (l : Lent) → l .kinds ≤ 65536
     → (ltb (l .kinds) (z .terms) || ltb (l .pool) words || ltb 1048576 (l .pool) || not (eqb (l .kinds) (l .ends)) || ltb (l .scratch) (2 * (l .kinds + z .proofs))) ≡ roomLacks z words l
 room-few z words l h = rw (le-ltb 65536 (l .kinds) h, or-false)
+
+pub room-cells : (z : Sizes) (words : ℕ) (l : Lent) → roomLacks z words l ≡ false → l .kinds ≤ 65536
+room-cells z words l h = go (decLt 65536 (l .kinds))
+  where
+    go : Dec (65536 < l .kinds) → l .kinds ≤ 65536
+    go (yes q) = absurd (true≢false (room-many z words l q ∙ h))
+    go (no q) = omega arith
+
+-- doubling, try by try
+pub double-yes : (f p n : ℕ) → p ≡ n → doubles (suc f) p n ≡ true
+unfolding doubles
+double-yes f p n e = rw (doubles, eq-eqb p n e)
+
+pub double-no : (f p n : ℕ) → (p ≡ n → ⊥) → doubles (suc f) p n ≡ doubles f (p * 2) n
+unfolding doubles
+double-no f p n d = rw (doubles, ne-eqb p n d)
+
+pub double-last : (p n : ℕ) → eqb p n ≡ doubles 1 p n
+unfolding doubles
+double-last p n = go (eqb p n)
+  where
+    go : (t : Bool) → t ≡ elim t [ true ↦ true | false ↦ false ]
+    go true = refl
+    go false = refl
+
+pub double-fits : (k : ℕ) → k < 63 → 2 ^ k * 2 < 2 ^ 64
+double-fits k h = let q : k ≤ 62 = omega arith in omega (arith, pow-mono q)
+
+pub double-pow : (k : ℕ) → 2 ^ k * 2 ≡ 2 ^ (k + 1)
+double-pow k = sym (pow-add 2 k 1)

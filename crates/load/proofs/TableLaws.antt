@@ -9,14 +9,15 @@ use lib.Dec.{eqb, ltb}
 use lib.ListN.{length, getD, take, drop, length-take, length-drop, drop-of-length-le, List·getD-eq-default}
 use lib.Seq.{getD-take, getD-drop, drop-cons, take-take}
 use borrow.Author.Tests.{ne-eqb, lt-ltb, le-ltb, le-leb, lt-leb}
-use Rattle.model.specs.Cell.{Cell, noCell, cellsOf}
+use Rattle.model.specs.Cell.{Cell, noCell, sameCell, cellsOf}
 use Rattle.model.specs.Layout.{Sizes, Tables, part, tablesIn, tableList, cellCount, firstFact, firstAction, firstFunction, firstPrimitive, firstRow, firstNormaliser, firstRule, firstProof}
 use Rattle.model.specs.Decode.{readArguments, readPrimitive}
 use Rattle.model.specs.Program.{looksUp}
 use Rattle.model.specs.Load.{any, failsFrom, marks, isFirst, sameHead, counts, isSetCall, setFits, primitiveLooksUp, passed, fitTests, validTests, onceTests}
-use Rattle.cells.proofs.Laws.{cell-at}
+use Rattle.cells.proofs.Laws.{cell-at, cells-length, cells-fewer, same-cell-eq}
 use Rattle.cells.specs.declared.Found.{Found}
-use Rattle.load.specs.Held.{countsOf, cellNumber, fixedCounts, alikeBy, firstAmong, testsFor, firstFound}
+use Rattle.load.specs.declared.sizes.Sizes.{Sizes as SizesHeld}
+use Rattle.load.specs.Held.{sizesIn, Distinct, countsOf, cellNumber, fixedCounts, alikeBy, firstAmong, testsFor, firstFound}
 
 -- a cell of a table is a cell of the job
 pub part-at : (cs : List Cell) (from count i : ℕ) → i < count → getD (part cs from count) i noCell ≡ getD cs (from + i) noCell
@@ -172,6 +173,11 @@ module _ (f : Cell → Bool) (cs : List Cell) (first i j : ℕ) (h : j < i) (l :
 pub earlier-end : (f : Cell → Bool) (cs : List Cell) (first i j : ℕ) → i ≤ j → true ≡ not (any f (drop j (take i (drop first cs))))
 earlier-end f cs first i j h = rw (drop-of-length-le (take i (drop first cs)) {i = j} (simp length-take (omega arith)))
 
+-- none is the same, where each is not
+earlier-none : (f : Cell → Bool) (xs : List Cell) → ((j : ℕ) → j < length xs → f (getD xs j noCell) ≡ false) → any f xs ≡ false
+earlier-none f [] h = refl
+earlier-none f (x ∷ xs) h = rw (h 0 (omega arith)) (earlier-none f xs (λ j l. h (suc j) (omega arith)))
+
 -- a place of a table is a cell of the job
 pub place-inside : (z : Sizes) (k i : ℕ) → k < 10 → i < getD (countsOf z) k 0 → cellNumber z k + i < cellCount z
 place-inside z zero i h l = omega arith
@@ -194,6 +200,31 @@ first-in z cs same k first i h e l =
     let t : getD (tableList (tablesIn z cs)) k [] ≡ part cs first n = table-is z cs k h ∙ ap (λ (f : ℕ). part cs f n) (sym e) in
     let c = getD cs (first + i) noCell in
     ap (λ (l : List Cell). not (any (λ x. same x c) l)) (sym (take-take i n (drop first cs) (omega arith))) ∙ ap (λ (l : List Cell). isFirst same l i c) (sym t)
+
+-- terms that are known to differ
+module _ {K E P : List ℕ} {z : SizesHeld} {n : ℕ} (D : Distinct K E P z n) where
+  abbrev held : List Cell
+  held = cellsOf K E P (cellCount (sizesIn z))
+
+  differ : (i : ℕ) → i < n → (j : ℕ) → j < length (take i held) → sameCell (getD (take i held) j noCell) (getD held i noCell) ≡ false
+  differ i h j l = go (sameCell (getD (take i held) j noCell) (getD held i noCell)) refl
+    where
+      go : (t : Bool) → sameCell (getD (take i held) j noCell) (getD held i noCell) ≡ t → t ≡ false
+      go false e = refl
+      go true e =
+          let m = cellCount (sizesIn z) in
+          let few : n ≤ m = omega (arith, D .few) in
+          let long : length (cellsOf K E P n) ≡ n = cells-length K E P n in
+          let short : length (take i held) ≤ i = simp length-take (omega arith) in
+          let q : j < i = omega arith in
+          let same : getD (cellsOf K E P n) j noCell ≡ getD (cellsOf K E P n) i noCell = cells-fewer K E P n m j few (omega arith) ∙ sym (getD-take i held j noCell q) ∙ same-cell-eq _ _ e ∙ sym (cells-fewer K E P n m i few h) in
+          absurd (omega (arith, D .once .one j i (omega arith) (omega arith) same))
+
+  pub known-first : (table first i : ℕ) → table ≡ 0 → first ≡ cellNumber (sizesIn z) table → i < n → true ≡ firstAmong (alikeBy table) held first i
+  known-first table first i t f h =
+      let o : first ≡ 0 = f ∙ ap (cellNumber (sizesIn z)) t in
+      let y : 0 + i ≡ i = omega arith in
+      rw (t, o, y) (ap not (sym (earlier-none (λ x. sameCell x (getD held i noCell)) (take i held) (differ i h))))
 
 pub once-other : (t : Tables) (k i : ℕ) (c : Cell) → (k ≡ 9 → ⊥) → (k ≡ 0 → ⊥) → (k ≡ 6 → ⊥) → (k ≡ 7 → ⊥) → true ≡ getD (onceTests t) k passed i c
 once-other t zero i c a b d e = absurd (b refl)

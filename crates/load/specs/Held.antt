@@ -6,16 +6,17 @@ use Prim.Native.Nat.{ℕ, zero, suc, _+_, _*_, _≤_, _<_, _^_}
 use mathlib.Core.Option.{Option, none, some}
 use lib.Dec.{eqb, ltb}
 use lib.ListN.{length, getD, take, drop}
-use Rattle.model.specs.Cell.{Cell, noCell, sameCell, cellsOf}
+use Rattle.model.specs.Cell.{Cell, noCell, sameCell, cellAt, cellsOf}
 use Rattle.model.specs.Term.{readTerm}
 use Rattle.model.specs.Check.{Refusal}
 use Rattle.model.specs.Layout.{Sizes, cellCount, Tables, tablesIn}
-use Rattle.model.specs.Load.{Lent, any, endsRise, noRoom, refusedIf, firstRefusal, firstFailing, sameRow, sameHead, fitTests, referTests, validTests, onceTests}
+use Rattle.model.specs.Load.{Lent, any, endsRise, noRoom, wrongSlots, refusedIf, firstRefusal, firstFailing, sameRow, sameHead, fitTests, referTests, validTests, onceTests}
 use Rattle.load.specs.declared.sizes.Sizes.{Sizes as SizesHeld}
 use Rattle.load.specs.declared.Loaded.{Loaded}
-use Rattle.cells.specs.Table.{Formed}
+use Rattle.cells.specs.Table.{Formed, Once}
 use Rattle.cells.specs.declared.Fill.{Fill}
 use Rattle.cells.specs.declared.Found.{Found}
+use Rattle.index.specs.Listing.{Filled}
 
 -- The definitions' sizes.
 abbrev pub sizesIn : SizesHeld → Sizes
@@ -81,6 +82,16 @@ pub record Held (K E P : List ℕ) (z : SizesHeld) : Type 0 where
 -- The tables that they hold.
 abbrev pub tablesFor : List ℕ → List ℕ → List ℕ → SizesHeld → Tables
 tablesFor K E P z = tablesIn (sizesIn z) (cellsOf K E P (cellCount (sizesIn z)))
+
+-- The first n cells are terms, no two equal.
+pub record Distinct (K E P : List ℕ) (z : SizesHeld) (n : ℕ) : Type 0 where
+  pub few : n ≤ z .terms
+  pub once : Once (cellsOf K E P n)
+
+-- The index was filled with the terms, up to one that equals an earlier one: it lists n of them.
+pub record Fills (x : ℕ) (K E P : List ℕ) (z : SizesHeld) (I : List ℕ) (n : ℕ) : Type 0 where
+  pub compared : ℕ
+  pub filled : Filled x (cellAt K E P) (z .terms) I (record { listed = n; compared = compared })
 
 -- The sum of the first n numbers.
 abbrev pub sumOf : ℕ → List ℕ → ℕ
@@ -151,7 +162,7 @@ pub record Cut (K E P : List ℕ) (z : SizesHeld) : Type 0 where
   pub pool : length P ≡ z .pool
   pub limits : Limits (sizesIn z)
 
--- The tests for 5 to 10, in their order.
+-- The tests for 5 to 10 and 12, in their order.
 abbrev pub cellTests : List ℕ → Sizes → Tables → Lent → List (Unit {0} → Option Refusal)
 cellTests E z t lent =
     (λ _. refusedIf (not (endsRise 0 E (z .pool))) 5) ∷
@@ -159,9 +170,10 @@ cellTests E z t lent =
     (λ _. firstFailing 7 (testsFor 1 z t) t) ∷
     (λ _. firstFailing 8 (testsFor 2 z t) t) ∷
     (λ _. firstFailing 9 (testsFor 3 z t) t) ∷
-    (λ _. refusedIf (noRoom z (map readTerm (t .terms)) lent) 10) ∷ []
+    (λ _. refusedIf (noRoom z (map readTerm (t .terms)) lent) 10) ∷
+    (λ _. refusedIf (wrongSlots lent) 12) ∷ []
 
--- The refusal from 5 to 10.
+-- The first refusal of these.
 unfoldable pub cellRefusal : List ℕ → Sizes → Tables → Lent → Option Refusal
 cellRefusal E z t lent = firstRefusal (cellTests E z t lent)
 

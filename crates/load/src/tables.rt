@@ -23,7 +23,7 @@ ghost use Rattle.model.specs.Cell.{cellsOf};
 ghost use Rattle.model.specs.Layout.{cellCount, tableList};
 ghost use Rattle.model.specs.Program.{substitution};
 ghost use Rattle.model.specs.Decode.{readProof};
-ghost use Rattle.load.specs.Held.{sizesIn, fillOf, Limits, Held, tablesFor, fixedCounts, alikeBy, firstAmong, cellHeld, Place, testsFor, firstFound, countsOf, cellNumber};
+ghost use Rattle.load.specs.Held.{sizesIn, fillOf, Limits, Held, Distinct, tablesFor, fixedCounts, alikeBy, firstAmong, cellHeld, Place, testsFor, firstFound, countsOf, cellNumber};
 
 // How much the job's arrays hold.
 pub fn fill(z: Sizes) -> Fill
@@ -246,12 +246,13 @@ pub fn proof_once(kind: u32, ws: &[u32]) -> bool
     true
 }
 
-// 9, by table.
+// 9, by table: the first `distinct` terms need no search.
 pub fn once(
     kinds: &[u32],
     ends: &[u32],
     pool: &[u32],
     z: Sizes,
+    distinct: usize,
     table: usize,
     first: usize,
     i: usize,
@@ -261,12 +262,16 @@ pub fn once(
     requires { ⌜ Held (now kinds) (now ends) (now pool) z ⌝ }
     requires { ⌜ Place z table first i ⌝ }
     requires { ⌜ record { kind = kind; words = now ws } ≡ cellHeld (now kinds) (now ends) (now pool) z (first + i) ⌝ }
+    requires { ⌜ Distinct (now kinds) (now ends) (now pool) z distinct ⌝ }
     ensures { λ r. ⌜ r ≡ getD (onceTests (tablesFor (now (kinds .entry)) (now (ends .entry)) (now (pool .entry)) z)) table passed i (cellHeld (now (kinds .entry)) (now (ends .entry)) (now (pool .entry)) z (first + i)) ⌝ }
 {
     if table == 9 {
         return proof_once(kind, ws);
     }
     if table == 0 {
+        if i < distinct {
+            return true;
+        }
         return is_first(kinds, ends, pool, z, table, first, i);
     }
     if table == 6 {
@@ -284,6 +289,7 @@ pub fn passes(
     ends: &[u32],
     pool: &[u32],
     z: Sizes,
+    distinct: usize,
     round: usize,
     table: usize,
     first: usize,
@@ -291,6 +297,7 @@ pub fn passes(
 ) -> bool
     requires { ⌜ Held (now kinds) (now ends) (now pool) z ⌝ }
     requires { ⌜ Place z table first i ⌝ }
+    requires { ⌜ Distinct (now kinds) (now ends) (now pool) z distinct ⌝ }
     ensures { λ r. ⌜ r ≡ getD (testsFor round (sizesIn z) (tablesFor (now (kinds .entry)) (now (ends .entry)) (now (pool .entry)) z)) table passed i (cellHeld (now (kinds .entry)) (now (ends .entry)) (now (pool .entry)) z (first + i)) ⌝ }
 {
     let f = fill(z);
@@ -306,7 +313,7 @@ pub fn passes(
     if round == 2 {
         return valid(kinds, ends, pool, z, table, ws);
     }
-    once(kinds, ends, pool, z, table, first, i, kind, ws)
+    once(kinds, ends, pool, z, distinct, table, first, i, kind, ws)
 }
 
 // The first cell of a table that fails its test.
@@ -315,6 +322,7 @@ pub fn first_failing(
     ends: &[u32],
     pool: &[u32],
     z: Sizes,
+    distinct: usize,
     round: usize,
     table: usize,
     first: usize,
@@ -324,11 +332,12 @@ pub fn first_failing(
     requires { ⌜ table < 10 ⌝ }
     requires { ⌜ first ≡ cellNumber (sizesIn z) table ⌝ }
     requires { ⌜ count ≡ getD (countsOf (sizesIn z)) table 0 ⌝ }
+    requires { ⌜ Distinct (now kinds) (now ends) (now pool) z distinct ⌝ }
     ensures { λ r. ⌜ r ≡ firstFound first (failsFrom 0 (getD (testsFor round (sizesIn z) (tablesFor (now (kinds .entry)) (now (ends .entry)) (now (pool .entry)) z)) table passed) (getD (tableList (tablesFor (now (kinds .entry)) (now (ends .entry)) (now (pool .entry)) z)) table [])) ⌝ }
 {
     let mut i = 0;
     while i < count {
-        if !passes(kinds, ends, pool, z, round, table, first, i) {
+        if !passes(kinds, ends, pool, z, distinct, round, table, first, i) {
             return Found::At(first + i);
         }
         i += 1;
@@ -337,8 +346,16 @@ pub fn first_failing(
 }
 
 // The first cell of all tables that fails its table's test.
-pub fn first_marked(kinds: &[u32], ends: &[u32], pool: &[u32], z: Sizes, round: usize) -> Found
+pub fn first_marked(
+    kinds: &[u32],
+    ends: &[u32],
+    pool: &[u32],
+    z: Sizes,
+    distinct: usize,
+    round: usize,
+) -> Found
     requires { ⌜ Held (now kinds) (now ends) (now pool) z ⌝ }
+    requires { ⌜ Distinct (now kinds) (now ends) (now pool) z distinct ⌝ }
     ensures { λ r. ⌜ r ≡ firstFound 0 (marks (testsFor round (sizesIn z) (tablesFor (now (kinds .entry)) (now (ends .entry)) (now (pool .entry)) z)) (tableList (tablesFor (now (kinds .entry)) (now (ends .entry)) (now (pool .entry)) z))) ⌝ }
 {
     let ns = counts(z);
@@ -346,7 +363,7 @@ pub fn first_marked(kinds: &[u32], ends: &[u32], pool: &[u32], z: Sizes, round: 
     let mut table = 0;
     while table < 10 {
         let n = ns[table];
-        let f = first_failing(kinds, ends, pool, z, round, table, first, n);
+        let f = first_failing(kinds, ends, pool, z, distinct, round, table, first, n);
         if let Found::At(_) = f {
             return f;
         }

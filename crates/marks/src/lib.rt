@@ -1,6 +1,6 @@
 // Marks on the terms of a store, for the reflexive pairs of an evaluation: a mark stands for a term and all its subterms.
-use cells::Fill;
 use cells::wide;
+use index::Fill;
 ghost use mathlib.Core.Path.{_≡_};
 ghost use Prim.Native.Nat.{_<_};
 ghost use lib.ListN.{length, getD, set};

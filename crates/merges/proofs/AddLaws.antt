@@ -12,7 +12,7 @@ use Rattle.model.specs.Evaluate.{children}
 use Rattle.model.proofs.Store.{extends-length, get-inside, get-extends}
 use Rattle.model.proofs.Again.{child-lower}
 use Rattle.cells.specs.Table.{put}
-use Rattle.cells.specs.declared.Fill.{Fill}
+use Rattle.index.specs.declared.Fill.{Fill}
 use Rattle.termdag.specs.Store.{termsIn, roomOf}
 use Rattle.outcome.specs.Does.{Does}
 use Rattle.outcome.specs.declared.Checked.{Checked}
@@ -63,7 +63,7 @@ module _ (zs xs : List ℕ) {L : List ℕ} (i x : ℕ) (q : L ≡ put zs 0 xs) (
   written-length = sym (ap length written-take ∙ length-set xs i x)
 
 -- the application with it
-module _ {K E P : List ℕ} {f : Fill} {K₁ E₁ P₁ : List ℕ} {c : Checked} where
-  pub replaced : {us ws : List ℕ} (head : ℕ) → us ≡ ws → Does K E P f K₁ E₁ P₁ (c .fill) (c .refusal) (c .value) (addNode (roomOf K P) (app head us) (termsIn K E P f))
-      → Does K E P f K₁ E₁ P₁ (c .fill) (c .refusal) (c .value) (addNode (roomOf K P) (app head ws) (termsIn K E P f))
-  replaced head e d = subst (λ (ys : List ℕ). Does K E P f K₁ E₁ P₁ (c .fill) (c .refusal) (c .value) (addNode (roomOf K P) (app head ys) (termsIn K E P f))) e d
+module _ {K E P I : List ℕ} {f : Fill} {K₁ E₁ P₁ I₁ : List ℕ} {c : Checked} where
+  pub replaced : {us ws : List ℕ} (head : ℕ) → us ≡ ws → Does K E P I f K₁ E₁ P₁ I₁ (c .fill) (c .refusal) (c .value) (addNode (roomOf K P) (app head us) (termsIn K E P f))
+      → Does K E P I f K₁ E₁ P₁ I₁ (c .fill) (c .refusal) (c .value) (addNode (roomOf K P) (app head ws) (termsIn K E P f))
+  replaced head e d = subst (λ (ys : List ℕ). Does K E P I f K₁ E₁ P₁ I₁ (c .fill) (c .refusal) (c .value) (addNode (roomOf K P) (app head ys) (termsIn K E P f))) e d

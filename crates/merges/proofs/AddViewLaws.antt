@@ -18,7 +18,7 @@ use Rattle.model.specs.Walk.{last, front}
 use Rattle.model.proofs.Post.{post-result}
 use Rattle.model.proofs.Store.{Added}
 use Rattle.model.proofs.Again.{added, child-lower}
-use Rattle.cells.specs.declared.Fill.{Fill}
+use Rattle.index.specs.declared.Fill.{Fill}
 use Rattle.termdag.specs.Store.{termsIn, roomOf}
 use Rattle.outcome.specs.Does.{refusal, outcomeOf, Does}
 use Rattle.outcome.specs.declared.Refusal.{Refusal}
@@ -85,7 +85,7 @@ view-tested s₁ n m p q view {covered} s e h =
     that-is (sameProposition q (same view) || covered) 38 3 (p ∷ q .lhs ∷ q .rhs ∷ 0 ∷ 0 ∷ 0 ∷ []) h tt s
     ∙ ap (λ (x : Bool). checkThat (sameProposition q (same view) || x) 38 (p ∷ q .lhs ∷ q .rhs ∷ []) s) e
 
-module _ (p : ℕ) (q : Proposition) (t head value : ℕ) (K E P : List ℕ) (f : Fill) (m K₁ E₁ P₁ : List ℕ) (n : ℕ) (c : Checked) where
+module _ (p : ℕ) (q : Proposition) (t head value : ℕ) (K E P I : List ℕ) (f : Fill) (m K₁ E₁ P₁ I₁ : List ℕ) (n : ℕ) (c : Checked) where
   abbrev s : List Term
   s = termsIn K E P f
 
@@ -98,11 +98,11 @@ module _ (p : ℕ) (q : Proposition) (t head value : ℕ) (K E P : List ℕ) (f 
   abbrev claims : List Proposition → ℕ → Check (Unit {0})
   claims ps view = checkThat (among q (same view ∷ ps)) 38 (p ∷ q .lhs ∷ q .rhs ∷ [])
 
-  module _ (k : length xs ≡ suc n) (A : Does K E P f K₁ E₁ P₁ (c .fill) (c .refusal) (c .value) (addNode (roomOf K P) (app head (set xs n value)) s)) where
-    view : Does K E P f K₁ E₁ P₁ (c .fill) (c .refusal) (c .value) (addNode (roomOf K P) (app head (front xs ++ (value ∷ []))) s)
+  module _ (k : length xs ≡ suc n) (A : Does K E P I f K₁ E₁ P₁ I₁ (c .fill) (c .refusal) (c .value) (addNode (roomOf K P) (app head (set xs n value)) s)) where
+    view : Does K E P I f K₁ E₁ P₁ I₁ (c .fill) (c .refusal) (c .value) (addNode (roomOf K P) (app head (front xs ++ (value ∷ []))) s)
     view = replaced {c = c} head (last-set xs n value k) A
 
-    pub view-stops : (c .refusal .number ≡ 0 → ⊥) → AddsView p q t head value K E P f m K₁ E₁ P₁ c
+    pub view-stops : (c .refusal .number ≡ 0 → ⊥) → AddsView p q t head value K E P I f m K₁ E₁ P₁ I₁ c
     unfolding addView
     view-stops z = record { does = λ ps o v l h w. does-stop tt (claims ps) view z }
 
@@ -119,19 +119,19 @@ module _ (p : ℕ) (q : Proposition) (t head value : ℕ) (K E P : List ℕ) (f 
       claimed-is true u =
           let i : q .lhs ≡ q .rhs = eqb-true (q .lhs) (q .rhs) u in
           let n = terms-length K₁ E₁ P₁ (c .fill) in
-          let a = view .grown .stored .formed .kinds in
+          let a = view .grown .indexed .stored .formed .kinds in
           let b = view .grown .lenK in
           marks-closed (c .fill .cells) n ordered (omega arith) (marks-extends o (became .grows) (w u)) refl (q .lhs)
           ∙ ap (λ (y : ℕ). among (record { lhs = q .lhs; rhs = y }) ps) i
 
       view-does : (r : Refusal)
           → ((u : List Term) → outcomeOf r tt u ≡ checkThat (sameProposition q (same (c .value)) || covers s₁ (c .fill .cells) m q) 38 (p ∷ q .lhs ∷ q .rhs ∷ []) u)
-          → Does K E P f K₁ E₁ P₁ (c .fill) r tt (addView (roomOf K P) p q head (front xs) value ps s)
+          → Does K E P I f K₁ E₁ P₁ I₁ (c .fill) r tt (addView (roomOf K P) p q head (front xs) value ps s)
       unfolding addView
-      view-does r g = does-then (λ room. claims ps) view z (does-here (view .grown .stored)
+      view-does r g = does-then (λ room. claims ps) view z (does-here (view .grown .indexed)
           (g s₁ ∙ ap (λ (x : Bool). checkThat (sameProposition q (same (c .value)) || x) 38 (p ∷ q .lhs ∷ q .rhs ∷ []) s₁) (claimed-is (eqb (q .lhs) (q .rhs)) refl)))
 
     pub view-ends : {d : Checked} (r : Refusal) → c .refusal .number ≡ 0 → t < length s
         → ((u : List Term) → outcomeOf r tt u ≡ checkThat (sameProposition q (same (c .value)) || covers s₁ (c .fill .cells) m q) 38 (p ∷ q .lhs ∷ q .rhs ∷ []) u)
-        → d ≡ record { refusal = r; value = 0; fill = c .fill } → AddsView p q t head value K E P f m K₁ E₁ P₁ d
-    view-ends r z i g e = subst⁻¹ (λ (x : Checked). AddsView p q t head value K E P f m K₁ E₁ P₁ x) e (record { does = λ ps o v l h w. view-does z ps o v i l h w r g })
+        → d ≡ record { refusal = r; value = 0; fill = c .fill } → AddsView p q t head value K E P I f m K₁ E₁ P₁ I₁ d
+    view-ends r z i g e = subst⁻¹ (λ (x : Checked). AddsView p q t head value K E P I f m K₁ E₁ P₁ I₁ x) e (record { does = λ ps o v l h w. view-does z ps o v i l h w r g })

@@ -18,7 +18,7 @@ use Rattle.model.specs.Normalize.{App, asApp}
 use Rattle.model.specs.Walk.{last, front, checkViews, checkBothApps}
 use Rattle.model.proofs.Post.{Post, post-ok, post-bind, post-result, or-bind, that-bind, post-that}
 use Rattle.model.proofs.Store.{get-extends}
-use Rattle.cells.specs.declared.Fill.{Fill}
+use Rattle.index.specs.declared.Fill.{Fill}
 use Rattle.termdag.specs.Store.{termsIn, roomOf}
 use Rattle.outcome.specs.Does.{outcomeOf, Does}
 use Rattle.outcome.specs.declared.Refusal.{Refusal}
@@ -123,8 +123,8 @@ cleared-length true m = length-replicate (length m) 0
 cleared-length false m = refl
 
 -- the code's merge
-module _ (J : List ℕ) (p : ℕ) (q : Proposition) (function : ℕ) (a b : Proposition) (k e pool : List ℕ) (f : Fill) (memo m : List ℕ)
-    (S : Standing J [] k e pool f memo m) (sa : Small (termsIn k e pool f) (a .rhs)) (sb : Small (termsIn k e pool f) (b .rhs))
+module _ (J : List ℕ) (p : ℕ) (q : Proposition) (function : ℕ) (a b : Proposition) (k e pool ix : List ℕ) (f : Fill) (memo m : List ℕ)
+    (S : Standing J [] k e pool ix f memo m) (sa : Small (termsIn k e pool f) (a .rhs)) (sb : Small (termsIn k e pool f) (b .rhs))
     (v : Views) (R : outcomeOf (v .refusal) (mergingOf v (front (children (getTerm (termsIn k e pool f) (a .rhs))))) (termsIn k e pool f) ≡ readViews p a b (termsIn k e pool f)) where
   abbrev prog : Program
   prog = programFor J
@@ -138,9 +138,9 @@ module _ (J : List ℕ) (p : ℕ) (q : Proposition) (function : ℕ) (a b : Prop
   abbrev whole : Outcome (Unit {0})
   whole = mergeStep (roomOf k pool) prog p q function a b s
 
-  pub merge-unread : (v .refusal .number ≡ 0 → ⊥) → Checks k e pool f k e pool f (v .refusal) tt memo whole
+  pub merge-unread : (v .refusal .number ≡ 0 → ⊥) → Checks k e pool ix f k e pool ix f (v .refusal) tt memo whole
   merge-unread n = record {
-    does = does-here (S .stored) (plain-stop (v .refusal) (mergingOf v inputs) s R tt (mergeViews (roomOf k pool) prog p q function) n ∙ sym (merge-split (roomOf k pool) prog p q function a b s));
+    does = does-here (S .indexed) (plain-stop (v .refusal) (mergingOf v inputs) s R tt (mergeViews (roomOf k pool) prog p q function) n ∙ sym (merge-split (roomOf k pool) prog p q function a b s));
     past = λ u. absurd (n u);
   }
 
@@ -148,10 +148,10 @@ module _ (J : List ℕ) (p : ℕ) (q : Proposition) (function : ℕ) (a b : Prop
     values : (last (children (getTerm s (a .rhs))) ≡ some (v .old)) × (last (children (getTerm s (b .rhs))) ≡ some (v .new))
     values = let w = post-result (read-values p a b s) (sym R ∙ ok-of (v .refusal) (mergingOf v inputs) s n) in (w .0, w .1)
 
-    pub merge-standing : {m₁ : List ℕ} → length m₁ ≡ length m → Standing J (mergeBindings (v .old) (v .new)) k e pool f memo m₁
+    pub merge-standing : {m₁ : List ℕ} → length m₁ ≡ length m → Standing J (mergeBindings (v .old) (v .new)) k e pool ix f memo m₁
     merge-standing l = record {
       ready = S .ready;
-      stored = S .stored;
+      indexed = S .indexed;
       sane = record {
         ordered = S .sane .ordered;
         bound = merge-bound (v .old) (v .new) (children-below s (S .sane .ordered) (a .rhs) (v .old) (last-member _ _ (values .0))) (children-below s (S .sane .ordered) (b .rhs) (v .new) (last-member _ _ (values .1)));
@@ -162,23 +162,23 @@ module _ (J : List ℕ) (p : ℕ) (q : Proposition) (function : ℕ) (a b : Prop
       cells = let h = S .cells in omega arith;
     }
 
-    read : Does k e pool f k e pool f (v .refusal) (mergingOf v inputs) (readViews p a b s)
-    read = does-here (S .stored) R
+    read : Does k e pool ix f k e pool ix f (v .refusal) (mergingOf v inputs) (readViews p a b s)
+    read = does-here (S .indexed) R
 
-    merged : {k₂ e₂ p₂ : List ℕ} {f₂ : Fill} {r : Refusal} → Does k e pool f k₂ e₂ p₂ f₂ r tt (mergeViews (roomOf k pool) prog p q function (mergingOf v inputs) s) → Does k e pool f k₂ e₂ p₂ f₂ r tt whole
-    merged {k₂} {e₂} {p₂} {f₂} {r} d =
-        subst (Does k e pool f k₂ e₂ p₂ f₂ r tt) (sym (merge-split (roomOf k pool) prog p q function a b s))
+    merged : {k₂ e₂ p₂ ix₂ : List ℕ} {f₂ : Fill} {r : Refusal} → Does k e pool ix f k₂ e₂ p₂ ix₂ f₂ r tt (mergeViews (roomOf k pool) prog p q function (mergingOf v inputs) s) → Does k e pool ix f k₂ e₂ p₂ ix₂ f₂ r tt whole
+    merged {k₂} {e₂} {p₂} {ix₂} {f₂} {r} d =
+        subst (Does k e pool ix f k₂ e₂ p₂ ix₂ f₂ r tt) (sym (merge-split (roomOf k pool) prog p q function a b s))
         (does-then (λ room. mergeViews room prog p q function) read n d)
 
-    module _ (m₁ k₁ e₁ p₁ memo₁ m₂ : List ℕ) (c : Checked)
-        (Y : Yields prog (mergeBindings (v .old) (v .new)) (runMerge (roomOf k pool) prog function (v .old) (v .new) s) (eqb (q .lhs) (q .rhs)) k e pool f m₁ k₁ e₁ p₁ c memo₁ m₂) where
+    module _ (m₁ k₁ e₁ p₁ ix₁ memo₁ m₂ : List ℕ) (c : Checked)
+        (Y : Yields prog (mergeBindings (v .old) (v .new)) (runMerge (roomOf k pool) prog function (v .old) (v .new) s) (eqb (q .lhs) (q .rhs)) k e pool ix f m₁ k₁ e₁ p₁ ix₁ c memo₁ m₂) where
       abbrev s₁ : List Term
       s₁ = termsIn k₁ e₁ p₁ (c .fill)
 
       abbrev adds : Room → Value → Check (Unit {0})
       adds room w = addView room p q (v .head) inputs (w .term) (w .pairs)
 
-      pub merge-refused : (c .refusal .number ≡ 0 → ⊥) → Checks k e pool f k₁ e₁ p₁ (c .fill) (c .refusal) tt memo₁ whole
+      pub merge-refused : (c .refusal .number ≡ 0 → ⊥) → Checks k e pool ix f k₁ e₁ p₁ ix₁ (c .fill) (c .refusal) tt memo₁ whole
       unfolding mergeViews
       merge-refused h = record { does = merged (does-stop tt (adds (roomOf k pool)) (Y .does) h); past = λ u. absurd (h u) }
 
@@ -192,12 +192,12 @@ module _ (J : List ℕ) (p : ℕ) (q : Proposition) (function : ℕ) (a b : Prop
         marked : m₁ ≡ clearedIf (eqb (q .lhs) (q .rhs)) m → eqb (q .lhs) (q .rhs) ≡ true → Marks s₁ m₂ (Y .value .pairs)
         marked g u = Y .marks h u [] (marks-cleared s m₁ (length m) (g ∙ ap (λ (b : Bool). clearedIf b m) u))
 
-        pub merge-adds : {k₂ e₂ p₂ : List ℕ} {d : Checked} → m₁ ≡ clearedIf (eqb (q .lhs) (q .rhs)) m → length m₁ ≡ length m → length m₂ ≡ length m₁
-            → AddsView p q (a .rhs) (v .head) (c .value) k₁ e₁ p₁ (c .fill) m₂ k₂ e₂ p₂ d
-            → Checks k e pool f k₂ e₂ p₂ (d .fill) (d .refusal) tt memo₁ whole
+        pub merge-adds : {k₂ e₂ p₂ ix₂ : List ℕ} {d : Checked} → m₁ ≡ clearedIf (eqb (q .lhs) (q .rhs)) m → length m₁ ≡ length m → length m₂ ≡ length m₁
+            → AddsView p q (a .rhs) (v .head) (c .value) k₁ e₁ p₁ ix₁ (c .fill) m₂ k₂ e₂ p₂ ix₂ d
+            → Checks k e pool ix f k₂ e₂ p₂ ix₂ (d .fill) (d .refusal) tt memo₁ whole
         unfolding mergeViews
-        merge-adds {k₂} {e₂} {p₂} {d} g l l₂ A = record {
-          does = merged (does-then adds (Y .does) h (subst (Does k₁ e₁ p₁ (c .fill) k₂ e₂ p₂ (d .fill) (d .refusal) tt)
+        merge-adds {k₂} {e₂} {p₂} {ix₂} {d} g l l₂ A = record {
+          does = merged (does-then adds (Y .does) h (subst (Does k₁ e₁ p₁ ix₁ (c .fill) k₂ e₂ p₂ ix₂ (d .fill) (d .refusal) tt)
               (ap₂ (λ (xs : List ℕ) (t : ℕ). addView (roomOf k₁ p₁) p q (v .head) xs t (Y .value .pairs) s₁)
               (ap (λ (o : Option Term). front (children o)) (get-extends s s₁ (Y .grows h) (a .rhs) (sa .inside))) (sym (Y .term h)))
               (A .does (Y .value .pairs) (Y .sane h .ordered) (Y .inside h) (let x = S .cells in let y = Y .does .grown .lenK in omega arith) (Y .others h q) (marked g))));

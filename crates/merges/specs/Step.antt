@@ -12,7 +12,7 @@ use Rattle.model.specs.Evaluate.{children}
 use Rattle.model.specs.Action.{among}
 use Rattle.model.specs.Normalize.{App}
 use Rattle.model.specs.Walk.{front}
-use Rattle.cells.specs.declared.Fill.{Fill}
+use Rattle.index.specs.declared.Fill.{Fill}
 use Rattle.termdag.specs.Store.{termsIn, roomOf}
 use Rattle.outcome.specs.Does.{passed, Does}
 use Rattle.outcome.specs.declared.Refusal.{Refusal}
@@ -41,7 +41,7 @@ abbrev pub mergingOf : Views → List ℕ → Merging
 mergingOf v xs = record { head = v .head; inputs = xs; old = v .old; new = v .new }
 
 -- What the view of a merged value, added to the store, claims: for all pairs ps of the merge that the marks m stand for.
-pub record AddsView (p : ℕ) (q : Proposition) (t head value : ℕ) (k e pool : List ℕ) (f : Fill) (m k′ e′ pool′ : List ℕ) (r : Checked) : Type 0 where
+pub record AddsView (p : ℕ) (q : Proposition) (t head value : ℕ) (k e pool ix : List ℕ) (f : Fill) (m k′ e′ pool′ ix′ : List ℕ) (r : Checked) : Type 0 where
   pub does : (ps : List Proposition) → Ordered (termsIn k e pool f) → value < length (termsIn k e pool f) → length k ≤ length m
       → ((q .lhs ≡ q .rhs → ⊥) → among q ps ≡ false) → (eqb (q .lhs) (q .rhs) ≡ true → Marks (termsIn k e pool f) m ps)
-      → Does k e pool f k′ e′ pool′ (r .fill) (r .refusal) tt (addView (roomOf k pool) p q head (front (children (getTerm (termsIn k e pool f) t))) value ps (termsIn k e pool f))
+      → Does k e pool ix f k′ e′ pool′ ix′ (r .fill) (r .refusal) tt (addView (roomOf k pool) p q head (front (children (getTerm (termsIn k e pool f) t))) value ps (termsIn k e pool f))

@@ -1,11 +1,11 @@
 // The merge step of a proof, from `check_proof_with_context` of proof_checker.rs: two views of one function are merged, and the view of the merged value is added.
-use cells::Fill;
 use cells::wide;
 use decode::Proposition;
 use decode::Term;
 use heads::clear_if;
 use heads::is_claimed;
 use heads::run_merge;
+use index::Fill;
 use outcome::Checked;
 use outcome::Refusal;
 use outcome::add_app;
@@ -24,7 +24,7 @@ ghost use Rattle.model.specs.Action.{sameProposition};
 ghost use Rattle.model.specs.Normalize.{asApp};
 ghost use Rattle.model.specs.Walk.{front};
 ghost use Rattle.decode.specs.View.{propositionOf};
-ghost use Rattle.termdag.specs.Store.{termsIn, Stored, roomOf};
+ghost use Rattle.termdag.specs.Store.{termsIn, Stored, Indexed, roomOf};
 ghost use Rattle.outcome.specs.Does.{outcomeOf, Does};
 ghost use Rattle.marks.specs.Marks as closing;
 ghost use Rattle.program.specs.Ready.{programFor, optionOf};
@@ -70,29 +70,29 @@ pub fn app_head(kinds: &[u32], ends: &[u32], pool: &[u32], fill: Fill, t: u32) -
     }
 }
 
-// The application of a head to the children of t, of which child i is replaced by x. The term near is looked at first.
+// The application of a head to the children of t, of which child i is replaced by x.
 pub fn replace_child(
     kinds: &mut [u32],
     ends: &mut [u32],
     pool: &mut [u32],
+    index: &mut [u32],
     fill: Fill,
     t: u32,
     head: u32,
     i: usize,
     x: u32,
-    near: u32,
 ) -> Checked
-    requires { ⌜ Stored (now kinds) (now ends) (now pool) fill ⌝ }
+    requires { ⌜ Indexed (now kinds) (now ends) (now pool) (now index) fill ⌝ }
     requires { ⌜ Small (termsIn (now kinds) (now ends) (now pool) fill) t ⌝ }
     requires { ⌜ i < length (evaluate.children (terms.getTerm (termsIn (now kinds) (now ends) (now pool) fill) t)) ⌝ }
-    ensures { λ r. ⌜ Does (now (kinds .entry)) (now (ends .entry)) (now (pool .entry)) fill (now (kinds .exit)) (now (ends .exit)) (now (pool .exit)) (r .fill) (r .refusal) (r .value) (addNode (roomOf (now (kinds .entry)) (now (pool .entry))) (terms.app head (set (evaluate.children (terms.getTerm (termsIn (now (kinds .entry)) (now (ends .entry)) (now (pool .entry)) fill) t)) i x)) (termsIn (now (kinds .entry)) (now (ends .entry)) (now (pool .entry)) fill)) ⌝ }
+    ensures { λ r. ⌜ Does (now (kinds .entry)) (now (ends .entry)) (now (pool .entry)) (now (index .entry)) fill (now (kinds .exit)) (now (ends .exit)) (now (pool .exit)) (now (index .exit)) (r .fill) (r .refusal) (r .value) (addNode (roomOf (now (kinds .entry)) (now (pool .entry))) (terms.app head (set (evaluate.children (terms.getTerm (termsIn (now (kinds .entry)) (now (ends .entry)) (now (pool .entry)) fill) t)) i x)) (termsIn (now (kinds .entry)) (now (ends .entry)) (now (pool .entry)) fill)) ⌝ }
 {
     let mut args = [0u32; 17];
     let xs = children(kinds, ends, pool, fill, wide(t));
     let n = xs.len();
     cells::copy(&mut args, 0, xs);
     args[i] = x;
-    add_app(kinds, ends, pool, fill, near, head, &args[..n])
+    add_app(kinds, ends, pool, index, fill, head, &args[..n])
 }
 
 // Two claims that are reflexive.
@@ -245,6 +245,7 @@ fn add_view(
     kinds: &mut [u32],
     ends: &mut [u32],
     pool: &mut [u32],
+    index: &mut [u32],
     fill: Fill,
     marks: &mut [u32],
     p: u32,
@@ -253,13 +254,13 @@ fn add_view(
     head: u32,
     value: u32,
 ) -> Checked
-    requires { ⌜ Stored (now kinds) (now ends) (now pool) fill ⌝ }
+    requires { ⌜ Indexed (now kinds) (now ends) (now pool) (now index) fill ⌝ }
     requires { ⌜ Small (termsIn (now kinds) (now ends) (now pool) fill) t ⌝ }
     requires { ⌜ 0 < length (evaluate.children (terms.getTerm (termsIn (now kinds) (now ends) (now pool) fill) t)) ⌝ }
-    ensures { λ r. ⌜ AddsView p (propositionOf q) t head value (now (kinds .entry)) (now (ends .entry)) (now (pool .entry)) fill (now (marks .entry)) (now (kinds .exit)) (now (ends .exit)) (now (pool .exit)) r ⌝ }
+    ensures { λ r. ⌜ AddsView p (propositionOf q) t head value (now (kinds .entry)) (now (ends .entry)) (now (pool .entry)) (now (index .entry)) fill (now (marks .entry)) (now (kinds .exit)) (now (ends .exit)) (now (pool .exit)) (now (index .exit)) r ⌝ }
 {
     let n = children(kinds, ends, pool, fill, wide(t)).len();
-    let r = replace_child(kinds, ends, pool, fill, t, head, n - 1, value, q.rhs);
+    let r = replace_child(kinds, ends, pool, index, fill, t, head, n - 1, value);
     if r.refusal.number != 0 {
         return r;
     }
@@ -278,6 +279,7 @@ pub fn merge_step(
     skinds: &mut [u32],
     sends: &mut [u32],
     spool: &mut [u32],
+    index: &mut [u32],
     fill: Fill,
     memo: &mut [u32],
     marks: &mut [u32],
@@ -287,10 +289,10 @@ pub fn merge_step(
     a: Proposition,
     b: Proposition,
 ) -> Checked
-    requires { ⌜ Standing (now job) [] (now skinds) (now sends) (now spool) fill (now memo) (now marks) ⌝ }
+    requires { ⌜ Standing (now job) [] (now skinds) (now sends) (now spool) (now index) fill (now memo) (now marks) ⌝ }
     requires { ⌜ Small (termsIn (now skinds) (now sends) (now spool) fill) (a .rhs) ⌝ }
     requires { ⌜ Small (termsIn (now skinds) (now sends) (now spool) fill) (b .rhs) ⌝ }
-    ensures { λ r. ⌜ Checks (now (skinds .entry)) (now (sends .entry)) (now (spool .entry)) fill (now (skinds .exit)) (now (sends .exit)) (now (spool .exit)) (r .fill) (r .refusal) tt (now (memo .exit)) (mergeStep (roomOf (now (skinds .entry)) (now (spool .entry))) (programFor (now (job .entry))) p (propositionOf q) function (propositionOf a) (propositionOf b) (termsIn (now (skinds .entry)) (now (sends .entry)) (now (spool .entry)) fill)) ⌝ }
+    ensures { λ r. ⌜ Checks (now (skinds .entry)) (now (sends .entry)) (now (spool .entry)) (now (index .entry)) fill (now (skinds .exit)) (now (sends .exit)) (now (spool .exit)) (now (index .exit)) (r .fill) (r .refusal) tt (now (memo .exit)) (mergeStep (roomOf (now (skinds .entry)) (now (spool .entry))) (programFor (now (job .entry))) p (propositionOf q) function (propositionOf a) (propositionOf b) (termsIn (now (skinds .entry)) (now (sends .entry)) (now (spool .entry)) fill)) ⌝ }
 {
     let v = read_views(skinds, sends, spool, fill, p, a, b);
     let first = v.refusal;
@@ -308,6 +310,7 @@ pub fn merge_step(
         skinds,
         sends,
         spool,
+        index,
         fill,
         memo,
         marking,
@@ -323,6 +326,7 @@ pub fn merge_step(
         skinds,
         sends,
         spool,
+        index,
         m.fill,
         marks,
         p,

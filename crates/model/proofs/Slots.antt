@@ -2,12 +2,11 @@
 use mathlib.Core.Path.{_≡_, refl, sym, ap, _∙_}
 use mathlib.Core.Bool.{Bool, true, false, not}
 use mathlib.Core.List.{List, [], _∷_, _++_, map}
-use mathlib.Core.Option.{Option}
 use Prim.Native.Nat.{ℕ, zero, suc, _+_, _*_, _<_, _^_}
 use native.Mathlib.Nat.{not-suc-le-zero, le-of-suc-le-suc, mul-assoc}
 use native.Mathlib.Omega.{arith}
 use lib.Dec.{eqb, leb}
-use lib.ListN.{length, replicate}
+use lib.ListN.{length}
 use lib.Pow.{pow-add}
 use borrow.Author.Tests.{eqb-true, eqb-false}
 use Rattle.model.specs.Cell.{tabulate, startOf, wordsAt, cellsOf}
@@ -15,7 +14,7 @@ use Rattle.model.specs.Term.{readTerm, findTerm, getTerm}
 use Rattle.model.specs.Layout.{sizesOf, kindsOf, endsOf, poolOf, Sizes, Tables, tablesOf}
 use Rattle.model.specs.Decode.{exprIn, readProgram, readJob, jobOf}
 use Rattle.model.specs.Load.{wrongLength, tooLarge, unknownMode, endsRise, noRoom, fitTests, referTests, validTests, onceTests, firstFailing, firstRefusal, isStrict, refusedIf, firstMarked, doubles, isPower, wrongSlots, loadRefusal}
-use Rattle.model.specs.Check.{Refusal, orRefuse, checkThat, addNode}
+use Rattle.model.specs.Check.{orRefuse, checkThat, addNode}
 use Rattle.model.specs.Evaluate.{subtermsIn, reflexive, headValue, evalExpr, evalExprs}
 use Rattle.model.specs.Action.{processActions}
 use Rattle.model.specs.Walk.{checkFiat, checkTrans, checkSym, checkCongr, checkProofWithContext, newContext, checkProof}

@@ -6,9 +6,9 @@ use Prim.Native.Nat.{ℕ, zero, suc, _≤_}
 use lib.ListN.{length, take, drop}
 use Rattle.model.specs.Term.{Term}
 use Rattle.model.specs.Check as model
-use Rattle.termdag.specs.Store.{termsIn, Stored}
-use Rattle.cells.specs.declared.Fill.{Fill}
-use Rattle.cells.specs.declared.Added.{Added}
+use Rattle.termdag.specs.Store.{termsIn, Indexed}
+use Rattle.index.specs.declared.Fill.{Fill}
+use Rattle.index.specs.declared.Added.{Added}
 use Rattle.outcome.specs.declared.Refusal.{Refusal}
 use Rattle.outcome.specs.declared.Checked.{Checked}
 
@@ -40,12 +40,13 @@ module _ {A : Type 0} where
   abbrev pub outcomeOf : Refusal → A → List Term → model.Outcome A
   outcomeOf r a s = outcomeBy (r .number) r a s
 
--- The store after: terms were added behind those that were there, and past the fill the arrays are as they were.
-pub record Grown (K E P : List ℕ) (f : Fill) (K′ E′ P′ : List ℕ) (f′ : Fill) : Type 0 where
-  pub stored : Stored K′ E′ P′ f′
+-- The store after: terms were added behind those that were there, the index lists them all, and past the fill the arrays are as they were.
+pub record Grown (K E P I : List ℕ) (f : Fill) (K′ E′ P′ I′ : List ℕ) (f′ : Fill) : Type 0 where
+  pub indexed : Indexed K′ E′ P′ I′ f′
   pub lenK : length K′ ≡ length K
   pub lenE : length E′ ≡ length E
   pub lenP : length P′ ≡ length P
+  pub lenI : length I′ ≡ length I
   pub moreCells : f .cells ≤ f′ .cells
   pub moreWords : f .words ≤ f′ .words
   pub kinds : drop (f′ .cells) K′ ≡ drop (f′ .cells) K
@@ -53,6 +54,6 @@ pub record Grown (K E P : List ℕ) (f : Fill) (K′ E′ P′ : List ℕ) (f′
   pub pool : drop (f′ .words) P′ ≡ drop (f′ .words) P
 
 -- The contract of a check: value a or refusal r, and the terms after, are the outcome o of the definition.
-pub record Does {A : Type 0} (K E P : List ℕ) (f : Fill) (K′ E′ P′ : List ℕ) (f′ : Fill) (r : Refusal) (a : A) (o : model.Outcome A) : Type 0 where
+pub record Does {A : Type 0} (K E P I : List ℕ) (f : Fill) (K′ E′ P′ I′ : List ℕ) (f′ : Fill) (r : Refusal) (a : A) (o : model.Outcome A) : Type 0 where
   pub outcome : outcomeOf r a (termsIn K′ E′ P′ f′) ≡ o
-  pub grown : Grown K E P f K′ E′ P′ f′
+  pub grown : Grown K E P I f K′ E′ P′ I′ f′

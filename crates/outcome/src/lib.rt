@@ -1,7 +1,7 @@
 // What a check gives: a value or a refusal, and the fill of the store after it.
-use cells::Added;
-use cells::Fill;
 use decode::Literal;
+use index::Added;
+use index::Fill;
 ghost use mathlib.Core.Path.{_≡_};
 ghost use mathlib.Core.List.{[], _∷_};
 ghost use Prim.Native.Nat.{_≤_, _<_, _^_};
@@ -9,7 +9,7 @@ ghost use lib.ListN.{length};
 ghost use Rattle.model.specs.Term.{lit, app};
 ghost use Rattle.model.specs.Check.{addNode};
 ghost use Rattle.decode.specs.View.{literalOf};
-ghost use Rattle.termdag.specs.Store.{termsIn, Stored, roomOf};
+ghost use Rattle.termdag.specs.Store.{termsIn, Indexed, roomOf};
 ghost use Rattle.outcome.specs.Does.{passed, refusal, checkedOf, Does};
 
 // A refusal: its number, and its fields, of which the first `count` are used. The number 0 is none.
@@ -88,14 +88,14 @@ pub fn add_lit(
     kinds: &mut [u32],
     ends: &mut [u32],
     pool: &mut [u32],
+    index: &mut [u32],
     fill: Fill,
-    near: u32,
     l: Literal,
 ) -> Checked
-    requires { ⌜ Stored (now kinds) (now ends) (now pool) fill ⌝ }
-    ensures { λ r. ⌜ Does (now (kinds .entry)) (now (ends .entry)) (now (pool .entry)) fill (now (kinds .exit)) (now (ends .exit)) (now (pool .exit)) (r .fill) (r .refusal) (r .value) (addNode (roomOf (now (kinds .entry)) (now (pool .entry))) (lit (literalOf l)) (termsIn (now (kinds .entry)) (now (ends .entry)) (now (pool .entry)) fill)) ⌝ }
+    requires { ⌜ Indexed (now kinds) (now ends) (now pool) (now index) fill ⌝ }
+    ensures { λ r. ⌜ Does (now (kinds .entry)) (now (ends .entry)) (now (pool .entry)) (now (index .entry)) fill (now (kinds .exit)) (now (ends .exit)) (now (pool .exit)) (now (index .exit)) (r .fill) (r .refusal) (r .value) (addNode (roomOf (now (kinds .entry)) (now (pool .entry))) (lit (literalOf l)) (termsIn (now (kinds .entry)) (now (ends .entry)) (now (pool .entry)) fill)) ⌝ }
 {
-    let a = termdag::lit(kinds, ends, pool, fill, near, l);
+    let a = termdag::lit(kinds, ends, pool, index, fill, l);
     added(a)
 }
 
@@ -104,15 +104,15 @@ pub fn add_app(
     kinds: &mut [u32],
     ends: &mut [u32],
     pool: &mut [u32],
+    index: &mut [u32],
     fill: Fill,
-    near: u32,
     f: u32,
     args: &[u32],
 ) -> Checked
-    requires { ⌜ Stored (now kinds) (now ends) (now pool) fill ⌝ }
+    requires { ⌜ Indexed (now kinds) (now ends) (now pool) (now index) fill ⌝ }
     requires { ⌜ length (now args) ≤ 17 ⌝ }
-    ensures { λ r. ⌜ Does (now (kinds .entry)) (now (ends .entry)) (now (pool .entry)) fill (now (kinds .exit)) (now (ends .exit)) (now (pool .exit)) (r .fill) (r .refusal) (r .value) (addNode (roomOf (now (kinds .entry)) (now (pool .entry))) (app f (now (args .entry))) (termsIn (now (kinds .entry)) (now (ends .entry)) (now (pool .entry)) fill)) ⌝ }
+    ensures { λ r. ⌜ Does (now (kinds .entry)) (now (ends .entry)) (now (pool .entry)) (now (index .entry)) fill (now (kinds .exit)) (now (ends .exit)) (now (pool .exit)) (now (index .exit)) (r .fill) (r .refusal) (r .value) (addNode (roomOf (now (kinds .entry)) (now (pool .entry))) (app f (now (args .entry))) (termsIn (now (kinds .entry)) (now (ends .entry)) (now (pool .entry)) fill)) ⌝ }
 {
-    let a = termdag::app(kinds, ends, pool, fill, near, f, args);
+    let a = termdag::app(kinds, ends, pool, index, fill, f, args);
     added(a)
 }

@@ -12,7 +12,7 @@ use Rattle.model.specs.Check.{Outcome, ok, refused, Room}
 use Rattle.model.specs.Evaluate.{Value, evalExpr}
 use Rattle.model.proofs.Post.{post-result}
 use Rattle.model.proofs.Valid.{expressions-lower}
-use Rattle.cells.specs.declared.Fill.{Fill}
+use Rattle.index.specs.declared.Fill.{Fill}
 use Rattle.termdag.specs.Store.{termsIn, roomOf}
 use Rattle.outcome.specs.declared.Checked.{Checked}
 use Rattle.outcome.proofs.Laws.{ok-of}
@@ -50,8 +50,8 @@ known-term : (o : Outcome Value) (t : ℕ) (s : List Term) → termOutcome o ≡
 known-term (ok v u) t s q = (v, same-value q, ap (λ (x : List Term). ok v x) (same-store q))
 known-term (refused r u) t s q = let x : _≡_ {A = ℕ} 0 1 = cc in absurd (omega arith)
 
-module _ {J : List ℕ} (R : Ready J) (rule : ℕ) (σ : List Binding) {e : ℕ} {K₀ E₀ P₀ : List ℕ} {f : Fill} {K₁ E₁ P₁ : List ℕ} {r : Checked} {memo : List ℕ}
-    (root : EvaluatesRoot (argumentsFor J) (valueFor false J rule σ) (sizesOf J .expressions) e K₀ E₀ P₀ f K₁ E₁ P₁ r memo)
+module _ {J : List ℕ} (R : Ready J) (rule : ℕ) (σ : List Binding) {e : ℕ} {K₀ E₀ P₀ I₀ : List ℕ} {f : Fill} {K₁ E₁ P₁ I₁ : List ℕ} {r : Checked} {memo : List ℕ}
+    (root : EvaluatesRoot (argumentsFor J) (valueFor false J rule σ) (sizesOf J .expressions) e K₀ E₀ P₀ I₀ f K₁ E₁ P₁ I₁ r memo)
     (passed : r .refusal .number ≡ 0) (sane : Sane (programFor J) σ (termsIn K₀ E₀ P₀ f)) where
   abbrev before : List Term
   before = termsIn K₀ E₀ P₀ f

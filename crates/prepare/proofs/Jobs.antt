@@ -1,4 +1,4 @@
--- The arrays of a job that loads: its program, its proofs and its terms, and the room that there is for them.
+-- The arrays of a job that loads: its program, its proofs and its terms, the room that there is for them, and the index that lists them.
 use mathlib.Core.Path.{_≡_, refl, sym, ap, subst, _∙_}
 use mathlib.Core.Bool.{true, false, not}
 use mathlib.Core.List.{List, [], _∷_, map, List·Memᴰ, List·Memᴰ·head, List·Memᴰ·tail, List·Memᴰ·not-nil, Memᴰ·append-left}
@@ -8,22 +8,24 @@ use native.Mathlib.Omega.{arith}
 use lib.Dec.{eqb, ltb, lit<}
 use lib.ListN.{length, getD}
 use borrow.Author.Tests.{ltb-false, leb-false}
-use Rattle.model.specs.Cell.{Cell, noCell, startOf, cellAt, cellsOf}
+use Rattle.model.specs.Cell.{Cell, noCell, startOf, cellsOf}
 use Rattle.model.specs.Term.{Term, cellOf, readTerm}
 use Rattle.model.specs.Program.{Program}
 use Rattle.model.specs.Layout.{Sizes, sizesOf, cellCount, kindsOf, endsOf, poolOf, Tables, tablesOf}
 use Rattle.model.specs.Decode.{readJob, jobOf}
 use Rattle.model.specs.Check.{Refusal}
-use Rattle.model.specs.Load.{Lent, Admitted, noRoom, refusedIf, termFits, firstRefusal, loadRefusal}
+use Rattle.model.specs.Load.{Lent, Admitted, noRoom, wrongSlots, refusedIf, termFits, firstRefusal, loadRefusal}
 use Rattle.model.specs.Answer.{lentBy}
 use Rattle.model.proofs.Tests.{eq-of, not-false}
 use Rattle.model.proofs.Represent.{Distinct}
 use Rattle.model.proofs.Valid.{term-cell, loads-admitted, loads-valid}
-use Rattle.cells.specs.declared.Fill.{Fill}
-use Rattle.termdag.specs.Store.{termsIn, Loadable, Loaded}
+use Rattle.index.specs.declared.Fill.{Fill}
+use Rattle.index.specs.Listing.{Lists}
+use Rattle.termdag.specs.Store.{termsIn, Indexed, Loadable, Loaded}
 use Rattle.termdag.proofs.Laws.{once-of}
 use Rattle.load.specs.Held.{writerTests, roomLacks}
-use Rattle.load.proofs.Loading.{room-is, right-length, loads-held, or-no, refused-no, test-passes, take-tabulate}
+use Rattle.load.proofs.Loading.{terms-are, room-is, right-length, heldOf, loads-held, or-no, refused-no, test-passes}
+use Rattle.load.proofs.Intake.{slots-over}
 use Rattle.program.specs.Ready.{Ready, fillFor, tablesFor, programFor}
 use Rattle.program.specs.Read.{proofsFor}
 use Rattle.evaluate.specs.Evaluation.{Sane}
@@ -43,13 +45,12 @@ module _ (ws : List ℕ) where
   unfolding readJob tablesOf
   job-proofs = refl
 
-  terms-are : tablesFor ws .terms ≡ cellsOf (kindsOf ws) (endsOf ws) (poolOf ws) (sizesOf ws .terms)
-  unfolding cellsOf
-  terms-are = take-tabulate (cellAt (kindsOf ws) (endsOf ws) (poolOf ws)) (cellCount (sizesOf ws)) (sizesOf ws .terms) (omega arith)
+  first-cells : tablesFor ws .terms ≡ cellsOf (kindsOf ws) (endsOf ws) (poolOf ws) (sizesOf ws .terms)
+  first-cells = terms-are (kindsOf ws) (endsOf ws) (poolOf ws) (heldOf (sizesOf ws))
 
   pub job-terms : map readTerm (cellsOf (kindsOf ws) (endsOf ws) (poolOf ws) (sizesOf ws .terms)) ≡ jobOf ws .terms
   unfolding readJob
-  job-terms = ap (map readTerm) (sym terms-are) ∙ ap (λ (t : Tables). map readTerm (t .terms)) tables-for
+  job-terms = ap (map readTerm) (sym first-cells) ∙ ap (λ (t : Tables). map readTerm (t .terms)) tables-for
 
 -- cells that fit are their terms' cells
 fits-cells : (cs : List Cell) → ((k : ℕ) → k < length cs → termFits (getD cs k noCell) ≡ true) → map cellOf (map readTerm cs) ≡ cs
@@ -93,7 +94,7 @@ module _ (ws : List ℕ) (asked mode : ℕ) (l : Lent) (a : loadRefusal ws asked
 
   writer-passes : firstRefusal (writerTests (sizesOf ws) (tablesOf ws)) ≡ none
   writer-passes = all-none (writerTests (sizesOf ws) (tablesOf ws))
-      (λ t m. test-passes ws asked mode l a t (List·Memᴰ·tail (List·Memᴰ·tail (List·Memᴰ·tail (List·Memᴰ·tail (List·Memᴰ·tail (Memᴰ·append-left ((λ _. refusedIf (noRoom (sizesOf ws) (map readTerm (tablesOf ws .terms)) l) 10) ∷ []) m)))))))
+      (λ t m. test-passes ws asked mode l a t (List·Memᴰ·tail (List·Memᴰ·tail (List·Memᴰ·tail (List·Memᴰ·tail (List·Memᴰ·tail (Memᴰ·append-left ((λ _. refusedIf (noRoom (sizesOf ws) (map readTerm (tablesOf ws .terms)) l) 10) ∷ (λ _. refusedIf (wrongSlots l) 12) ∷ []) m)))))))
 
   pub loads-ready : Ready ws
   loads-ready =
@@ -109,10 +110,14 @@ module _ (ws : List ℕ) (asked mode : ℕ) (l : Lent) (a : loadRefusal ws asked
       let b = test-passes ws asked mode l a _ (List·Memᴰ·tail (List·Memᴰ·tail (List·Memᴰ·tail (List·Memᴰ·tail (List·Memᴰ·tail (List·Memᴰ·tail (List·Memᴰ·tail (List·Memᴰ·tail (List·Memᴰ·tail (List·Memᴰ·head refl)))))))))) in
       room-of (sizesOf ws) (startOf (endsOf ws) (sizesOf ws .terms)) l (sym (room-is (loads-held ws asked mode l a) l e) ∙ (λ i. noRoom (sizesOf ws) (map readTerm (tables-for ws i .terms)) l) ∙ refused-no _ 10 b)
 
+  -- the index has more slots than the store has cells
+  pub loads-slots : l .kinds < l .index
+  loads-slots = slots-over l (refused-no _ 12 (test-passes ws asked mode l a _ (List·Memᴰ·tail (List·Memᴰ·tail (List·Memᴰ·tail (List·Memᴰ·tail (List·Memᴰ·tail (List·Memᴰ·tail (List·Memᴰ·tail (List·Memᴰ·tail (List·Memᴰ·tail (List·Memᴰ·tail (List·Memᴰ·head refl)))))))))))))
+
 -- what the start of a job needs and leaves
 module _ {ws K E P : List ℕ} (L : Loads ws K E P) where
   abbrev lent : Lent
-  lent = lentBy (arraysOf K E P) (L .scratch)
+  lent = lentBy (arraysOf K E P) (L .slots) (L .scratch)
 
   pub start-ready : Ready ws
   start-ready = loads-ready ws (L .asked) (L .mode) lent (L .passes)
@@ -125,7 +130,7 @@ module _ {ws K E P : List ℕ} (L : Loads ws K E P) where
     formed = start-ready .held .formed;
     within = omega arith;
     once = once-of (cellsOf (kindsOf ws) (endsOf ws) (poolOf ws) (sizesOf ws .terms)) (subst Distinct (sym (job-terms ws)) (loads-valid ws (L .asked) (L .mode) lent (L .passes) .distinct));
-    terms = subst (λ (cs : List Cell). map cellOf (map readTerm cs) ≡ cs) (terms-are ws) (fits-cells (tablesFor ws .terms) (start-ready .admitted .fits 0 (lit< tt)));
+    terms = subst (λ (cs : List Cell). map cellOf (map readTerm cs) ≡ cs) (first-cells ws) (fits-cells (tablesFor ws .terms) (start-ready .admitted .fits 0 (lit< tt)));
     cells = room .terms;
     words = room .words-fit;
     even = sym (room .even);
@@ -138,14 +143,26 @@ module _ {ws K E P : List ℕ} (L : Loads ws K E P) where
       let v = loads-valid ws (L .asked) (L .mode) lent (L .passes) in
       record { ordered = v .ordered; bound = λ b m. absurd (List·Memᴰ·not-nil m); rows = λ r m. v .rows r m .0 }
 
-  module _ {K′ E′ P′ : List ℕ} {f : Fill} (D : Loaded (kindsOf ws) (endsOf ws) (poolOf ws) (sizesOf ws .terms) K E P K′ E′ P′ f) where
+  module _ {K′ E′ P′ I′ : List ℕ} {x : ℕ} {f : Fill} (D : Loaded (kindsOf ws) (endsOf ws) (poolOf ws) (sizesOf ws .terms) x K E P K′ E′ P′ f)
+      (n : length I′ ≡ L .slots) (l : Lists x I′ (cellsOf (kindsOf ws) (endsOf ws) (poolOf ws) (sizesOf ws .terms))) where
     loaded-terms : termsIn K′ E′ P′ f ≡ jobOf ws .terms
     loaded-terms = D .terms ∙ job-terms ws
 
-    pub starts : Started ws K E P K′ E′ P′ f
+    -- the cells of the store are the job's first
+    loaded-cells : cellsOf K′ E′ P′ (f .cells) ≡ cellsOf (kindsOf ws) (endsOf ws) (poolOf ws) (sizesOf ws .terms)
+    loaded-cells = sym (D .stored .terms) ∙ ap (map cellOf) (D .terms) ∙ start-loadable .terms
+
+    start-indexed : Indexed K′ E′ P′ I′ f
+    start-indexed = record {
+      stored = D .stored;
+      lists = subst (λ (y : ℕ × List Cell). Lists (y .0) I′ (y .1)) (λ i. (sym (D .multiplier) i, sym loaded-cells i)) l;
+      room = omega (arith, D .lenK, n, loads-slots ws (L .asked) (L .mode) lent (L .passes));
+    }
+
+    pub starts : Started ws K E P K′ E′ P′ I′ f
     starts = record {
       ready = start-ready;
-      stored = D .stored;
+      indexed = start-indexed;
       terms = loaded-terms;
       cells = D .cells;
       lenK = D .lenK;

@@ -7,23 +7,25 @@ use Prim.Native.Nat.{ℕ, zero, suc, _+_, _≤_, _<_, _^_}
 use native.Mathlib.Omega.{arith}
 use lib.Dec.{leb, lit<}
 use lib.ListN.{length, getD, length-append}
-use Rattle.model.specs.Cell.{Cell}
+use Rattle.model.specs.Cell.{Cell, cellsOf}
 use Rattle.model.specs.Term.{readTerm}
 use Rattle.model.specs.Layout.{cellCount, sizesOf, kindsOf, endsOf, poolOf, Tables, tableList, tablesOf}
 use Rattle.model.specs.Check.{Refusal}
-use Rattle.model.specs.Load.{Lent, wrongLength, tooLarge, unknownMode, endsRise, noRoom, refusedIf, firstMarked, firstRefusal, failsFrom, marks, firstFailing, fitTests, referTests, validTests, onceTests, loadTests, loadRefusal}
+use Rattle.model.specs.Load.{Lent, wrongLength, tooLarge, unknownMode, endsRise, noRoom, wrongSlots, refusedIf, firstMarked, firstRefusal, failsFrom, marks, firstFailing, fitTests, referTests, validTests, onceTests, loadTests, loadRefusal}
 use Rattle.model.specs.Answer.{lentBy}
 use Rattle.load.specs.declared.Loaded.{Loaded}
 use Rattle.load.specs.Held.{Limits, refusalOf}
 use Rattle.load.proofs.Loading.{limits-of, refuses-1, refuses-2}
 use Rattle.load.proofs.TableLaws.{fails-length, table-length}
 use Rattle.cells.proofs.Laws.{cells-length}
+use Rattle.index.specs.Listing.{Lists}
+use Rattle.termdag.specs.Store.{Loaded as TermsLoaded}
 use Rattle.outcome.specs.Does as outcome
 use Rattle.outcome.specs.declared.Refusal.{Refusal as Held}
 use Rattle.prepare.specs.declared.Prepared.{Prepared}
-use Rattle.prepare.specs.Prepares.{arraysOf, refusalBy, Started, Prepares}
+use Rattle.prepare.specs.Prepares.{arraysOf, refusalBy, Loads, Prepares}
 use Rattle.program.specs.Ready.{cellsFor, tablesFor, tableFor, countFor}
-use Rattle.prepare.proofs.Jobs.{tables-for, loads-asked, loads-room}
+use Rattle.prepare.proofs.Jobs.{tables-for, loads-asked, loads-room, starts}
 
 -- a refusal that there is, whose only field is a word
 record Word (r : Refusal) : Type 0 where
@@ -125,7 +127,10 @@ module _ (ws : List ℕ) (asked mode : ℕ) (l : Lent) where
                         cell 9 (onceTests t) (λ q. omega arith),
                         (
                           λ r e. host-word (noRoom z (map readTerm (t .terms)) l) 10 r (λ q. omega arith) e,
-                          tt,
+                          (
+                            λ r e. host-word (wrongSlots l) 12 r (λ q. omega arith) e,
+                            tt,
+                          ),
                         ),
                       ),
                     ),
@@ -154,12 +159,12 @@ refusal-by : (n : ℕ) (r : Held) → (n ≡ 0 → ⊥) → refusalBy n r ≡ so
 refusal-by zero r h = absurd (h refl)
 refusal-by (suc n) r h = refl
 
-module _ (ws : List ℕ) (asked mode : ℕ) (K E P : List ℕ) (scratch : ℕ) where
+module _ (ws : List ℕ) (asked mode : ℕ) (K E P I : List ℕ) (scratch : ℕ) where
   abbrev lent : Lent
-  lent = lentBy (arraysOf K E P) scratch
+  lent = lentBy (arraysOf K E P) (length I) scratch
 
   -- a refusal, with the arrays as they were
-  refuses : (r : Held) (p : Prepared) → p .refusal ≡ r → some (outcome.refusalOf r) ≡ loadRefusal ws asked mode lent → Prepares ws asked mode K E P scratch K E P p
+  refuses : {I′ : List ℕ} (r : Held) (p : Prepared) → p .refusal ≡ r → some (outcome.refusalOf r) ≡ loadRefusal ws asked mode lent → Prepares ws asked mode K E P I scratch K E P I′ p
   refuses r p q e =
       let w : r .number ≡ 0 → ⊥ = load-word ws asked mode lent (outcome.refusalOf r) (sym e) .number in
       let n : p .refusal .number ≡ 0 → ⊥ = λ h. w (sym (ap (λ (x : Held). x .number) q) ∙ h) in
@@ -172,26 +177,31 @@ module _ (ws : List ℕ) (asked mode : ℕ) (K E P : List ℕ) (scratch : ℕ) w
       }
 
   module _ {o : Loaded} (e : refusalOf o ≡ loadRefusal ws asked mode lent) where
-    pub refuses-host : (n : ℕ) (p : Prepared) → o ≡ Loaded.Host n → p .refusal ≡ outcome.refusal n 0 (0 ∷ 0 ∷ 0 ∷ 0 ∷ 0 ∷ 0 ∷ []) → Prepares ws asked mode K E P scratch K E P p
+    pub refuses-host : {I′ : List ℕ} (n : ℕ) (p : Prepared) → o ≡ Loaded.Host n → p .refusal ≡ outcome.refusal n 0 (0 ∷ 0 ∷ 0 ∷ 0 ∷ 0 ∷ 0 ∷ []) → Prepares ws asked mode K E P I scratch K E P I′ p
     refuses-host n p h q = refuses _ p q (ap refusalOf (sym h) ∙ e)
 
-    pub refuses-writer : (n cell : ℕ) (p : Prepared) → o ≡ Loaded.Writer n cell → p .refusal ≡ outcome.refusal n 1 (cell ∷ 0 ∷ 0 ∷ 0 ∷ 0 ∷ 0 ∷ []) → Prepares ws asked mode K E P scratch K E P p
+    pub refuses-writer : {I′ : List ℕ} (n cell : ℕ) (p : Prepared) → o ≡ Loaded.Writer n cell → p .refusal ≡ outcome.refusal n 1 (cell ∷ 0 ∷ 0 ∷ 0 ∷ 0 ∷ 0 ∷ []) → Prepares ws asked mode K E P I scratch K E P I′ p
     refuses-writer n cell p h q = refuses _ p q (ap refusalOf (sym h) ∙ e)
 
     pub cell-word : (n cell : ℕ) → o ≡ Loaded.Writer n cell → cell < 2 ^ 32
     cell-word n cell h = load-word ws asked mode lent (record { number = n; fields = cell ∷ [] }) (sym e ∙ ap refusalOf h) .field cell refl
 
-    pub loads-none : o ≡ Loaded.Admitted → loadRefusal ws asked mode lent ≡ none
+    loads-none : o ≡ Loaded.Admitted → loadRefusal ws asked mode lent ≡ none
     loads-none h = sym e ∙ ap refusalOf h
 
-    pub admits : {K′ E′ P′ : List ℕ} (p : Prepared) → o ≡ Loaded.Admitted → p .refusal ≡ outcome.passed → Started ws K E P K′ E′ P′ (p .fill) → Prepares ws asked mode K E P scratch K′ E′ P′ p
-    admits p h q S =
+    pub loads : o ≡ Loaded.Admitted → Loads ws K E P
+    loads h = record { asked = asked; mode = mode; slots = length I; scratch = scratch; passes = loads-none h }
+
+    pub admits : {K′ E′ P′ I′ : List ℕ} {x : ℕ} (p : Prepared) → o ≡ Loaded.Admitted → p .refusal ≡ outcome.passed → TermsLoaded (kindsOf ws) (endsOf ws) (poolOf ws) (sizesOf ws .terms) x K E P K′ E′ P′ (p .fill)
+        → length I′ ≡ length I → Lists x I′ (cellsOf (kindsOf ws) (endsOf ws) (poolOf ws) (sizesOf ws .terms)) → Prepares ws asked mode K E P I scratch K′ E′ P′ I′ p
+    unfolding loads
+    admits p h q D m t =
         let a = loads-none h in
         let n : p .refusal .number ≡ 0 = ap (λ (x : Held). x .number) q in
         record {
           refusal = ap (λ (x : Held). refusalBy (x .number) x) q ∙ sym a;
           kept = λ x. absurd (x n);
-          started = λ x. S;
+          started = λ x. starts (loads h) D m t;
           there = λ x. loads-asked ws asked mode lent a;
           enough = λ x. loads-room ws asked mode lent a .enough;
         }

@@ -3,7 +3,7 @@ use mathlib.Core.Path.{_≡_, refl, sym, ap, subst, _∙_}
 use mathlib.Core.List.{List}
 use Prim.Native.Nat.{ℕ, zero, suc, _+_, _-_, _≤_, _<_, _/_}
 use native.Mathlib.Omega.{arith}
-use lib.ListN.{length, getD, take, drop}
+use lib.ListN.{length, getD, drop}
 use lib.Seq.{getD-take, getD-drop}
 use Rattle.model.specs.Cell.{Cell, noCell, cellsOf}
 use Rattle.model.specs.Layout.{sizesOf, cellCount, kindsOf, endsOf, poolOf}
@@ -11,6 +11,7 @@ use Rattle.cells.proofs.Laws.{cells-length, cell-at}
 use Rattle.cells.specs.Table.{Formed}
 use Rattle.cells.specs.declared.Fill.{Fill}
 use Rattle.decode.specs.View.{cell}
+use Rattle.index.specs.declared.Fill.{Fill as IndexedFill}
 use Rattle.termdag.specs.Store.{Loadable, Loaded}
 use Rattle.load.specs.Held.{cellNumber}
 use Rattle.load.proofs.TableLaws.{table-cell, place-inside}
@@ -64,8 +65,8 @@ module _ (J : List ℕ) {K E P : List ℕ} {f : Fill} (k : K ≡ kindsOf J) (e :
     pub loadable-part : Loadable (kindsOf J) (endsOf J) (poolOf J) (fillFor J) (countFor J 0) S T U → Loadable K E P f n S T U
     loadable-part L = subst (λ (x : (List ℕ × List ℕ × List ℕ) × Fill × ℕ). Loadable (x .0 .0) (x .0 .1) (x .0 .2) (x .1) (x .2) S T U) (λ i. ((sym k i, sym e i, sym p i), sym g i, sym c i)) L
 
-    pub loaded-part : {S′ T′ U′ : List ℕ} {h : Fill} → Loaded K E P n S T U S′ T′ U′ h → Loaded (kindsOf J) (endsOf J) (poolOf J) (countFor J 0) S T U S′ T′ U′ h
-    loaded-part {S′} {T′} {U′} {h} L = subst (λ (x : (List ℕ × List ℕ × List ℕ) × ℕ). Loaded (x .0 .0) (x .0 .1) (x .0 .2) (x .1) S T U S′ T′ U′ h) (λ i. ((k i, e i, p i), c i)) L
+    pub loaded-part : {m : ℕ} {S′ T′ U′ : List ℕ} {h : IndexedFill} → Loaded K E P n m S T U S′ T′ U′ h → Loaded (kindsOf J) (endsOf J) (poolOf J) (countFor J 0) m S T U S′ T′ U′ h
+    loaded-part {m} {S′} {T′} {U′} {h} L = subst (λ (x : (List ℕ × List ℕ × List ℕ) × ℕ). Loaded (x .0 .0) (x .0 .1) (x .0 .2) (x .1) m S T U S′ T′ U′ h) (λ i. ((k i, e i, p i), c i)) L
 
 -- the kind of a cell
 kind-read : (J : List ℕ) (i : ℕ) → i < cellCount (sizesOf J) → getD J (12 + i) 0 ≡ cellFor J i .kind

@@ -144,11 +144,17 @@ pub fn words_at(job: &[u32], table: usize, i: usize) -> &[u32]
     cell_words(job, k)
 }
 
-// Copies the terms into the lent arrays.
-pub fn load_terms(job: &[u32], skinds: &mut [u32], sends: &mut [u32], spool: &mut [u32]) -> Fill
+// Copies the terms into the lent arrays; the fill has the multiplier.
+pub fn load_terms(
+    job: &[u32],
+    multiplier: u32,
+    skinds: &mut [u32],
+    sends: &mut [u32],
+    spool: &mut [u32],
+) -> index::Fill
     requires { ⌜ Held (now job) ⌝ }
     requires { ⌜ Loadable (kindsOf (now job)) (endsOf (now job)) (poolOf (now job)) (fillFor (now job)) (countFor (now job) 0) (now skinds) (now sends) (now spool) ⌝ }
-    ensures { λ r. ⌜ Loaded (kindsOf (now (job .entry))) (endsOf (now (job .entry))) (poolOf (now (job .entry))) (countFor (now (job .entry)) 0) (now (skinds .entry)) (now (sends .entry)) (now (spool .entry)) (now (skinds .exit)) (now (sends .exit)) (now (spool .exit)) r ⌝ }
+    ensures { λ r. ⌜ Loaded (kindsOf (now (job .entry))) (endsOf (now (job .entry))) (poolOf (now (job .entry))) (countFor (now (job .entry)) 0) multiplier (now (skinds .entry)) (now (sends .entry)) (now (spool .entry)) (now (skinds .exit)) (now (sends .exit)) (now (spool .exit)) r ⌝ }
 {
     let f = fill(job);
     let n = f.cells;
@@ -159,6 +165,7 @@ pub fn load_terms(job: &[u32], skinds: &mut [u32], sends: &mut [u32], spool: &mu
         pool(job, n),
         f,
         terms,
+        multiplier,
         skinds,
         sends,
         spool,

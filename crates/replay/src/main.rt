@@ -96,6 +96,7 @@ fn checks_as(
     kinds: &mut [u32],
     ends: &mut [u32],
     pool: &mut [u32],
+    index: &mut [u32],
     scratch: &mut [u32],
     told: &[u32],
     told_kinds: &[u32],
@@ -103,7 +104,17 @@ fn checks_as(
     told_pool: &[u32],
 ) -> bool {
     let mut answer = [0u32; 8];
-    let number = check(words, asked, 0, kinds, ends, pool, scratch, &mut answer);
+    let number = check(
+        words,
+        asked,
+        0,
+        kinds,
+        ends,
+        pool,
+        index,
+        scratch,
+        &mut answer,
+    );
     if answer[0] != number {
         return false;
     }
@@ -120,13 +131,14 @@ fn checks_as(
     )
 }
 
-// Checks a job with as much of the store and of scratch as its entry's head says.
+// Checks a job with as much of the store and of scratch as its entry's head says, and all of the index.
 fn checks_with(
     head: &[u32],
     words: &[u32],
     kinds: &mut [u32],
     ends: &mut [u32],
     pool: &mut [u32],
+    index: &mut [u32],
     scratch: &mut [u32],
     told: &[u32],
     told_kinds: &[u32],
@@ -159,6 +171,7 @@ fn checks_with(
         &mut kinds[..k],
         &mut ends[..e],
         &mut pool[..p],
+        index,
         &mut scratch[..s],
         told,
         told_kinds,
@@ -188,10 +201,12 @@ fn replay_entry(entry: &[u32]) -> Replayed {
     let mut lent_kinds = [0u32; 1024];
     let mut lent_ends = [0u32; 1024];
     let mut lent_pool = [0u32; 8192];
+    let mut index = [0u32; 2048];
     let mut scratch = [0u32; 4096];
     fill_with(&mut lent_kinds, entry[6]);
     fill_with(&mut lent_ends, entry[6]);
     fill_with(&mut lent_pool, entry[6]);
+    fill_with(&mut index, entry[6]);
     fill_with(&mut scratch, entry[6]);
     if !checks_with(
         &entry[..8],
@@ -199,6 +214,7 @@ fn replay_entry(entry: &[u32]) -> Replayed {
         &mut lent_kinds,
         &mut lent_ends,
         &mut lent_pool,
+        &mut index,
         &mut scratch,
         &entry[answer..kinds],
         &entry[kinds..ends],

@@ -15,7 +15,7 @@ use Rattle.model.specs.Check.{Outcome}
 use Rattle.model.specs.Walk.{noProof, claimAt}
 use Rattle.model.proofs.Post.{post-result}
 use Rattle.model.proofs.Store.{extends-same}
-use Rattle.cells.specs.declared.Fill.{Fill}
+use Rattle.index.specs.declared.Fill.{Fill}
 use Rattle.decode.specs.View.{propositionOf, justificationOf}
 use Rattle.decode.specs.declared.Proposition.{Proposition}
 use Rattle.decode.specs.declared.Justification.{Justification}
@@ -50,22 +50,22 @@ plain-arm (Justification.ContainerNormalize a) h = refl
 plain-arm Justification.Eval h = refl
 
 -- the claims that were read
-pub congr-as : (p : ℕ) (q : program.Proposition) (i : ℕ) {a b c d : program.Proposition} {k e l : List ℕ} {f : Fill} {k₁ e₁ l₁ : List ℕ} {f₁ : Fill} {r : Refusal} → a ≡ c → b ≡ d
-    → Does k e l f k₁ e₁ l₁ f₁ r tt (congrStep (roomOf k l) p q a i b (termsIn k e l f)) → Does k e l f k₁ e₁ l₁ f₁ r tt (congrStep (roomOf k l) p q c i d (termsIn k e l f))
-congr-as p q i {k = k} {e = e} {l = l} {f = f} {k₁ = k₁} {e₁ = e₁} {l₁ = l₁} {f₁ = f₁} {r = r} g h D =
-    subst (Does k e l f k₁ e₁ l₁ f₁ r tt) (ap₂ (λ (x y : program.Proposition). congrStep (roomOf k l) p q x i y (termsIn k e l f)) g h) D
+pub congr-as : (p : ℕ) (q : program.Proposition) (i : ℕ) {a b c d : program.Proposition} {k e l ix : List ℕ} {f : Fill} {k₁ e₁ l₁ ix₁ : List ℕ} {f₁ : Fill} {r : Refusal} → a ≡ c → b ≡ d
+    → Does k e l ix f k₁ e₁ l₁ ix₁ f₁ r tt (congrStep (roomOf k l) p q a i b (termsIn k e l f)) → Does k e l ix f k₁ e₁ l₁ ix₁ f₁ r tt (congrStep (roomOf k l) p q c i d (termsIn k e l f))
+congr-as p q i {k = k} {e = e} {l = l} {ix = ix} {f = f} {k₁ = k₁} {e₁ = e₁} {l₁ = l₁} {ix₁ = ix₁} {f₁ = f₁} {r = r} g h D =
+    subst (Does k e l ix f k₁ e₁ l₁ ix₁ f₁ r tt) (ap₂ (λ (x y : program.Proposition). congrStep (roomOf k l) p q x i y (termsIn k e l f)) g h) D
 
-pub merge-as : (prog : Program) (p : ℕ) (q : program.Proposition) (function : ℕ) {a b c d : program.Proposition} {k e l : List ℕ} {f : Fill} {k₁ e₁ l₁ : List ℕ} {f₁ : Fill} {r : Refusal} {m : List ℕ} → a ≡ c → b ≡ d
-    → Checks k e l f k₁ e₁ l₁ f₁ r tt m (mergeStep (roomOf k l) prog p q function a b (termsIn k e l f)) → Checks k e l f k₁ e₁ l₁ f₁ r tt m (mergeStep (roomOf k l) prog p q function c d (termsIn k e l f))
-merge-as prog p q function {k = k} {e = e} {l = l} {f = f} {k₁ = k₁} {e₁ = e₁} {l₁ = l₁} {f₁ = f₁} {r = r} {m = m} g h D =
-    subst (Checks k e l f k₁ e₁ l₁ f₁ r tt m) (ap₂ (λ (x y : program.Proposition). mergeStep (roomOf k l) prog p q function x y (termsIn k e l f)) g h) D
+pub merge-as : (prog : Program) (p : ℕ) (q : program.Proposition) (function : ℕ) {a b c d : program.Proposition} {k e l ix : List ℕ} {f : Fill} {k₁ e₁ l₁ ix₁ : List ℕ} {f₁ : Fill} {r : Refusal} {m : List ℕ} → a ≡ c → b ≡ d
+    → Checks k e l ix f k₁ e₁ l₁ ix₁ f₁ r tt m (mergeStep (roomOf k l) prog p q function a b (termsIn k e l f)) → Checks k e l ix f k₁ e₁ l₁ ix₁ f₁ r tt m (mergeStep (roomOf k l) prog p q function c d (termsIn k e l f))
+merge-as prog p q function {k = k} {e = e} {l = l} {ix = ix} {f = f} {k₁ = k₁} {e₁ = e₁} {l₁ = l₁} {ix₁ = ix₁} {f₁ = f₁} {r = r} {m = m} g h D =
+    subst (Checks k e l ix f k₁ e₁ l₁ ix₁ f₁ r tt m) (ap₂ (λ (x y : program.Proposition). mergeStep (roomOf k l) prog p q function x y (termsIn k e l f)) g h) D
 
 -- what a merge may be handed
-pub merge-stands : {job : List ℕ} {k e l : List ℕ} {f : Fill} {memo W : List ℕ} → Prepared job k e l f memo W
-    → Standing job [] k e l f memo (take (length k + length k - length k) (drop (length k) W))
+pub merge-stands : {job : List ℕ} {k e l ix : List ℕ} {f : Fill} {memo W : List ℕ} → Prepared job k e l ix f memo W
+    → Standing job [] k e l ix f memo (take (length k + length k - length k) (drop (length k) W))
 merge-stands {k = k} {W = W} S = record {
   ready = S .ready;
-  stored = S .stored;
+  indexed = S .indexed;
   sane = S .sane;
   fits = S .fits;
   past = S .past;
@@ -73,7 +73,7 @@ merge-stands {k = k} {W = W} S = record {
 }
 
 -- the step of proof p
-module _ (job : List ℕ) (U k e l : List ℕ) (f : Fill) (memo W : List ℕ) (p : ℕ) (S : Prepared job k e l f memo W) {n : ℕ} (np : n ≡ p) (q : Proposition) (j : Justification)
+module _ (job : List ℕ) (U k e l ix : List ℕ) (f : Fill) (memo W : List ℕ) (p : ℕ) (S : Prepared job k e l ix f memo W) {n : ℕ} (np : n ≡ p) (q : Proposition) (j : Justification)
     (C : ClaimAt job n q) (J : JustificationAt job n j) where
   abbrev prog : Program
   prog = programFor job
@@ -100,45 +100,45 @@ module _ (job : List ℕ) (U k e l : List ℕ) (f : Fill) (memo W : List ℕ) (p
   is-by ps g d = ap (λ (x : Justification). concludes (roomOf k l) prog proofs ps p (propositionOf q) (justificationOf x (premisesFor job p) (pairsFor job p)) s) (sym d) ∙ is-whole ps
 
   pub concludes-plain : {r : Refusal} → isPlain j ≡ true → PlainStep job U (take (length k) W) s p (propositionOf q) j r
-      → Concludes job U k e l f W p k e l (record { refusal = r; value = 0; fill = f }) memo W
+      → Concludes job U k e l ix f W p k e l ix (record { refusal = r; value = 0; fill = f }) memo W
   concludes-plain h D = record {
-    grown = grown-same (S .stored);
-    does = λ ps g. does-here (S .stored) (D .outcome (roomOf k l) ps g h ∙ is-whole ps);
+    grown = grown-same (S .indexed);
+    does = λ ps g. does-here (S .indexed) (D .outcome (roomOf k l) ps g h ∙ is-whole ps);
     past = λ _. S .past;
     grows = λ _. extends-same;
     sane = λ _ σ w. w;
     scratch = part-same (length k) W;
   }
 
-  pub concludes-merge : {t : MergeStep} (c : Checked) {k₁ e₁ l₁ memo₁ W₁ : List ℕ} → j ≡ Justification.MergeFn t
-      → Checks k e l f k₁ e₁ l₁ (c .fill) (c .refusal) tt memo₁ (mergeStep (roomOf k l) prog p (propositionOf q) (t .function) (claimAt proofs (t .«old_proof»)) (claimAt proofs (t .«new_proof»)) s)
-      → SecondPart (length k) W W₁ → Concludes job U k e l f W p k₁ e₁ l₁ c memo₁ W₁
+  pub concludes-merge : {t : MergeStep} (c : Checked) {k₁ e₁ l₁ ix₁ memo₁ W₁ : List ℕ} → j ≡ Justification.MergeFn t
+      → Checks k e l ix f k₁ e₁ l₁ ix₁ (c .fill) (c .refusal) tt memo₁ (mergeStep (roomOf k l) prog p (propositionOf q) (t .function) (claimAt proofs (t .«old_proof»)) (claimAt proofs (t .«new_proof»)) s)
+      → SecondPart (length k) W W₁ → Concludes job U k e l ix f W p k₁ e₁ l₁ ix₁ c memo₁ W₁
   unfolding concludes
-  concludes-merge {t} c {k₁} {e₁} {l₁} {memo₁} {W₁} d M w =
+  concludes-merge {t} c {k₁} {e₁} {l₁} {ix₁} {memo₁} {W₁} d M w =
       let kept : c .refusal .number ≡ 0 → (σ : List Binding) → Sane prog σ s → Extends s (termsIn k₁ e₁ l₁ (c .fill)) × Sane prog σ (termsIn k₁ e₁ l₁ (c .fill)) =
       λ u σ v. post-result (merge-keeps prog σ (roomOf k l) p (propositionOf q) (t .function) (claimAt proofs (t .«old_proof»)) (claimAt proofs (t .«new_proof»)) v)
       (sym (M .does .outcome) ∙ ok-of (c .refusal) tt (termsIn k₁ e₁ l₁ (c .fill)) u) in
       record {
         grown = M .does .grown;
-        does = λ ps g. subst (Does k e l f k₁ e₁ l₁ (c .fill) (c .refusal) tt) (is-by ps (Justification.MergeFn t) d) (M .does);
+        does = λ ps g. subst (Does k e l ix f k₁ e₁ l₁ ix₁ (c .fill) (c .refusal) tt) (is-by ps (Justification.MergeFn t) d) (M .does);
         past = M .past;
         grows = λ u. kept u [] (S .sane) .0;
         sane = λ u σ v. kept u σ v .1;
         scratch = w;
       }
 
-  pub concludes-congr : {t : CongrStep} (c : Checked) {k₁ e₁ l₁ : List ℕ} → j ≡ Justification.Congr t → t .«child_proof» < sizesOf job .proofs
-      → Does k e l f k₁ e₁ l₁ (c .fill) (c .refusal) tt (congrStep (roomOf k l) p (propositionOf q) (claimAt proofs (t .proof)) (t .«child_index») (claimAt proofs (t .«child_proof»)) s)
-      → Concludes job U k e l f W p k₁ e₁ l₁ c memo W
+  pub concludes-congr : {t : CongrStep} (c : Checked) {k₁ e₁ l₁ ix₁ : List ℕ} → j ≡ Justification.Congr t → t .«child_proof» < sizesOf job .proofs
+      → Does k e l ix f k₁ e₁ l₁ ix₁ (c .fill) (c .refusal) tt (congrStep (roomOf k l) p (propositionOf q) (claimAt proofs (t .proof)) (t .«child_index») (claimAt proofs (t .«child_proof»)) s)
+      → Concludes job U k e l ix f W p k₁ e₁ l₁ ix₁ c memo W
   unfolding concludes
-  concludes-congr {t} c {k₁} {e₁} {l₁} d h M =
+  concludes-congr {t} c {k₁} {e₁} {l₁} {ix₁} d h M =
       let inside : claimAt proofs (t .«child_proof») .rhs < length s = let i = claim-inside (S .ready) (t .«child_proof») h in let m = first-long (S .ready) (S .terms) in omega arith in
       let kept : c .refusal .number ≡ 0 → (σ : List Binding) → Sane prog σ s → Extends s (termsIn k₁ e₁ l₁ (c .fill)) × Sane prog σ (termsIn k₁ e₁ l₁ (c .fill)) =
       λ u σ v. post-result (congr-keeps prog σ (roomOf k l) p (propositionOf q) (claimAt proofs (t .proof)) (t .«child_index») (claimAt proofs (t .«child_proof»)) v inside)
       (sym (M .outcome) ∙ ok-of (c .refusal) tt (termsIn k₁ e₁ l₁ (c .fill)) u) in
       record {
         grown = M .grown;
-        does = λ ps g. subst (Does k e l f k₁ e₁ l₁ (c .fill) (c .refusal) tt) (is-by ps (Justification.Congr t) d) M;
+        does = λ ps g. subst (Does k e l ix f k₁ e₁ l₁ ix₁ (c .fill) (c .refusal) tt) (is-by ps (Justification.Congr t) d) M;
         past = λ _. S .past;
         grows = λ u. kept u [] (S .sane) .0;
         sane = λ u σ v. kept u σ v .1;

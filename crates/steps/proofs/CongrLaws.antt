@@ -9,8 +9,8 @@ use Rattle.model.specs.Program.{Proposition}
 use Rattle.model.specs.Check.{Check, andThen, _>>=_, orRefuse, Room, addNode}
 use Rattle.model.specs.Evaluate.{children}
 use Rattle.model.specs.Normalize.{App, asApp}
-use Rattle.cells.specs.declared.Fill.{Fill}
-use Rattle.termdag.specs.Store.{termsIn, Stored, roomOf}
+use Rattle.index.specs.declared.Fill.{Fill}
+use Rattle.termdag.specs.Store.{termsIn, Indexed, roomOf}
 use Rattle.outcome.specs.Does.{refusal, outcomeOf, Does}
 use Rattle.outcome.specs.declared.Refusal.{Refusal}
 use Rattle.outcome.specs.declared.Checked.{Checked}
@@ -21,7 +21,7 @@ use Rattle.merges.specs.Step.{appWith}
 use Rattle.merges.proofs.AddLaws.{replaced}
 use Rattle.steps.specs.Concluding.{childMatches, congrClaims, congrApp, congrStep}
 
-module _ (p : ℕ) (q a : Proposition) (i : ℕ) (b : Proposition) {K E P : List ℕ} {f : Fill} (S : Stored K E P f) where
+module _ (p : ℕ) (q a : Proposition) (i : ℕ) (b : Proposition) {K E P I : List ℕ} {f : Fill} (S : Indexed K E P I f) where
   abbrev s : List Term
   s = termsIn K E P f
 
@@ -34,10 +34,10 @@ module _ (p : ℕ) (q a : Proposition) (i : ℕ) (b : Proposition) {K E P : List
 
   pub congr-none : {u : Looked} {c : Checked} → appWith (optionOf u) xs ≡ asApp (getTerm s (a .rhs)) → u ≡ Looked.None
       → c ≡ record { refusal = refusal 22 1 (p ∷ 0 ∷ 0 ∷ 0 ∷ 0 ∷ 0 ∷ []); value = 0; fill = f }
-      → Does K E P f K E P (c .fill) (c .refusal) tt (congrStep (roomOf K P) p q a i b s)
+      → Does K E P I f K E P I (c .fill) (c .refusal) tt (congrStep (roomOf K P) p q a i b s)
   unfolding orRefuse
   congr-none e d g =
-      subst⁻¹ (λ (x : Checked). Does K E P f K E P (x .fill) (x .refusal) tt (congrStep (roomOf K P) p q a i b s)) g
+      subst⁻¹ (λ (x : Checked). Does K E P I f K E P I (x .fill) (x .refusal) tt (congrStep (roomOf K P) p q a i b s)) g
       (does-here S (by-app (ap (λ (v : Looked). appWith (optionOf v) xs) (sym d) ∙ e)))
 
   module _ {u : Looked} {head : ℕ} (e : appWith (optionOf u) xs ≡ asApp (getTerm s (a .rhs))) (d : u ≡ Looked.Some head) where
@@ -49,24 +49,24 @@ module _ (p : ℕ) (q a : Proposition) (i : ℕ) (b : Proposition) {K E P : List
     after room _ = addNode room (app head (set xs i (b .rhs))) >>= congrClaims p q (a .lhs)
 
     module _ (r : Refusal) {ys : List ℕ} (g : ys ≡ xs) (m : (u : List Term) → outcomeOf r tt u ≡ childMatches p i (b .lhs) ys u) where
-      child : Does K E P f K E P f r tt (childMatches p i (b .lhs) xs s)
+      child : Does K E P I f K E P I f r tt (childMatches p i (b .lhs) xs s)
       child = does-here S (m s ∙ ap (λ (zs : List ℕ). childMatches p i (b .lhs) zs s) g)
 
-      pub congr-child : (r .number ≡ 0 → ⊥) → Does K E P f K E P f r tt (congrStep (roomOf K P) p q a i b s)
+      pub congr-child : (r .number ≡ 0 → ⊥) → Does K E P I f K E P I f r tt (congrStep (roomOf K P) p q a i b s)
       unfolding congrApp
-      congr-child n = subst (Does K E P f K E P f r tt) is-app (does-stop tt (after (roomOf K P)) child n)
+      congr-child n = subst (Does K E P I f K E P I f r tt) is-app (does-stop tt (after (roomOf K P)) child n)
 
-      module _ (n : r .number ≡ 0) {K₁ E₁ P₁ : List ℕ} {k : ℕ} (c : Checked) (kq : k ≡ i)
-          (A : Does K E P f K₁ E₁ P₁ (c .fill) (c .refusal) (c .value) (addNode (roomOf K P) (app head (set xs k (b .rhs))) s)) where
-        new : Does K E P f K₁ E₁ P₁ (c .fill) (c .refusal) (c .value) (addNode (roomOf K P) (app head (set xs i (b .rhs))) s)
+      module _ (n : r .number ≡ 0) {K₁ E₁ P₁ I₁ : List ℕ} {k : ℕ} (c : Checked) (kq : k ≡ i)
+          (A : Does K E P I f K₁ E₁ P₁ I₁ (c .fill) (c .refusal) (c .value) (addNode (roomOf K P) (app head (set xs k (b .rhs))) s)) where
+        new : Does K E P I f K₁ E₁ P₁ I₁ (c .fill) (c .refusal) (c .value) (addNode (roomOf K P) (app head (set xs i (b .rhs))) s)
         new = replaced {c = c} head (ap (λ (j : ℕ). set xs j (b .rhs)) kq) A
 
-        pub congr-full : (c .refusal .number ≡ 0 → ⊥) → Does K E P f K₁ E₁ P₁ (c .fill) (c .refusal) tt (congrStep (roomOf K P) p q a i b s)
+        pub congr-full : (c .refusal .number ≡ 0 → ⊥) → Does K E P I f K₁ E₁ P₁ I₁ (c .fill) (c .refusal) tt (congrStep (roomOf K P) p q a i b s)
         unfolding congrApp
-        congr-full h = subst (Does K E P f K₁ E₁ P₁ (c .fill) (c .refusal) tt) is-app (does-then after child n (does-stop tt (congrClaims p q (a .lhs)) new h))
+        congr-full h = subst (Does K E P I f K₁ E₁ P₁ I₁ (c .fill) (c .refusal) tt) is-app (does-then after child n (does-stop tt (congrClaims p q (a .lhs)) new h))
 
         pub congr-claimed : (r′ : Refusal) → c .refusal .number ≡ 0 → ((u : List Term) → outcomeOf r′ tt u ≡ congrClaims p q (a .lhs) (c .value) u)
-            → Does K E P f K₁ E₁ P₁ (c .fill) r′ tt (congrStep (roomOf K P) p q a i b s)
+            → Does K E P I f K₁ E₁ P₁ I₁ (c .fill) r′ tt (congrStep (roomOf K P) p q a i b s)
         unfolding congrApp
-        congr-claimed r′ h w = subst (Does K E P f K₁ E₁ P₁ (c .fill) r′ tt) is-app
-            (does-then after child n (does-then (λ room. congrClaims p q (a .lhs)) new h (does-here (new .grown .stored) (w (termsIn K₁ E₁ P₁ (c .fill))))))
+        congr-claimed r′ h w = subst (Does K E P I f K₁ E₁ P₁ I₁ (c .fill) r′ tt) is-app
+            (does-then after child n (does-then (λ room. congrClaims p q (a .lhs)) new h (does-here (new .grown .indexed) (w (termsIn K₁ E₁ P₁ (c .fill))))))

@@ -23,7 +23,7 @@ use Rattle.decode.specs.declared.Proposition.{Proposition}
 use Rattle.decode.specs.declared.Justification.{Justification}
 use Rattle.termdag.specs.Store.{termsIn}
 use Rattle.termdag.proofs.Laws.{get-read, terms-length}
-use Rattle.cells.specs.declared.Fill.{Fill}
+use Rattle.index.specs.declared.Fill.{Fill}
 use Rattle.program.specs.Ready.{tablesFor, Ready}
 use Rattle.program.specs.Read.{proofsFor, proofCell, premisesFor, pairsFor, ClaimAt, JustificationAt}
 use Rattle.program.proofs.Laws.{table-long, fits}

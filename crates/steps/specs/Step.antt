@@ -10,10 +10,10 @@ use Rattle.model.specs.Program as program
 use Rattle.model.specs.Program.{Binding}
 use Rattle.model.specs.Check.{Room}
 use Rattle.model.specs.Walk.{noProof, claimAt}
-use Rattle.cells.specs.declared.Fill.{Fill}
+use Rattle.index.specs.declared.Fill.{Fill}
 use Rattle.decode.specs.View.{justificationOf}
 use Rattle.decode.specs.declared.Justification.{Justification}
-use Rattle.termdag.specs.Store.{termsIn, Stored, roomOf}
+use Rattle.termdag.specs.Store.{termsIn, Indexed, roomOf}
 use Rattle.memo.specs.Memo.{Past}
 use Rattle.outcome.specs.Does.{Grown, outcomeOf, Does}
 use Rattle.outcome.specs.declared.Refusal.{Refusal}
@@ -50,9 +50,9 @@ pub record SecondPart (c : ℕ) (W W′ : List ℕ) : Type 0 where
   pub behind : drop (c + c) W′ ≡ drop (c + c) W
 
 -- What a step may be handed: an admitted job, a sane store that has the job's terms first, a memo, and two words of scratch for each cell of the store.
-pub record Prepared (J : List ℕ) (k e p : List ℕ) (f : Fill) (memo scratch : List ℕ) : Type 0 where
+pub record Prepared (J : List ℕ) (k e p ix : List ℕ) (f : Fill) (memo scratch : List ℕ) : Type 0 where
   pub ready : Ready J
-  pub stored : Stored k e p f
+  pub indexed : Indexed k e p ix f
   pub sane : Sane (programFor J) [] (termsIn k e p f)
   pub terms : TermsFirst J (termsIn k e p f)
   pub fits : sizesOf J .expressions + sizesOf J .expressions < length memo
@@ -61,9 +61,9 @@ pub record Prepared (J : List ℕ) (k e p : List ℕ) (f : Fill) (memo scratch :
 
 -- The step of proof n, where the first words of the scratch W are the marks of the global pairs: the outcome is the definition's for whatever pairs these and the unions U stand for.
 -- After a value the memo can be used again, and the store grew and is sane; of the scratch only the second C words are written.
-pub record Concludes (J : List ℕ) (U k e p : List ℕ) (f : Fill) (W : List ℕ) (n : ℕ) (k′ e′ p′ : List ℕ) (r : Checked) (memo′ W′ : List ℕ) : Type 0 where
-  pub grown : Grown k e p f k′ e′ p′ (r .fill)
-  pub does : (ps : List program.Proposition) → GlobalPairs ps U (take (length k) W) → Does k e p f k′ e′ p′ (r .fill) (r .refusal) tt
+pub record Concludes (J : List ℕ) (U k e p ix : List ℕ) (f : Fill) (W : List ℕ) (n : ℕ) (k′ e′ p′ ix′ : List ℕ) (r : Checked) (memo′ W′ : List ℕ) : Type 0 where
+  pub grown : Grown k e p ix f k′ e′ p′ ix′ (r .fill)
+  pub does : (ps : List program.Proposition) → GlobalPairs ps U (take (length k) W) → Does k e p ix f k′ e′ p′ ix′ (r .fill) (r .refusal) tt
       (concludes (roomOf k p) (programFor J) (proofsFor J) ps n (claimAt (proofsFor J) n) (getD (proofsFor J) n noProof .justification) (termsIn k e p f))
   pub past : r .refusal .number ≡ 0 → Past memo′
   pub grows : r .refusal .number ≡ 0 → Extends (termsIn k e p f) (termsIn k′ e′ p′ (r .fill))

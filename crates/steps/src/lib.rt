@@ -1,10 +1,10 @@
 // Proof steps other than a rule's, from `check_proof_with_context` of proof_checker.rs: what they do once the proofs that they refer to are checked.
-use cells::Fill;
 use cells::wide;
 use context::is_global_pair;
 use decode::Justification;
 use decode::Proposition;
 use decode::Term;
+use index::Fill;
 use merges::app_head;
 use merges::check_that;
 use merges::merge_step;
@@ -28,7 +28,7 @@ ghost use Rattle.model.specs.Term as terms;
 ghost use Rattle.model.specs.Program as program;
 ghost use Rattle.model.specs.Walk.{claimAt, isLiteral};
 ghost use Rattle.decode.specs.View.{propositionOf};
-ghost use Rattle.termdag.specs.Store.{termsIn, Stored, roomOf};
+ghost use Rattle.termdag.specs.Store.{termsIn, Stored, Indexed, roomOf};
 ghost use Rattle.outcome.specs.Does.{outcomeOf, Does};
 ghost use Rattle.program.specs.Ready.{Ready, programFor};
 ghost use Rattle.program.specs.Read.{proofsFor, ClaimAt, JustificationAt};
@@ -213,6 +213,7 @@ fn congr_step(
     kinds: &mut [u32],
     ends: &mut [u32],
     pool: &mut [u32],
+    index: &mut [u32],
     fill: Fill,
     p: u32,
     q: Proposition,
@@ -220,9 +221,9 @@ fn congr_step(
     i: u32,
     b: Proposition,
 ) -> Checked
-    requires { ⌜ Stored (now kinds) (now ends) (now pool) fill ⌝ }
+    requires { ⌜ Indexed (now kinds) (now ends) (now pool) (now index) fill ⌝ }
     requires { ⌜ Small (termsIn (now kinds) (now ends) (now pool) fill) (a .rhs) ⌝ }
-    ensures { λ r. ⌜ Does (now (kinds .entry)) (now (ends .entry)) (now (pool .entry)) fill (now (kinds .exit)) (now (ends .exit)) (now (pool .exit)) (r .fill) (r .refusal) tt (congrStep (roomOf (now (kinds .entry)) (now (pool .entry))) p (propositionOf q) (propositionOf a) i (propositionOf b) (termsIn (now (kinds .entry)) (now (ends .entry)) (now (pool .entry)) fill)) ⌝ }
+    ensures { λ r. ⌜ Does (now (kinds .entry)) (now (ends .entry)) (now (pool .entry)) (now (index .entry)) fill (now (kinds .exit)) (now (ends .exit)) (now (pool .exit)) (now (index .exit)) (r .fill) (r .refusal) tt (congrStep (roomOf (now (kinds .entry)) (now (pool .entry))) p (propositionOf q) (propositionOf a) i (propositionOf b) (termsIn (now (kinds .entry)) (now (ends .entry)) (now (pool .entry)) fill)) ⌝ }
 {
     let t = a.rhs;
     let head = app_head(kinds, ends, pool, fill, t);
@@ -238,7 +239,7 @@ fn congr_step(
             fill,
         };
     }
-    let r = replace_child(kinds, ends, pool, fill, t, f, wide(i), b.rhs, q.rhs);
+    let r = replace_child(kinds, ends, pool, index, fill, t, f, wide(i), b.rhs);
     if r.refusal.number != 0 {
         return r;
     }
@@ -301,6 +302,7 @@ fn congr_at(
     skinds: &mut [u32],
     sends: &mut [u32],
     spool: &mut [u32],
+    index: &mut [u32],
     fill: Fill,
     p: u32,
     q: Proposition,
@@ -309,15 +311,15 @@ fn congr_at(
     y: u32,
 ) -> Checked
     requires { ⌜ Ready (now job) ⌝ }
-    requires { ⌜ Stored (now skinds) (now sends) (now spool) fill ⌝ }
+    requires { ⌜ Indexed (now skinds) (now sends) (now spool) (now index) fill ⌝ }
     requires { ⌜ TermsFirst (now job) (termsIn (now skinds) (now sends) (now spool) fill) ⌝ }
     requires { ⌜ x < sizesOf (now job) .proofs ⌝ }
     requires { ⌜ y < sizesOf (now job) .proofs ⌝ }
-    ensures { λ r. ⌜ Does (now (skinds .entry)) (now (sends .entry)) (now (spool .entry)) fill (now (skinds .exit)) (now (sends .exit)) (now (spool .exit)) (r .fill) (r .refusal) tt (congrStep (roomOf (now (skinds .entry)) (now (spool .entry))) p (propositionOf q) (claimAt (proofsFor (now (job .entry))) x) i (claimAt (proofsFor (now (job .entry))) y) (termsIn (now (skinds .entry)) (now (sends .entry)) (now (spool .entry)) fill)) ⌝ }
+    ensures { λ r. ⌜ Does (now (skinds .entry)) (now (sends .entry)) (now (spool .entry)) (now (index .entry)) fill (now (skinds .exit)) (now (sends .exit)) (now (spool .exit)) (now (index .exit)) (r .fill) (r .refusal) tt (congrStep (roomOf (now (skinds .entry)) (now (spool .entry))) p (propositionOf q) (claimAt (proofsFor (now (job .entry))) x) i (claimAt (proofsFor (now (job .entry))) y) (termsIn (now (skinds .entry)) (now (sends .entry)) (now (spool .entry)) fill)) ⌝ }
 {
     let a = claim_at(job, wide(x));
     let b = claim_at(job, wide(y));
-    congr_step(skinds, sends, spool, fill, p, q, a, i, b)
+    congr_step(skinds, sends, spool, index, fill, p, q, a, i, b)
 }
 
 // `MergeFn`, with the claims of proofs x and y, and marks in the second part of the scratch.
@@ -326,6 +328,7 @@ fn merge_at(
     skinds: &mut [u32],
     sends: &mut [u32],
     spool: &mut [u32],
+    index: &mut [u32],
     fill: Fill,
     memo: &mut [u32],
     scratch: &mut [u32],
@@ -335,10 +338,10 @@ fn merge_at(
     x: u32,
     y: u32,
 ) -> Checked
-    requires { ⌜ Prepared (now job) (now skinds) (now sends) (now spool) fill (now memo) (now scratch) ⌝ }
+    requires { ⌜ Prepared (now job) (now skinds) (now sends) (now spool) (now index) fill (now memo) (now scratch) ⌝ }
     requires { ⌜ x < sizesOf (now job) .proofs ⌝ }
     requires { ⌜ y < sizesOf (now job) .proofs ⌝ }
-    ensures { λ r. ⌜ Checks (now (skinds .entry)) (now (sends .entry)) (now (spool .entry)) fill (now (skinds .exit)) (now (sends .exit)) (now (spool .exit)) (r .fill) (r .refusal) tt (now (memo .exit)) (mergeStep (roomOf (now (skinds .entry)) (now (spool .entry))) (programFor (now (job .entry))) p (propositionOf q) function (claimAt (proofsFor (now (job .entry))) x) (claimAt (proofsFor (now (job .entry))) y) (termsIn (now (skinds .entry)) (now (sends .entry)) (now (spool .entry)) fill)) ⌝ }
+    ensures { λ r. ⌜ Checks (now (skinds .entry)) (now (sends .entry)) (now (spool .entry)) (now (index .entry)) fill (now (skinds .exit)) (now (sends .exit)) (now (spool .exit)) (now (index .exit)) (r .fill) (r .refusal) tt (now (memo .exit)) (mergeStep (roomOf (now (skinds .entry)) (now (spool .entry))) (programFor (now (job .entry))) p (propositionOf q) function (claimAt (proofsFor (now (job .entry))) x) (claimAt (proofsFor (now (job .entry))) y) (termsIn (now (skinds .entry)) (now (sends .entry)) (now (spool .entry)) fill)) ⌝ }
     ensures { λ r. ⌜ SecondPart (length (now (skinds .entry))) (now (scratch .entry)) (now (scratch .exit)) ⌝ }
 {
     let a = claim_at(job, wide(x));
@@ -350,6 +353,7 @@ fn merge_at(
         skinds,
         sends,
         spool,
+        index,
         fill,
         memo,
         &mut scratch[c..d],
@@ -368,14 +372,15 @@ pub fn conclude(
     skinds: &mut [u32],
     sends: &mut [u32],
     spool: &mut [u32],
+    index: &mut [u32],
     fill: Fill,
     memo: &mut [u32],
     scratch: &mut [u32],
     p: u32,
 ) -> Checked
-    requires { ⌜ Prepared (now job) (now skinds) (now sends) (now spool) fill (now memo) (now scratch) ⌝ }
+    requires { ⌜ Prepared (now job) (now skinds) (now sends) (now spool) (now index) fill (now memo) (now scratch) ⌝ }
     requires { ⌜ p < sizesOf (now job) .proofs ⌝ }
-    ensures { λ r. ⌜ Concludes (now (job .entry)) (now (unions .entry)) (now (skinds .entry)) (now (sends .entry)) (now (spool .entry)) fill (now (scratch .entry)) p (now (skinds .exit)) (now (sends .exit)) (now (spool .exit)) r (now (memo .exit)) (now (scratch .exit)) ⌝ }
+    ensures { λ r. ⌜ Concludes (now (job .entry)) (now (unions .entry)) (now (skinds .entry)) (now (sends .entry)) (now (spool .entry)) (now (index .entry)) fill (now (scratch .entry)) p (now (skinds .exit)) (now (sends .exit)) (now (spool .exit)) (now (index .exit)) r (now (memo .exit)) (now (scratch .exit)) ⌝ }
 {
     let n = wide(p);
     let q = claim_at(job, n);
@@ -386,6 +391,7 @@ pub fn conclude(
             skinds,
             sends,
             spool,
+            index,
             fill,
             memo,
             scratch,
@@ -400,6 +406,7 @@ pub fn conclude(
             skinds,
             sends,
             spool,
+            index,
             fill,
             p,
             q,

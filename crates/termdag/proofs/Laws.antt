@@ -17,16 +17,17 @@ use Rattle.model.specs.Check.{Outcome, ok, refused, refuse, addNode}
 use Rattle.model.specs.Evaluate.{children}
 use Rattle.model.proofs.Represent.{Distinct}
 use Rattle.model.specs.Decode.{readArguments}
-use Rattle.cells.specs.Table.{findFrom, Once, put, total, Table, tableOf, Result, appendIf, appendCell, addFound, addCell, Ran}
-use Rattle.cells.specs.declared.Fill.{Fill}
+use Rattle.cells.specs.Table.{findFrom, Once, put, total, Table, tableOf, Result, appendIf, appendCell, addFound, addCell}
 use Rattle.cells.specs.declared.Found.{Found}
-use Rattle.cells.specs.declared.Added.{Added}
+use Rattle.index.specs.declared.Fill.{Fill}
+use Rattle.index.specs.declared.Added.{Added}
+use Rattle.index.specs.Listing.{tableFill, Kept, Ready}
 use Rattle.cells.proofs.Laws.{cells-length, cell-at}
 use Rattle.cells.proofs.Appending.{held-total, add-once}
 use Rattle.decode.specs.View.{cell, termOf}
 use Rattle.decode.specs.declared.Term as decoded
 use Rattle.decode.proofs.Laws.{arguments-none, arguments-some}
-use Rattle.termdag.specs.Store.{termsIn, Stored, roomOf, Adds}
+use Rattle.termdag.specs.Store.{termsIn, Stored, Indexed, roomOf, Adds}
 
 -- one term
 read-cell : (t : Term) → readTerm (cellOf t) ≡ t
@@ -116,19 +117,29 @@ module _ (C W : ℕ) (t : Term) (s : List Term) where
       subst⁻¹ (λ (o : Found). Same (addFound o (cellOf t) (table (map cellOf s))) (addNode (record { cells = C; words = W }) t s)) (find-cell s t 0)
       (by-find (findTerm s t 0))
 
-module _ {K E P : List ℕ} {f : Fill} {K′ E′ P′ : List ℕ} {a : Added} where
-  adds-same : {x : Result} {o : Outcome ℕ} → Same x o → Once (x .cells) → Ran K E P f K′ E′ P′ a x → Adds K E P f K′ E′ P′ a o
+-- a store that its index lists is ready for look-ups
+pub ready-of : {K E P I : List ℕ} {f : Fill} → Indexed K E P I f → Ready K E P I f
+ready-of X = record { formed = X .stored .formed; once = X .stored .once; lists = X .lists; room = X .room }
+
+module _ {K E P I : List ℕ} {f : Fill} {K′ E′ P′ I′ : List ℕ} {a : Added} where
+  adds-same : {x : Result} {o : Outcome ℕ} → Same x o → Once (x .cells) → length K < length I → Kept K E P I f K′ E′ P′ I′ a x → Adds K E P I f K′ E′ P′ I′ a o
   unfolding termsIn
-  adds-same q once R =
+  adds-same q once room kept =
+      let R = kept .ran in
       let ts = ap (map readTerm) (R .cells) in
       let w = sym (held-total (R .formed)) ∙ ap total (R .cells) in
       record {
         outcome = (λ i. answer (R .full i) (R .number i) (w i) (ts i)) ∙ q .outcome;
         full = λ e. R .number ∙ q .full (sym (R .full) ∙ e);
-        stored = record { formed = R .formed; once = subst Once (sym (R .cells)) once; terms = ap (map cellOf) ts ∙ q .terms ∙ sym (R .cells) };
+        indexed = record {
+          stored = record { formed = R .formed; once = subst Once (sym (R .cells)) once; terms = ap (map cellOf) ts ∙ q .terms ∙ sym (R .cells) };
+          lists = kept .lists;
+          room = rw (R .lenK, kept .lenI) room;
+        };
         lenK = R .lenK;
         lenE = R .lenE;
         lenP = R .lenP;
+        lenI = kept .lenI;
         moreCells = R .moreCells;
         moreWords = R .moreWords;
         kinds = R .kinds;
@@ -137,12 +148,14 @@ module _ {K E P : List ℕ} {f : Fill} {K′ E′ P′ : List ℕ} {a : Added} w
       }
 
   -- adding a term's cell is adding the term
-  pub adds : Stored K E P f → (t : Term) → Ran K E P f K′ E′ P′ a (addCell (cellOf t) (tableOf K E P f)) → Adds K E P f K′ E′ P′ a (addNode (roomOf K P) t (termsIn K E P f))
-  adds S t =
+  pub adds : Indexed K E P I f → (t : Term) → Kept K E P I f K′ E′ P′ I′ a (addCell (cellOf t) (tableOf K E P (tableFill f))) → Adds K E P I f K′ E′ P′ I′ a (addNode (roomOf K P) t (termsIn K E P f))
+  adds X t =
+      let S = X .stored in
       adds-same (subst (λ (cs : List Cell). Same (addCell (cellOf t) (record { cells = cs; cellRoom = length K; wordRoom = length P })) (addNode (roomOf K P) t (termsIn K E P f)))
       (S .terms)
       (add-term (length K) (length P) t (termsIn K E P f)))
-      (add-once (cellOf t) (tableOf K E P f) (S .once))
+      (add-once (cellOf t) (tableOf K E P (tableFill f)) (S .once))
+      (X .room)
 
 -- the words of an application, written one part after the other
 pub put-first : (f : ℕ) (zs xs : List ℕ) → take (length xs + 1) (put (f ∷ zs) 1 xs) ≡ f ∷ xs

@@ -93,13 +93,14 @@ module _ {JK JE JP : List ℕ} {jf : Fill} {n : ℕ} {K₀ E₀ P₀ : List ℕ}
     copied-words : i ≤ n → f .words ≡ startOf JE i
     copied-words h = sym (held-total (C .formed)) ∙ ap total (C .cells) ∙ held-total (first (L .formed) i (omega (arith, L .within)))
 
-    pub loaded : i ≡ n → Loaded JK JE JP n K₀ E₀ P₀ K E P f
+    pub loaded : i ≡ n → (x : ℕ) → Loaded JK JE JP n x K₀ E₀ P₀ K E P (record { cells = f .cells; words = f .words; multiplier = x })
     unfolding termsIn
-    loaded e =
+    loaded e x =
         let s : cellsOf K E P (f .cells) ≡ cellsOf JK JE JP n = C .cells ∙ ap (cellsOf JK JE JP) e in
         record {
           cells = C .count ∙ e;
           words = copied-words (omega arith) ∙ ap (startOf JE) e;
+          multiplier = refl;
           stored = record { formed = C .formed; once = subst Once (sym s) (L .once); terms = ap (λ (cs : List Cell). map cellOf (map readTerm cs)) s ∙ L .terms ∙ sym s };
           terms = ap (map readTerm) s;
           lenK = C .lenK;

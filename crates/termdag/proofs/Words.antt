@@ -9,7 +9,8 @@ use Rattle.model.specs.Cell.{Cell, tabulate, startOf, wordsAt, cellAt, cellsOf}
 use Rattle.model.specs.Term.{Term, termKind, cellOf}
 use Rattle.model.specs.Answer.{over, termEnds, termPool, Arrays, stored}
 use Rattle.cells.specs.Table.{Formed, total}
-use Rattle.cells.specs.declared.Fill.{Fill}
+use Rattle.cells.specs.declared.Fill.{Fill as TableFill}
+use Rattle.index.specs.declared.Fill.{Fill}
 use Rattle.cells.proofs.Laws.{rising, within, words-length}
 use Rattle.cells.proofs.Appending.{held-total}
 use Rattle.termdag.specs.Store.{termsIn, Stored}
@@ -40,7 +41,7 @@ pool-snoc [] c = append-nil (c .words)
 pool-snoc (x ∷ cs) c = ap (λ (l : List ℕ). x .words ++ l) (pool-snoc cs c) ∙ sym (append-assoc (x .words) (poolOf cs) (c .words))
 
 -- those of the first n cells are the first of each array
-module _ {K E P : List ℕ} {f : Fill} (F : Formed K E P f) where
+module _ {K E P : List ℕ} {f : TableFill} (F : Formed K E P f) where
   kinds-of : (n : ℕ) → n ≤ f .cells → take n K ≡ map kindOf (tabulate n (cellAt K E P))
   unfolding tabulate kindOf
   kinds-of zero h = refl

@@ -16,7 +16,7 @@ use Rattle.model.specs.Program.{Binding, Rule, Proof}
 use Rattle.model.specs.Decode.{ruleFacts, readBindings}
 use Rattle.model.specs.Walk.{claimAt}
 use Rattle.model.proofs.Store.{extends-length}
-use Rattle.cells.specs.declared.Fill.{Fill}
+use Rattle.index.specs.declared.Fill.{Fill}
 use Rattle.decode.specs.View.{propositionOf}
 use Rattle.decode.specs.declared.Proposition.{Proposition}
 use Rattle.termdag.specs.Store.{termsIn}
@@ -39,14 +39,14 @@ pub facts-long : (J : List ℕ) (r : ℕ) {xs : List ℕ} → xs ≡ ruleFacts (
 facts-long J r e = ap length e ∙ sym (length-map (ruleFacts (getD (tablesFor J .rules) r noCell)) (factFor J)) ∙ ap (λ (t : Rule). length (t .facts)) (sym (rule-for J r))
 
 -- a step's growth
-pub conclude-grown : {J : List ℕ} {U k e p : List ℕ} {f : Fill} {W : List ℕ} {n : ℕ} {k₁ e₁ p₁ : List ℕ} {c : Checked} {memo₁ W₁ : List ℕ}
-    → Concludes J U k e p f W n k₁ e₁ p₁ c memo₁ W₁ → Grown k e p f k₁ e₁ p₁ (c .fill)
+pub conclude-grown : {J : List ℕ} {U k e p ix : List ℕ} {f : Fill} {W : List ℕ} {n : ℕ} {k₁ e₁ p₁ ix₁ : List ℕ} {c : Checked} {memo₁ W₁ : List ℕ}
+    → Concludes J U k e p ix f W n k₁ e₁ p₁ ix₁ c memo₁ W₁ → Grown k e p ix f k₁ e₁ p₁ ix₁ (c .fill)
 conclude-grown d = d .grown
 
 -- the substitution's terms are in the store
-pub sane-substitution : (S : List ℕ) {J : List ℕ} {F G k e q : List ℕ} {f : Fill} {memo W : List ℕ} → Ground J F G k e q f memo W → ((b : Binding) → List·Memᴰ b (readBindings S) → b .term < sizesOf J .terms)
+pub sane-substitution : (S : List ℕ) {J : List ℕ} {F G k e q ix : List ℕ} {f : Fill} {memo W : List ℕ} → Ground J F G k e q ix f memo W → ((b : Binding) → List·Memᴰ b (readBindings S) → b .term < sizesOf J .terms)
     → Sane (programFor J) (readBindings S ++ readBindings G) (termsIn k e q f)
-sane-substitution S {J} {G = G} {k = k} {e = e} {q = q} {f = f} g h = record {
+sane-substitution S {J} {G = G} {k = k} {e = e} {q = q} {ix = ix} {f = f} g h = record {
   ordered = g .sane .ordered;
   bound = λ b m. go b (List·Memᴰ·append-cases (readBindings S) m);
   rows = g .sane .rows;
@@ -80,10 +80,10 @@ module _ (W X : List ℕ) (c : ℕ) (l : length X ≡ length (midOf c (c + c - c
       ∙ getD-drop (c + c) W i 0
 
 -- what a step is handed
-pub step-prepared : {J : List ℕ} {F G k e q : List ℕ} {f : Fill} {memo W : List ℕ} → Ground J F G k e q f memo W → Prepared J k e q f memo W
+pub step-prepared : {J : List ℕ} {F G k e q ix : List ℕ} {f : Fill} {memo W : List ℕ} → Ground J F G k e q ix f memo W → Prepared J k e q ix f memo W
 step-prepared g = record {
   ready = g .ready;
-  stored = g .stored;
+  indexed = g .indexed;
   sane = record { ordered = g .sane .ordered; bound = λ b m. absurd (List·Memᴰ·not-nil m); rows = g .sane .rows };
   terms = record { extends = g .terms };
   fits = g .fits;

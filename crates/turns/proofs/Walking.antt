@@ -16,7 +16,7 @@ use Rattle.model.specs.Walk.{member}
 use Rattle.model.specs.Height.{height}
 use Rattle.model.specs.Term.{Extends}
 use Rattle.model.proofs.Store.{extends-same, extends-then}
-use Rattle.cells.specs.declared.Fill.{Fill}
+use Rattle.index.specs.declared.Fill.{Fill}
 use Rattle.termdag.specs.Store.{termsIn, roomOf}
 use Rattle.memo.specs.Memo.{Past}
 use Rattle.outcome.specs.Does.{passed, Grown, Does}
@@ -28,42 +28,42 @@ use Rattle.evaluate.specs.Evaluation.{Sane}
 use Rattle.context.specs.Contexts.{GlobalPairs}
 use Rattle.turns.specs.Walking.{Flags, Heights, Ground, After, Walks}
 
-after-same : {J : List ℕ} {F G k e p : List ℕ} {f : Fill} {memo W : List ℕ} → Ground J F G k e p f memo W → After J F G k e p f W k e p f memo W
+after-same : {J : List ℕ} {F G k e p ix : List ℕ} {f : Fill} {memo W : List ℕ} → Ground J F G k e p ix f memo W → After J F G k e p ix f W k e p ix f memo W
 after-same g = record { ground = g; grows = extends-same; globals = refl }
 
-after-then : {J : List ℕ} {F G k e p : List ℕ} {f : Fill} {W k₁ e₁ p₁ : List ℕ} {f₁ : Fill} {memo₁ W₁ k₂ e₂ p₂ : List ℕ} {f₂ : Fill} {memo₂ W₂ : List ℕ} → length k₁ ≡ length k
-    → After J F G k e p f W k₁ e₁ p₁ f₁ memo₁ W₁ → After J F G k₁ e₁ p₁ f₁ W₁ k₂ e₂ p₂ f₂ memo₂ W₂ → After J F G k e p f W k₂ e₂ p₂ f₂ memo₂ W₂
+after-then : {J : List ℕ} {F G k e p ix : List ℕ} {f : Fill} {W k₁ e₁ p₁ ix₁ : List ℕ} {f₁ : Fill} {memo₁ W₁ k₂ e₂ p₂ ix₂ : List ℕ} {f₂ : Fill} {memo₂ W₂ : List ℕ} → length k₁ ≡ length k
+    → After J F G k e p ix f W k₁ e₁ p₁ ix₁ f₁ memo₁ W₁ → After J F G k₁ e₁ p₁ ix₁ f₁ W₁ k₂ e₂ p₂ ix₂ f₂ memo₂ W₂ → After J F G k e p ix f W k₂ e₂ p₂ ix₂ f₂ memo₂ W₂
 after-then {W₁ = W₁} {W₂ = W₂} l x y = record {
   ground = y .ground;
   grows = extends-then (x .grows) (y .grows);
   globals = ap (λ (n : ℕ). take n W₂) (sym l) ∙ y .globals ∙ ap (λ (n : ℕ). take n W₁) l ∙ x .globals;
 }
 
-module _ {J : List ℕ} {F G U k e p : List ℕ} {f : Fill} {W : List ℕ} where
+module _ {J : List ℕ} {F G U k e p ix : List ℕ} {f : Fill} {W : List ℕ} where
   -- a check that does not walk, and leaves everything as it is
-  pub walks-here : {memo : List ℕ} {A : Type 0} {r : Refusal} {a : List ℕ → A} {o : Room → List Proposition → List ℕ → Check A} → Ground J F G k e p f memo W
-      → ((ps : List Proposition) (done : List ℕ) → Flags (length k) W (sizesOf J .proofs) done → Does k e p f k e p f r (a done) (o (roomOf k p) ps done (termsIn k e p f)))
-      → Walks J F G U k e p f W k e p f r memo W a o
+  pub walks-here : {memo : List ℕ} {A : Type 0} {r : Refusal} {a : List ℕ → A} {o : Room → List Proposition → List ℕ → Check A} → Ground J F G k e p ix f memo W
+      → ((ps : List Proposition) (done : List ℕ) → Flags (length k) W (sizesOf J .proofs) done → Does k e p ix f k e p ix f r (a done) (o (roomOf k p) ps done (termsIn k e p f)))
+      → Walks J F G U k e p ix f W k e p ix f r memo W a o
   walks-here g d = record {
-    grown = grown-same (g .stored);
+    grown = grown-same (g .indexed);
     after = λ _. after-same g;
     walked = λ ps done x w. record { done = done; does = d ps done w; flags = λ _. w };
   }
 
-  module _ {k₁ e₁ p₁ : List ℕ} {f₁ : Fill} {memo₁ W₁ : List ℕ} where
+  module _ {k₁ e₁ p₁ ix₁ : List ℕ} {f₁ : Fill} {memo₁ W₁ : List ℕ} where
     -- one after the other
-    module _ {A B : Type 0} {r : Refusal} {a : List ℕ → A} {o : Room → List Proposition → List ℕ → Check A} (w : Walks J F G U k e p f W k₁ e₁ p₁ f₁ r memo₁ W₁ a o) where
+    module _ {A B : Type 0} {r : Refusal} {a : List ℕ → A} {o : Room → List Proposition → List ℕ → Check A} (w : Walks J F G U k e p ix f W k₁ e₁ p₁ ix₁ f₁ r memo₁ W₁ a o) where
       pub walks-stop : (b : List ℕ → B) (c : Room → List Proposition → A → Check B) → (r .number ≡ 0 → ⊥)
-          → Walks J F G U k e p f W k₁ e₁ p₁ f₁ r memo₁ W₁ b (λ room ps done s. andThen (o room ps done s) (c room ps))
+          → Walks J F G U k e p ix f W k₁ e₁ p₁ ix₁ f₁ r memo₁ W₁ b (λ room ps done s. andThen (o room ps done s) (c room ps))
       walks-stop b c n = record {
         grown = w .grown;
         after = w .after;
         walked = λ ps done x y. let d = w .walked ps done x y in record { done = d .done; does = does-stop (b (d .done)) (c (roomOf k p) ps) (d .does) n; flags = d .flags };
       }
 
-      pub walks-then : {b : List ℕ → B} (c : Room → List Proposition → A → Check B) {k₂ e₂ p₂ : List ℕ} {f₂ : Fill} {r₂ : Refusal} {memo₂ W₂ : List ℕ} → r .number ≡ 0
-          → Walks J F G U k₁ e₁ p₁ f₁ W₁ k₂ e₂ p₂ f₂ r₂ memo₂ W₂ b (λ room ps done. c room ps (a done))
-          → Walks J F G U k e p f W k₂ e₂ p₂ f₂ r₂ memo₂ W₂ b (λ room ps done s. andThen (o room ps done s) (c room ps))
+      pub walks-then : {b : List ℕ → B} (c : Room → List Proposition → A → Check B) {k₂ e₂ p₂ ix₂ : List ℕ} {f₂ : Fill} {r₂ : Refusal} {memo₂ W₂ : List ℕ} → r .number ≡ 0
+          → Walks J F G U k₁ e₁ p₁ ix₁ f₁ W₁ k₂ e₂ p₂ ix₂ f₂ r₂ memo₂ W₂ b (λ room ps done. c room ps (a done))
+          → Walks J F G U k e p ix f W k₂ e₂ p₂ ix₂ f₂ r₂ memo₂ W₂ b (λ room ps done s. andThen (o room ps done s) (c room ps))
       walks-then c {W₂ = W₂} n v = record {
         grown = grown-then (w .grown) (v .grown);
         after = λ u. after-then (w .grown .lenK) (w .after n) (v .after u);
@@ -79,13 +79,13 @@ module _ {J : List ℕ} {F G U k e p : List ℕ} {f : Fill} {W : List ℕ} where
       }
 
 -- a check that walks, by another name of its outcome
-pub walks-as : {J : List ℕ} {F G U k e p : List ℕ} {f : Fill} {W k₁ e₁ p₁ : List ℕ} {f₁ : Fill} {memo₁ W₁ : List ℕ} {A : Type 0} {r : Refusal} {a : List ℕ → A}
+pub walks-as : {J : List ℕ} {F G U k e p ix : List ℕ} {f : Fill} {W k₁ e₁ p₁ ix₁ : List ℕ} {f₁ : Fill} {memo₁ W₁ : List ℕ} {A : Type 0} {r : Refusal} {a : List ℕ → A}
     {o o′ : Room → List Proposition → List ℕ → Check A} → ((ps : List Proposition) (done : List ℕ) → o (roomOf k p) ps done (termsIn k e p f) ≡ o′ (roomOf k p) ps done (termsIn k e p f))
-    → Walks J F G U k e p f W k₁ e₁ p₁ f₁ r memo₁ W₁ a o → Walks J F G U k e p f W k₁ e₁ p₁ f₁ r memo₁ W₁ a o′
-walks-as {k = k} {e = e} {p = p} {f = f} {k₁ = k₁} {e₁ = e₁} {p₁ = p₁} {f₁ = f₁} {r = r} {a = a} q w = record {
+    → Walks J F G U k e p ix f W k₁ e₁ p₁ ix₁ f₁ r memo₁ W₁ a o → Walks J F G U k e p ix f W k₁ e₁ p₁ ix₁ f₁ r memo₁ W₁ a o′
+walks-as {k = k} {e = e} {p = p} {ix = ix} {f = f} {k₁ = k₁} {e₁ = e₁} {p₁ = p₁} {ix₁ = ix₁} {f₁ = f₁} {r = r} {a = a} q w = record {
   grown = w .grown;
   after = w .after;
-  walked = λ ps done x y. let d = w .walked ps done x y in record { done = d .done; does = subst (Does k e p f k₁ e₁ p₁ f₁ r (a (d .done))) (q ps done) (d .does); flags = d .flags };
+  walked = λ ps done x y. let d = w .walked ps done x y in record { done = d .done; does = subst (Does k e p ix f k₁ e₁ p₁ ix₁ f₁ r (a (d .done))) (q ps done) (d .does); flags = d .flags };
 }
 
 -- the flags of scratch whose last part is as it was
@@ -120,9 +120,9 @@ module _ {c : ℕ} {W : List ℕ} {n h : ℕ} (p : ℕ) (lt : p < n) (l : c + c 
   }
 
 -- a check that passed
-pub walks-passed : {J : List ℕ} {F G U k e p : List ℕ} {f : Fill} {W k₁ e₁ p₁ : List ℕ} {f₁ : Fill} {memo₁ W₁ : List ℕ} {A : Type 0} {r : Refusal} {a : List ℕ → A} {o : Room → List Proposition → List ℕ → Check A}
-    → r .number ≡ 0 → Walks J F G U k e p f W k₁ e₁ p₁ f₁ r memo₁ W₁ a o → Walks J F G U k e p f W k₁ e₁ p₁ f₁ passed memo₁ W₁ a o
-walks-passed {k₁ = k₁} {e₁ = e₁} {p₁ = p₁} {f₁ = f₁} {r = r} {a = a} n w = record {
+pub walks-passed : {J : List ℕ} {F G U k e p ix : List ℕ} {f : Fill} {W k₁ e₁ p₁ ix₁ : List ℕ} {f₁ : Fill} {memo₁ W₁ : List ℕ} {A : Type 0} {r : Refusal} {a : List ℕ → A} {o : Room → List Proposition → List ℕ → Check A}
+    → r .number ≡ 0 → Walks J F G U k e p ix f W k₁ e₁ p₁ ix₁ f₁ r memo₁ W₁ a o → Walks J F G U k e p ix f W k₁ e₁ p₁ ix₁ f₁ passed memo₁ W₁ a o
+walks-passed {k₁ = k₁} {e₁ = e₁} {p₁ = p₁} {ix₁ = ix₁} {f₁ = f₁} {r = r} {a = a} n w = record {
   grown = w .grown;
   after = λ _. w .after n;
   walked = λ ps done x y. let d = w .walked ps done x y in record {
@@ -133,13 +133,13 @@ walks-passed {k₁ = k₁} {e₁ = e₁} {p₁ = p₁} {f₁ = f₁} {r = r} {a 
 }
 
 -- what is handed on
-pub ground-after : {J : List ℕ} {F G k e p : List ℕ} {f : Fill} {memo W k₁ e₁ p₁ : List ℕ} {f₁ : Fill} {memo₁ W₁ : List ℕ} → Ground J F G k e p f memo W
-    → Grown k e p f k₁ e₁ p₁ f₁ → Extends (termsIn k e p f) (termsIn k₁ e₁ p₁ f₁) → Sane (programFor J) (readBindings G) (termsIn k₁ e₁ p₁ f₁) → Past memo₁ → length memo₁ ≡ length memo → length W₁ ≡ length W
-    → ((i : ℕ) → getD W₁ (length k + length k + i) 0 ≡ getD W (length k + length k + i) 0) → Ground J F G k₁ e₁ p₁ f₁ memo₁ W₁
+pub ground-after : {J : List ℕ} {F G k e p ix : List ℕ} {f : Fill} {memo W k₁ e₁ p₁ ix₁ : List ℕ} {f₁ : Fill} {memo₁ W₁ : List ℕ} → Ground J F G k e p ix f memo W
+    → Grown k e p ix f k₁ e₁ p₁ ix₁ f₁ → Extends (termsIn k e p f) (termsIn k₁ e₁ p₁ f₁) → Sane (programFor J) (readBindings G) (termsIn k₁ e₁ p₁ f₁) → Past memo₁ → length memo₁ ≡ length memo → length W₁ ≡ length W
+    → ((i : ℕ) → getD W₁ (length k + length k + i) 0 ≡ getD W (length k + length k + i) 0) → Ground J F G k₁ e₁ p₁ ix₁ f₁ memo₁ W₁
 ground-after g w x s q a b back = record {
   ready = g .ready;
   searched = g .searched;
-  stored = w .stored;
+  indexed = w .indexed;
   sane = s;
   terms = extends-then (g .terms) x;
   fits = let u = g .fits in omega arith;

@@ -14,7 +14,7 @@ use Rattle.model.specs.Fact.{assertBodyProofNormalForm, isContainerSideConditio
 use Rattle.model.specs.Action.{checkRuleProducesEquality}
 use Rattle.model.specs.Walk.{noProof, claimAt, checkJustification}
 use Rattle.model.specs.Height.{followUnless, followed}
-use Rattle.cells.specs.declared.Fill.{Fill}
+use Rattle.index.specs.declared.Fill.{Fill}
 use Rattle.termdag.specs.Store.{termsIn}
 use Rattle.outcome.specs.Does.{outcomeOf}
 use Rattle.program.specs.Ready.{programFor, ruleFor}
@@ -142,8 +142,8 @@ isOver prog (t ∷ ts) zero = isSettled prog t
 isOver prog (t ∷ ts) (suc w) = true
 
 -- The contract of a stage, under the bindings that conditions bound, X.
-pub record Advances (J : List ℕ) (strict : Bool) (F G U : List ℕ) (p : ℕ) (rule : Bool) (r first second count : ℕ) (X k e q : List ℕ) (f : Fill) (W : List ℕ) (i walked : ℕ) (k′ e′ q′ : List ℕ) (c : Stage) (memo′ W′ : List ℕ) : Type 0 where
-  pub walks : Walks {A = List Binding × List ℕ} J F G U k e q f W k′ e′ q′ (c .fill) (c .refusal) memo′ W′ (λ d. (boundOver (c .binds) (bindingsBy J p rule X G), d))
+pub record Advances (J : List ℕ) (strict : Bool) (F G U : List ℕ) (p : ℕ) (rule : Bool) (r first second count : ℕ) (X k e q ix : List ℕ) (f : Fill) (W : List ℕ) (i walked : ℕ) (k′ e′ q′ ix′ : List ℕ) (c : Stage) (memo′ W′ : List ℕ) : Type 0 where
+  pub walks : Walks {A = List Binding × List ℕ} J F G U k e q ix f W k′ e′ q′ ix′ (c .fill) (c .refusal) memo′ W′ (λ d. (boundOver (c .binds) (bindingsBy J p rule X G), d))
       (λ room ps done. stageOf room (programFor J) (proofsFor J) strict first ps p (claimAt (proofsFor J) p) (getD (proofsFor J) p noProof .justification) (headBy J rule r)
       (drop i (turnsBy J p rule r first second count)) walked (bindingsBy J p rule X G) >>= λ τ. pure (τ, done))
   pub over : c .refusal .number ≡ 0 → c .settled ≡ isOver (programFor J) (drop i (turnsBy J p rule r first second count)) walked

@@ -14,8 +14,8 @@ use Rattle.model.specs.Check.{Outcome, Check, _>>=_, pure, Room}
 use Rattle.model.specs.Action.{ActionContext, checkRuleProducesEquality}
 use Rattle.model.specs.Walk.{noProof, member, checkPremises}
 use Rattle.model.specs.Height.{height}
-use Rattle.cells.specs.declared.Fill.{Fill}
-use Rattle.termdag.specs.Store.{termsIn, Stored, roomOf}
+use Rattle.index.specs.declared.Fill.{Fill}
+use Rattle.termdag.specs.Store.{termsIn, Indexed, roomOf}
 use Rattle.memo.specs.Memo.{Past}
 use Rattle.outcome.specs.Does.{Grown, Does}
 use Rattle.outcome.specs.declared.Refusal.{Refusal}
@@ -36,10 +36,10 @@ pub record Heights (J : List ℕ) (c : ℕ) (W : List ℕ) : Type 0 where
   pub is : (p : ℕ) → p < sizesOf J .proofs → 0 < getD W (c + c + p) 0 → getD W (c + c + p) 0 ≡ height (programFor J) (proofsFor J) p
 
 -- What the walk is handed: an admitted job with its offences F and the global bindings G, a store that has the job's terms and is sane, a memo, and scratch.
-pub record Ground (J : List ℕ) (F G k e p : List ℕ) (f : Fill) (memo W : List ℕ) : Type 0 where
+pub record Ground (J : List ℕ) (F G k e p ix : List ℕ) (f : Fill) (memo W : List ℕ) : Type 0 where
   pub ready : Ready J
   pub searched : Searched J F
-  pub stored : Stored k e p f
+  pub indexed : Indexed k e p ix f
   pub sane : Sane (programFor J) (readBindings G) (termsIn k e p f)
   pub terms : Extends (map readTerm (tablesFor J .terms)) (termsIn k e p f)
   pub fits : sizesOf J .expressions + sizesOf J .expressions < length memo
@@ -52,24 +52,24 @@ abbrev pub contextOf : List ℕ → List Proposition → ActionContext
 contextOf G ps = record { bindings = readBindings G; pairs = ps }
 
 -- What a check that walks leaves: the proofs checked, and the outcome o, whose value is a of them.
-pub record Walked {A : Type 0} (n : ℕ) (k e p : List ℕ) (f : Fill) (k′ e′ p′ : List ℕ) (f′ : Fill) (r : Refusal) (W′ : List ℕ) (a : List ℕ → A) (o : Outcome A) : Type 0 where
+pub record Walked {A : Type 0} (n : ℕ) (k e p ix : List ℕ) (f : Fill) (k′ e′ p′ ix′ : List ℕ) (f′ : Fill) (r : Refusal) (W′ : List ℕ) (a : List ℕ → A) (o : Outcome A) : Type 0 where
   pub done : List ℕ
-  pub does : Does k e p f k′ e′ p′ f′ r (a done) o
+  pub does : Does k e p ix f k′ e′ p′ ix′ f′ r (a done) o
   pub flags : r .number ≡ 0 → Flags (length k) W′ n done
 
 -- What it hands on after a value.
-pub record After (J : List ℕ) (F G k e p : List ℕ) (f : Fill) (W k′ e′ p′ : List ℕ) (f′ : Fill) (memo′ W′ : List ℕ) : Type 0 where
-  pub ground : Ground J F G k′ e′ p′ f′ memo′ W′
+pub record After (J : List ℕ) (F G k e p ix : List ℕ) (f : Fill) (W k′ e′ p′ ix′ : List ℕ) (f′ : Fill) (memo′ W′ : List ℕ) : Type 0 where
+  pub ground : Ground J F G k′ e′ p′ ix′ f′ memo′ W′
   pub grows : Extends (termsIn k e p f) (termsIn k′ e′ p′ f′)
   pub globals : take (length k) W′ ≡ take (length k) W
 
 -- The contract of a check that walks. U and the first marks stand for the global pairs, whatever these are; the check o of room, global pairs and proofs checked before is the definition's.
-pub record Walks {A : Type 0} (J : List ℕ) (F G U k e p : List ℕ) (f : Fill) (W k′ e′ p′ : List ℕ) (f′ : Fill) (r : Refusal) (memo′ W′ : List ℕ) (a : List ℕ → A)
+pub record Walks {A : Type 0} (J : List ℕ) (F G U k e p ix : List ℕ) (f : Fill) (W k′ e′ p′ ix′ : List ℕ) (f′ : Fill) (r : Refusal) (memo′ W′ : List ℕ) (a : List ℕ → A)
     (o : Room → List Proposition → List ℕ → Check A) : Type 0 where
-  pub grown : Grown k e p f k′ e′ p′ f′
-  pub after : r .number ≡ 0 → After J F G k e p f W k′ e′ p′ f′ memo′ W′
+  pub grown : Grown k e p ix f k′ e′ p′ ix′ f′
+  pub after : r .number ≡ 0 → After J F G k e p ix f W k′ e′ p′ ix′ f′ memo′ W′
   pub walked : (ps : List Proposition) (done : List ℕ) → GlobalPairs ps U (take (length k) W) → Flags (length k) W (sizesOf J .proofs) done
-      → Walked (sizesOf J .proofs) k e p f k′ e′ p′ f′ r W′ a (o (roomOf k p) ps done (termsIn k e p f))
+      → Walked (sizesOf J .proofs) k e p ix f k′ e′ p′ ix′ f′ r W′ a (o (roomOf k p) ps done (termsIn k e p f))
 
 -- What a step of proof p refers to: a rule's has a name, premises and pairs; another has at most two references, each lower.
 pub record Operates (J : List ℕ) (p : ℕ) (r : Needs) : Type 0 where

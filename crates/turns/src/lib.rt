@@ -1,5 +1,4 @@
 // A step turn by turn: the proofs that it needs, what is done before and after each, and what ends the step. Nothing here walks a proof.
-use cells::Fill;
 use cells::Found;
 use cells::wide;
 use conditions::Binds;
@@ -7,6 +6,7 @@ use conditions::check_side_condition;
 use decode::Justification;
 use facts::check_fact_matches_proposition;
 use heads::check_rule_produces_equality;
+use index::Fill;
 use normal_form::assert_body_proof_normal_form;
 use normal_form::is_container_side_condition;
 use outcome::Checked;
@@ -24,7 +24,7 @@ ghost use mathlib.Core.Bool.{true, false};
 ghost use Rattle.model.specs.Fact.{isContainerSideCondition};
 ghost use lib.ListN.{length, getD};
 ghost use Rattle.model.specs.Layout.{sizesOf};
-ghost use Rattle.termdag.specs.Store.{termsIn, Stored, roomOf};
+ghost use Rattle.termdag.specs.Store.{termsIn, Indexed, roomOf};
 ghost use Rattle.model.specs.Term.{Extends};
 ghost use Rattle.memo.specs.Memo.{Past};
 ghost use Rattle.outcome.specs.Does.{passed};
@@ -252,18 +252,19 @@ fn before_premise(
     skinds: &mut [u32],
     sends: &mut [u32],
     spool: &mut [u32],
+    index: &mut [u32],
     fill: Fill,
     memo: &mut [u32],
     i: u32,
 ) -> Stage
     requires { ⌜ Ready (now job) ⌝ }
     requires { ⌜ Searched (now job) (now found) ⌝ }
-    requires { ⌜ Stored (now skinds) (now sends) (now spool) fill ⌝ }
+    requires { ⌜ Indexed (now skinds) (now sends) (now spool) (now index) fill ⌝ }
     requires { ⌜ sizesOf (now job) .expressions + sizesOf (now job) .expressions < length (now memo) ⌝ }
     requires { ⌜ Past (now memo) ⌝ }
     requires { ⌜ i < sizesOf (now job) .facts ⌝ }
     requires { ⌜ Sane (programFor (now job)) (bindingsIn (now bound) (now pairs) (now globals)) (termsIn (now skinds) (now sends) (now spool) fill) ⌝ }
-    ensures does { λ c. ⌜ Checks (now (skinds .entry)) (now (sends .entry)) (now (spool .entry)) fill (now (skinds .exit)) (now (sends .exit)) (now (spool .exit)) (c .fill) (c .refusal) (boundOver (c .binds) (bindingsIn (now (bound .entry)) (now (pairs .entry)) (now (globals .entry)))) (now (memo .exit)) (beforeProof (roomOf (now (skinds .entry)) (now (spool .entry))) (programFor (now (job .entry))) (proofsFor (now (job .entry))) strict name (ofFact (factFor (now (job .entry)) i) 0) (bindingsIn (now (bound .entry)) (now (pairs .entry)) (now (globals .entry))) (termsIn (now (skinds .entry)) (now (sends .entry)) (now (spool .entry)) fill)) ⌝ }
+    ensures does { λ c. ⌜ Checks (now (skinds .entry)) (now (sends .entry)) (now (spool .entry)) (now (index .entry)) fill (now (skinds .exit)) (now (sends .exit)) (now (spool .exit)) (now (index .exit)) (c .fill) (c .refusal) (boundOver (c .binds) (bindingsIn (now (bound .entry)) (now (pairs .entry)) (now (globals .entry)))) (now (memo .exit)) (beforeProof (roomOf (now (skinds .entry)) (now (spool .entry))) (programFor (now (job .entry))) (proofsFor (now (job .entry))) strict name (ofFact (factFor (now (job .entry)) i) 0) (bindingsIn (now (bound .entry)) (now (pairs .entry)) (now (globals .entry))) (termsIn (now (skinds .entry)) (now (sends .entry)) (now (spool .entry)) fill)) ⌝ }
     ensures over { λ c. ⌜ (c .refusal .number ≡ 0 → c .settled ≡ isContainerSideCondition (programFor (now (job .entry))) (factFor (now (job .entry)) i)) ⌝ }
     ensures kept { λ c. ⌜ (c .refusal .number ≡ 0 → Extends (termsIn (now (skinds .entry)) (now (sends .entry)) (now (spool .entry)) fill) (termsIn (now (skinds .exit)) (now (sends .exit)) (now (spool .exit)) (c .fill)) × Sane (programFor (now (job .entry))) (boundOver (c .binds) (bindingsIn (now (bound .entry)) (now (pairs .entry)) (now (globals .entry)))) (termsIn (now (skinds .exit)) (now (sends .exit)) (now (spool .exit)) (c .fill))) ⌝ }
     ensures waits { λ c. ⌜ (c .settled ≡ false → c .binds ≡ binds.Binds.Nothing) ⌝ }
@@ -295,6 +296,7 @@ fn before_premise(
         skinds,
         sends,
         spool,
+        index,
         fill,
         memo,
         i,
@@ -334,6 +336,7 @@ fn advance_rule(
     skinds: &mut [u32],
     sends: &mut [u32],
     spool: &mut [u32],
+    index: &mut [u32],
     fill: Fill,
     memo: &mut [u32],
     scratch: &mut [u32],
@@ -346,13 +349,13 @@ fn advance_rule(
     i: usize,
     walked: usize,
 ) -> Stage
-    requires { ⌜ Ground (now job) (now found) (now globals) (now skinds) (now sends) (now spool) fill (now memo) (now scratch) ⌝ }
+    requires { ⌜ Ground (now job) (now found) (now globals) (now skinds) (now sends) (now spool) (now index) fill (now memo) (now scratch) ⌝ }
     requires { ⌜ p < sizesOf (now job) .proofs ⌝ }
     requires { ⌜ Planned (now job) p true r name second count ⌝ }
     requires { ⌜ (true ≡ true → Sane (programFor (now job)) (bindingsBy (now job) p true (now bound) (now globals)) (termsIn (now skinds) (now sends) (now spool) fill)) ⌝ }
     requires { ⌜ length (now bound) ≤ 32 ⌝ }
     requires { ⌜ i ≤ count ⌝ }
-    ensures { λ c. ⌜ Advances (now (job .entry)) strict (now (found .entry)) (now (globals .entry)) (now (unions .entry)) p true r name second count (now (bound .entry)) (now (skinds .entry)) (now (sends .entry)) (now (spool .entry)) fill (now (scratch .entry)) i walked (now (skinds .exit)) (now (sends .exit)) (now (spool .exit)) c (now (memo .exit)) (now (scratch .exit)) ⌝ }
+    ensures { λ c. ⌜ Advances (now (job .entry)) strict (now (found .entry)) (now (globals .entry)) (now (unions .entry)) p true r name second count (now (bound .entry)) (now (skinds .entry)) (now (sends .entry)) (now (spool .entry)) (now (index .entry)) fill (now (scratch .entry)) i walked (now (skinds .exit)) (now (sends .exit)) (now (spool .exit)) (now (index .exit)) c (now (memo .exit)) (now (scratch .exit)) ⌝ }
 {
     let facts = rule_facts_at(job, r);
     let pairs = substitution_at(job, wide(p));
@@ -368,6 +371,7 @@ fn advance_rule(
             skinds,
             sends,
             spool,
+            index,
             fill,
             memo,
             &mut scratch[c..d],
@@ -387,6 +391,7 @@ fn advance_rule(
             skinds,
             sends,
             spool,
+            index,
             fill,
             memo,
             facts[i],
@@ -403,6 +408,7 @@ fn advance_rule(
         skinds,
         sends,
         spool,
+        index,
         fill,
         memo,
         facts[i],
@@ -421,6 +427,7 @@ pub fn advance(
     skinds: &mut [u32],
     sends: &mut [u32],
     spool: &mut [u32],
+    index: &mut [u32],
     fill: Fill,
     memo: &mut [u32],
     scratch: &mut [u32],
@@ -433,14 +440,14 @@ pub fn advance(
     i: usize,
     walked: usize,
 ) -> Stage
-    requires { ⌜ Ground (now job) (now found) (now globals) (now skinds) (now sends) (now spool) fill (now memo) (now scratch) ⌝ }
+    requires { ⌜ Ground (now job) (now found) (now globals) (now skinds) (now sends) (now spool) (now index) fill (now memo) (now scratch) ⌝ }
     requires { ⌜ p < sizesOf (now job) .proofs ⌝ }
     requires { ⌜ Planned (now job) p rule r first second count ⌝ }
     requires { ⌜ (rule ≡ true → Sane (programFor (now job)) (bindingsBy (now job) p rule (now bound) (now globals)) (termsIn (now skinds) (now sends) (now spool) fill)) ⌝ }
     requires { ⌜ length (now bound) ≤ 32 ⌝ }
     requires { ⌜ i ≤ count ⌝ }
     requires { ⌜ (rule ≡ false → count ≤ i) ⌝ }
-    ensures { λ c. ⌜ Advances (now (job .entry)) strict (now (found .entry)) (now (globals .entry)) (now (unions .entry)) p rule r first second count (now (bound .entry)) (now (skinds .entry)) (now (sends .entry)) (now (spool .entry)) fill (now (scratch .entry)) i walked (now (skinds .exit)) (now (sends .exit)) (now (spool .exit)) c (now (memo .exit)) (now (scratch .exit)) ⌝ }
+    ensures { λ c. ⌜ Advances (now (job .entry)) strict (now (found .entry)) (now (globals .entry)) (now (unions .entry)) p rule r first second count (now (bound .entry)) (now (skinds .entry)) (now (sends .entry)) (now (spool .entry)) (now (index .entry)) fill (now (scratch .entry)) i walked (now (skinds .exit)) (now (sends .exit)) (now (spool .exit)) (now (index .exit)) c (now (memo .exit)) (now (scratch .exit)) ⌝ }
 {
     if rule {
         return advance_rule(
@@ -452,6 +459,7 @@ pub fn advance(
             skinds,
             sends,
             spool,
+            index,
             fill,
             memo,
             scratch,
@@ -465,5 +473,16 @@ pub fn advance(
             walked,
         );
     }
-    over(conclude(job, unions, skinds, sends, spool, fill, memo, scratch, p))
+    over(conclude(
+        job,
+        unions,
+        skinds,
+        sends,
+        spool,
+        index,
+        fill,
+        memo,
+        scratch,
+        p,
+    ))
 }

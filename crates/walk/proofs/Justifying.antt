@@ -19,7 +19,7 @@ use Rattle.model.specs.Load.{below}
 use Rattle.model.specs.Action.{ActionContext}
 use Rattle.model.proofs.Fuel.{walk-fuel}
 use Rattle.model.proofs.Height.{height-most, height-is}
-use Rattle.cells.specs.declared.Fill.{Fill}
+use Rattle.index.specs.declared.Fill.{Fill}
 use Rattle.termdag.specs.Store.{termsIn, roomOf}
 use Rattle.outcome.specs.Does.{passed, refusal, Does}
 use Rattle.outcome.specs.declared.Refusal.{Refusal}
@@ -89,30 +89,30 @@ module _ (J : List ℕ) (strict : Bool) (F G U : List ℕ) (p : ℕ) where
   unfolding checkProofWithContext
   is-walk room ps done s b h = ap (λ (x : Bool). choose x (pure done) (stepOf room ps done >>= λ d. pure (p ∷ d)) s) (sym h)
 
-  module _ {k e q : List ℕ} {f : Fill} {memo W : List ℕ} (g : Ground J F G k e q f memo W) (lt : p < sizesOf J .proofs) where
+  module _ {k e q ix : List ℕ} {f : Fill} {memo W : List ℕ} (g : Ground J F G k e q ix f memo W) (lt : p < sizesOf J .proofs) where
     pub walk-known : {h : ℕ} {c : Checked} → h ≡ getD W (length k + length k + p) 0 → (h ≡ 0 → ⊥) → c ≡ record { refusal = passed; value = h; fill = f }
-        → Walks J F G U k e q f W k e q (c .fill) (c .refusal) memo W (λ d. d) walkOf × (c .refusal .number ≡ 0 → c .value ≡ height prog proofs p)
-    walk-known {h} w z d = subst⁻¹ (λ (x : Checked). Walks J F G U k e q f W k e q (x .fill) (x .refusal) memo W (λ d. d) walkOf × (x .refusal .number ≡ 0 → x .value ≡ height prog proofs p)) d (
-      walks-here g (λ ps done y. does-here (g .stored) (is-walk (roomOf k q) ps done (termsIn k e q f) true (sym (y .is p lt) ∙ ap (ltb 0) (sym w) ∙ lt-ltb 0 h (omega arith)))),
+        → Walks J F G U k e q ix f W k e q ix (c .fill) (c .refusal) memo W (λ d. d) walkOf × (c .refusal .number ≡ 0 → c .value ≡ height prog proofs p)
+    walk-known {h} w z d = subst⁻¹ (λ (x : Checked). Walks J F G U k e q ix f W k e q ix (x .fill) (x .refusal) memo W (λ d. d) walkOf × (x .refusal .number ≡ 0 → x .value ≡ height prog proofs p)) d (
+      walks-here g (λ ps done y. does-here (g .indexed) (is-walk (roomOf k q) ps done (termsIn k e q f) true (sym (y .is p lt) ∙ ap (ltb 0) (sym w) ∙ lt-ltb 0 h (omega arith)))),
       λ _. w ∙ g .heights .is p lt (omega arith),
     )
 
-    module _ {n : ℕ} (w₀ : n ≡ getD W (length k + length k + p) 0) (z : n ≡ 0) {k₁ e₁ p₁ : List ℕ} {f₁ : Fill} {r : Refusal} {memo₁ W₁ : List ℕ} (w : Walks J F G U k e q f W k₁ e₁ p₁ f₁ r memo₁ W₁ (λ d. d) stepOf) where
+    module _ {n : ℕ} (w₀ : n ≡ getD W (length k + length k + p) 0) (z : n ≡ 0) {k₁ e₁ p₁ ix₁ : List ℕ} {f₁ : Fill} {r : Refusal} {memo₁ W₁ : List ℕ} (w : Walks J F G U k e q ix f W k₁ e₁ p₁ ix₁ f₁ r memo₁ W₁ (λ d. d) stepOf) where
       unknown : ltb 0 (getD W (length k + length k + p) 0) ≡ false
       unknown = ap (ltb 0) (sym w₀ ∙ z)
 
-      pub walk-stops : (r .number ≡ 0 → ⊥) → Walks J F G U k e q f W k₁ e₁ p₁ f₁ r memo₁ W₁ (λ d. d) walkOf
+      pub walk-stops : (r .number ≡ 0 → ⊥) → Walks J F G U k e q ix f W k₁ e₁ p₁ ix₁ f₁ r memo₁ W₁ (λ d. d) walkOf
       walk-stops n = record {
         grown = w .grown;
         after = w .after;
         walked = λ ps done x y. let d = w .walked ps done x y in record {
           done = d .done;
-          does = subst (Does k e q f k₁ e₁ p₁ f₁ r (d .done)) (is-walk (roomOf k q) ps done (termsIn k e q f) false (sym (y .is p lt) ∙ unknown)) (does-stop (d .done) (λ t. pure (p ∷ t)) (d .does) n);
+          does = subst (Does k e q ix f k₁ e₁ p₁ ix₁ f₁ r (d .done)) (is-walk (roomOf k q) ps done (termsIn k e q f) false (sym (y .is p lt) ∙ unknown)) (does-stop (d .done) (λ t. pure (p ∷ t)) (d .does) n);
           flags = λ u. absurd (n u);
         };
       }
 
-      pub walk-ends : {W₂ : List ℕ} {h : ℕ} → r .number ≡ 0 → W₂ ≡ set W₁ (length k + length k + p) h → h ≡ height prog proofs p → Walks J F G U k e q f W k₁ e₁ p₁ f₁ r memo₁ W₂ (λ d. d) walkOf
+      pub walk-ends : {W₂ : List ℕ} {h : ℕ} → r .number ≡ 0 → W₂ ≡ set W₁ (length k + length k + p) h → h ≡ height prog proofs p → Walks J F G U k e q ix f W k₁ e₁ p₁ ix₁ f₁ r memo₁ W₂ (λ d. d) walkOf
       walk-ends {W₂} {h} n s i = record {
         grown = w .grown;
         after = λ _. record {
@@ -122,7 +122,7 @@ module _ (J : List ℕ) (strict : Bool) (F G U : List ℕ) (p : ℕ) where
         };
         walked = λ ps done x y. let t = w .walked ps done x y in record {
           done = p ∷ t .done;
-          does = subst (Does k e q f k₁ e₁ p₁ f₁ r (p ∷ t .done)) (is-walk (roomOf k q) ps done (termsIn k e q f) false (sym (y .is p lt) ∙ unknown)) (passed-on (t .does));
+          does = subst (Does k e q ix f k₁ e₁ p₁ ix₁ f₁ r (p ∷ t .done)) (is-walk (roomOf k q) ps done (termsIn k e q f) false (sym (y .is p lt) ∙ unknown)) (passed-on (t .does));
           flags = λ _. subst⁻¹ (λ (X : List ℕ). Flags (length k) X (sizesOf J .proofs) (p ∷ t .done)) s (flags-set p lt (long-enough (w .after n .ground)) positive (t .flags n));
         };
       }
@@ -133,17 +133,17 @@ module _ (J : List ℕ) (strict : Bool) (F G U : List ℕ) (p : ℕ) where
           lenW : length W₂ ≡ length W₁
           lenW = ap length s ∙ length-set W₁ (length k + length k + p) h
 
-          long-enough : Ground J F G k₁ e₁ p₁ f₁ memo₁ W₁ → length k + length k + sizesOf J .proofs ≤ length W₁
+          long-enough : Ground J F G k₁ e₁ p₁ ix₁ f₁ memo₁ W₁ → length k + length k + sizesOf J .proofs ≤ length W₁
           long-enough u = let a = u .long in let b = w .grown .lenK in omega arith
 
-          noted : Ground J F G k₁ e₁ p₁ f₁ memo₁ W₁ → Heights J (length k₁) W₂
+          noted : Ground J F G k₁ e₁ p₁ ix₁ f₁ memo₁ W₁ → Heights J (length k₁) W₂
           noted u = subst⁻¹ (λ (m : ℕ). Heights J m W₂) (w .grown .lenK) (subst⁻¹ (Heights J (length k)) s
               (heights-set p lt (long-enough u) refl i (subst (λ (m : ℕ). Heights J m W₁) (w .grown .lenK) (u .heights))))
 
-          ground-same : Ground J F G k₁ e₁ p₁ f₁ memo₁ W₁ → Ground J F G k₁ e₁ p₁ f₁ memo₁ W₂
-          ground-same u = record { ready = u .ready; searched = u .searched; stored = u .stored; sane = u .sane; terms = u .terms; fits = u .fits; past = u .past; long = let a = u .long in let b = lenW in omega arith; heights = noted u }
+          ground-same : Ground J F G k₁ e₁ p₁ ix₁ f₁ memo₁ W₁ → Ground J F G k₁ e₁ p₁ ix₁ f₁ memo₁ W₂
+          ground-same u = record { ready = u .ready; searched = u .searched; indexed = u .indexed; sane = u .sane; terms = u .terms; fits = u .fits; past = u .past; long = let a = u .long in let b = lenW in omega arith; heights = noted u }
 
-          passed-on : {t : List ℕ} {o : Outcome (List ℕ)} → Does k e q f k₁ e₁ p₁ f₁ r t o → Does k e q f k₁ e₁ p₁ f₁ r (p ∷ t) (andThen o (λ d. pure (p ∷ d)))
+          passed-on : {t : List ℕ} {o : Outcome (List ℕ)} → Does k e q ix f k₁ e₁ p₁ ix₁ f₁ r t o → Does k e q ix f k₁ e₁ p₁ ix₁ f₁ r (p ∷ t) (andThen o (λ d. pure (p ∷ d)))
           passed-on {t} {o} v = record {
             outcome = ok-of r (p ∷ t) (termsIn k₁ e₁ p₁ f₁) n ∙ ap (λ (x : Outcome (List ℕ)). andThen x (λ d. pure (p ∷ d))) (sym (ok-of r t (termsIn k₁ e₁ p₁ f₁) n) ∙ v .outcome);
             grown = v .grown;

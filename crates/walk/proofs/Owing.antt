@@ -15,7 +15,7 @@ use Rattle.model.specs.Program.{Proposition, Binding, Program, Rule, Proof, Jus
 use Rattle.model.specs.Check.{Outcome, ok, refused, Check, andThen, _>>=_, pure, choose, Room}
 use Rattle.model.specs.Walk.{noProof, claimAt, checkJustification, checkProofWithContext}
 use Rattle.model.specs.Height.{followUnless, followed, maximum, height}
-use Rattle.cells.specs.declared.Fill.{Fill}
+use Rattle.index.specs.declared.Fill.{Fill}
 use Rattle.termdag.specs.Store.{termsIn, roomOf}
 use Rattle.outcome.specs.Does.{passed, Grown}
 use Rattle.outcome.specs.declared.Refusal.{Refusal}
@@ -124,21 +124,21 @@ module _ (J : List ℕ) (strict : Bool) (F G U : List ℕ) (p : ℕ) where
   stepOf room ps done = checkJustification room prog proofs (contextOf G ps) (sub room ps) strict p (claimAt proofs p) (getD proofs p noProof .justification) done
 
   -- from the store k₀ on the step came to the store k with the bindings σ, and the rest is owed
-  pub record Owes (k₀ e₀ p₀ : List ℕ) (f₀ : Fill) (W₀ k e q : List ℕ) (f : Fill) (memo W : List ℕ) (σ : List Binding) (rest : Room → List Proposition → List Binding × List ℕ → Check (List ℕ)) : Type 0 where
+  pub record Owes (k₀ e₀ p₀ ix₀ : List ℕ) (f₀ : Fill) (W₀ k e q ix : List ℕ) (f : Fill) (memo W : List ℕ) (σ : List Binding) (rest : Room → List Proposition → List Binding × List ℕ → Check (List ℕ)) : Type 0 where
     pub part : Room → List Proposition → List ℕ → Check (List Binding × List ℕ)
-    pub walks : Walks {A = List Binding × List ℕ} J F G U k₀ e₀ p₀ f₀ W₀ k e q f passed memo W (λ d. (σ, d)) part
+    pub walks : Walks {A = List Binding × List ℕ} J F G U k₀ e₀ p₀ ix₀ f₀ W₀ k e q ix f passed memo W (λ d. (σ, d)) part
     pub same : (ps : List Proposition) (done : List ℕ) → andThen (part (roomOf k₀ p₀) ps done (termsIn k₀ e₀ p₀ f₀)) (rest (roomOf k₀ p₀) ps) ≡ stepOf (roomOf k₀ p₀) ps done (termsIn k₀ e₀ p₀ f₀)
 
-  module _ {k₀ e₀ p₀ : List ℕ} {f₀ : Fill} {W₀ k e q : List ℕ} {f : Fill} {memo W : List ℕ} {σ : List Binding} {rest : Room → List Proposition → List Binding × List ℕ → Check (List ℕ)}
-      (O : Owes k₀ e₀ p₀ f₀ W₀ k e q f memo W σ rest) where
+  module _ {k₀ e₀ p₀ ix₀ : List ℕ} {f₀ : Fill} {W₀ k e q ix : List ℕ} {f : Fill} {memo W : List ℕ} {σ : List Binding} {rest : Room → List Proposition → List Binding × List ℕ → Check (List ℕ)}
+      (O : Owes k₀ e₀ p₀ ix₀ f₀ W₀ k e q ix f memo W σ rest) where
     -- the rest in other words
     pub owes-as : {rest′ : Room → List Proposition → List Binding × List ℕ → Check (List ℕ)} → ((room : Room) (ps : List Proposition) (b : List Binding × List ℕ) (s : List Term) → rest room ps b s ≡ rest′ room ps b s)
-        → Owes k₀ e₀ p₀ f₀ W₀ k e q f memo W σ rest′
+        → Owes k₀ e₀ p₀ ix₀ f₀ W₀ k e q ix f memo W σ rest′
     owes-as h = record { part = O .part; walks = O .walks; same = λ ps done. sym (then-alike (O .part (roomOf k₀ p₀) ps done (termsIn k₀ e₀ p₀ f₀)) (h (roomOf k₀ p₀) ps)) ∙ O .same ps done }
 
     module _ (c : Room → List Proposition → List Binding × List ℕ → Check (List Binding × List ℕ)) (next : Room → List Proposition → List Binding × List ℕ → Check (List ℕ))
         (eq : (room : Room) (ps : List Proposition) (b : List Binding × List ℕ) (s : List Term) → rest room ps b s ≡ andThen (c room ps b s) (next room ps))
-        {k₁ e₁ p₁ : List ℕ} {f₁ : Fill} {r : Refusal} {memo₁ W₁ : List ℕ} {τ : List Binding} (v : Walks {A = List Binding × List ℕ} J F G U k e q f W k₁ e₁ p₁ f₁ r memo₁ W₁ (λ d. (τ, d)) (λ room ps done. c room ps (σ, done))) where
+        {k₁ e₁ p₁ ix₁ : List ℕ} {f₁ : Fill} {r : Refusal} {memo₁ W₁ : List ℕ} {τ : List Binding} (v : Walks {A = List Binding × List ℕ} J F G U k e q ix f W k₁ e₁ p₁ ix₁ f₁ r memo₁ W₁ (λ d. (τ, d)) (λ room ps done. c room ps (σ, done))) where
       abbrev longer : Room → List Proposition → List ℕ → Check (List Binding × List ℕ)
       longer room ps done s = andThen (O .part room ps done s) (c room ps)
 
@@ -147,17 +147,17 @@ module _ (J : List ℕ) (strict : Bool) (F G U : List ℕ) (p : ℕ) where
           then-assoc (O .part (roomOf k₀ p₀) ps done (termsIn k₀ e₀ p₀ f₀)) (c (roomOf k₀ p₀) ps) (next (roomOf k₀ p₀) ps)
           ∙ sym (then-alike (O .part (roomOf k₀ p₀) ps done (termsIn k₀ e₀ p₀ f₀)) (eq (roomOf k₀ p₀) ps)) ∙ O .same ps done
 
-      pub owes-then : r .number ≡ 0 → Owes k₀ e₀ p₀ f₀ W₀ k₁ e₁ p₁ f₁ memo₁ W₁ τ next
+      pub owes-then : r .number ≡ 0 → Owes k₀ e₀ p₀ ix₀ f₀ W₀ k₁ e₁ p₁ ix₁ f₁ memo₁ W₁ τ next
       owes-then n = record { part = longer; walks = walks-passed n (walks-then (O .walks) c refl v); same = all-same }
 
-      pub owes-stop : (r .number ≡ 0 → ⊥) → Walks J F G U k₀ e₀ p₀ f₀ W₀ k₁ e₁ p₁ f₁ r memo₁ W₁ (λ d. d) stepOf
+      pub owes-stop : (r .number ≡ 0 → ⊥) → Walks J F G U k₀ e₀ p₀ ix₀ f₀ W₀ k₁ e₁ p₁ ix₁ f₁ r memo₁ W₁ (λ d. d) stepOf
       owes-stop n = walks-as {o = λ room ps done s. andThen (longer room ps done s) (next room ps)} all-same (walks-stop (walks-then (O .walks) c refl v) (λ d. d) next n)
 
   -- nothing is owed
-  pub owes-none : {k₀ e₀ p₀ : List ℕ} {f₀ : Fill} {W₀ k e q : List ℕ} {f : Fill} {memo W : List ℕ} {σ : List Binding} → Owes k₀ e₀ p₀ f₀ W₀ k e q f memo W σ (λ room ps b. pure (b .1))
-      → Walks J F G U k₀ e₀ p₀ f₀ W₀ k e q f passed memo W (λ d. d) stepOf
+  pub owes-none : {k₀ e₀ p₀ ix₀ : List ℕ} {f₀ : Fill} {W₀ k e q ix : List ℕ} {f : Fill} {memo W : List ℕ} {σ : List Binding} → Owes k₀ e₀ p₀ ix₀ f₀ W₀ k e q ix f memo W σ (λ room ps b. pure (b .1))
+      → Walks J F G U k₀ e₀ p₀ ix₀ f₀ W₀ k e q ix f passed memo W (λ d. d) stepOf
   owes-none O = walks-as {o = λ room ps done s. andThen (O .part room ps done s) (λ b. pure (b .1))} (O .same)
-      (walks-then (O .walks) (λ room ps b. pure (b .1)) refl (walks-here (O .walks .after refl .ground) (λ ps done y. does-here (O .walks .after refl .ground .stored) refl)))
+      (walks-then (O .walks) (λ room ps b. pure (b .1)) refl (walks-here (O .walks .after refl .ground) (λ ps done y. does-here (O .walks .after refl .ground .indexed) refl)))
 
 -- a step, turn by turn
 module _ (J : List ℕ) (strict : Bool) (F G U : List ℕ) (p : ℕ) (rule : Bool) (r first second count : ℕ) where
@@ -221,7 +221,7 @@ module _ (J : List ℕ) (strict : Bool) (F G U : List ℕ) (p : ℕ) (rule : Boo
   reached-least i (suc (suc s)) = omega arith
 
   -- the step came to its turn i. In state 0 the turn is at its start, in state 1 its proof is to be walked, in state 2 it was; `most` is the greatest height of those that were
-  pub record Task (k₀ e₀ p₀ : List ℕ) (f₀ : Fill) (memo₀ W₀ k e q : List ℕ) (f : Fill) (memo W T : List ℕ) (at most i s : ℕ) : Type 0 where
+  pub record Task (k₀ e₀ p₀ ix₀ : List ℕ) (f₀ : Fill) (memo₀ W₀ k e q ix : List ℕ) (f : Fill) (memo W T : List ℕ) (at most i s : ℕ) : Type 0 where
     pub few : s ≤ 2
     pub upto : i ≤ suc count
     pub full : length T ≡ 34
@@ -229,42 +229,42 @@ module _ (J : List ℕ) (strict : Bool) (F G U : List ℕ) (p : ℕ) (rule : Boo
     pub free : i ≤ count → (count - i) + (count - i) + 2 ≤ at
     pub lenMemo : length memo ≡ length memo₀
     pub lenW : length W ≡ length W₀
-    pub grown : Grown k₀ e₀ p₀ f₀ k e q f
+    pub grown : Grown k₀ e₀ p₀ ix₀ f₀ k e q ix f
     pub sane : rule ≡ true → i ≤ count → Sane (programFor J) (bindings (drop at T)) (termsIn k e q f)
-    pub owes : i ≤ count → (s ≡ 1 → ⊥) → Owes J strict F G U p k₀ e₀ p₀ f₀ W₀ k e q f memo W (bindings (drop at T)) (rest (drop i turns) s)
-    pub due : s ≡ 1 → (i < count) × (isSettled (programFor J) (getD turns i noTurn) ≡ false) × Owes J strict F G U p k₀ e₀ p₀ f₀ W₀ k e q f memo W (bindings (drop at T)) (next (getD turns i noTurn ∷ drop (suc i) turns) 0)
+    pub owes : i ≤ count → (s ≡ 1 → ⊥) → Owes J strict F G U p k₀ e₀ p₀ ix₀ f₀ W₀ k e q ix f memo W (bindings (drop at T)) (rest (drop i turns) s)
+    pub due : s ≡ 1 → (i < count) × (isSettled (programFor J) (getD turns i noTurn) ≡ false) × Owes J strict F G U p k₀ e₀ p₀ ix₀ f₀ W₀ k e q ix f memo W (bindings (drop at T)) (next (getD turns i noTurn ∷ drop (suc i) turns) 0)
     pub ends : rule ≡ false → (s ≡ 1 → ⊥) → count ≤ i
     pub high : max most (highest (drop (reached i s) turns)) ≡ highest turns
-    pub ended : i ≡ suc count → Walks J F G U k₀ e₀ p₀ f₀ W₀ k e q f passed memo W (λ d. d) (stepOf J strict F G U p)
+    pub ended : i ≡ suc count → Walks J F G U k₀ e₀ p₀ ix₀ f₀ W₀ k e q ix f passed memo W (λ d. d) (stepOf J strict F G U p)
 
   module _ (S : Planned J p rule r first second count) where
     left-at : {i : ℕ} → i < count → drop i turns ≡ getD turns i noTurn ∷ drop (suc i) turns
     left-at {i} l = drop-cons turns i noTurn (let m = S .long in omega arith)
 
     -- a turn that starts
-    module _ {k₀ e₀ p₀ : List ℕ} {f₀ : Fill} {W₀ k e q : List ℕ} {f : Fill} {memo W : List ℕ} {σ : List Binding} {i s : ℕ} (O : Owes J strict F G U p k₀ e₀ p₀ f₀ W₀ k e q f memo W σ (rest (drop i turns) 0)) (x : Starts rule count i s) where
-      starts-owes : (s ≡ 1 → ⊥) → Owes J strict F G U p k₀ e₀ p₀ f₀ W₀ k e q f memo W σ (rest (drop i turns) s)
+    module _ {k₀ e₀ p₀ ix₀ : List ℕ} {f₀ : Fill} {W₀ k e q ix : List ℕ} {f : Fill} {memo W : List ℕ} {σ : List Binding} {i s : ℕ} (O : Owes J strict F G U p k₀ e₀ p₀ ix₀ f₀ W₀ k e q ix f memo W σ (rest (drop i turns) 0)) (x : Starts rule count i s) where
+      starts-owes : (s ≡ 1 → ⊥) → Owes J strict F G U p k₀ e₀ p₀ ix₀ f₀ W₀ k e q ix f memo W σ (rest (drop i turns) s)
       starts-owes n = go s (x .few) n
         where
-          go : (m : ℕ) → m ≤ 1 → (m ≡ 1 → ⊥) → Owes J strict F G U p k₀ e₀ p₀ f₀ W₀ k e q f memo W σ (rest (drop i turns) m)
+          go : (m : ℕ) → m ≤ 1 → (m ≡ 1 → ⊥) → Owes J strict F G U p k₀ e₀ p₀ ix₀ f₀ W₀ k e q ix f memo W σ (rest (drop i turns) m)
           go zero l n = O
           go (suc zero) l n = absurd (n refl)
           go (suc (suc m)) l n = absurd (omega arith)
 
-      starts-due : s ≡ 1 → (i < count) × (isSettled (programFor J) (getD turns i noTurn) ≡ false) × Owes J strict F G U p k₀ e₀ p₀ f₀ W₀ k e q f memo W σ (next (getD turns i noTurn ∷ drop (suc i) turns) 0)
+      starts-due : s ≡ 1 → (i < count) × (isSettled (programFor J) (getD turns i noTurn) ≡ false) × Owes J strict F G U p k₀ e₀ p₀ ix₀ f₀ W₀ k e q ix f memo W σ (next (getD turns i noTurn ∷ drop (suc i) turns) 0)
       starts-due u =
           let l = x .walks u in
           let y = proof-turn rule (l .0) i in (
             l .1,
             ap (isSettled (programFor J)) (y .1),
-            subst⁻¹ (λ (t : Turn). Owes J strict F G U p k₀ e₀ p₀ f₀ W₀ k e q f memo W σ (next (t ∷ drop (suc i) turns) 0)) (y .1)
-                (owes-as J strict F G U p {rest = rest (ofProof (y .0) ∷ drop (suc i) turns) 0} (subst (λ (ts : List Turn). Owes J strict F G U p k₀ e₀ p₀ f₀ W₀ k e q f memo W σ (rest ts 0)) (left-at (l .1) ∙ ap (λ (t : Turn). t ∷ drop (suc i) turns) (y .1)) O)
+            subst⁻¹ (λ (t : Turn). Owes J strict F G U p k₀ e₀ p₀ ix₀ f₀ W₀ k e q ix f memo W σ (next (t ∷ drop (suc i) turns) 0)) (y .1)
+                (owes-as J strict F G U p {rest = rest (ofProof (y .0) ∷ drop (suc i) turns) 0} (subst (λ (ts : List Turn). Owes J strict F G U p k₀ e₀ p₀ ix₀ f₀ W₀ k e q ix f memo W σ (rest ts 0)) (left-at (l .1) ∙ ap (λ (t : Turn). t ∷ drop (suc i) turns) (y .1)) O)
                 (advance-is (ofProof (y .0) ∷ drop (suc i) turns) 0)),
           )
 
-    pub task-start : {k e q : List ℕ} {f : Fill} {memo W T : List ℕ} {s : ℕ} → Ground J F G k e q f memo W → (rule ≡ true → Sane (programFor J) (bindings []) (termsIn k e q f)) → length T ≡ 34 → Starts rule count 0 s
-        → Task k e q f memo W k e q f memo W T 34 0 0 s
-    task-start {k} {e} {q} {f} {memo} {W} {T} {s} g w l x = record {
+    pub task-start : {k e q ix : List ℕ} {f : Fill} {memo W T : List ℕ} {s : ℕ} → Ground J F G k e q ix f memo W → (rule ≡ true → Sane (programFor J) (bindings []) (termsIn k e q f)) → length T ≡ 34 → Starts rule count 0 s
+        → Task k e q ix f memo W k e q ix f memo W T 34 0 0 s
+    task-start {k} {e} {q} {ix} {f} {memo} {W} {T} {s} g w l x = record {
       few = let m = x .few in omega arith;
       upto = omega arith;
       full = l;
@@ -272,7 +272,7 @@ module _ (J : List ℕ) (strict : Bool) (F G U : List ℕ) (p : ℕ) (rule : Boo
       free = λ _. let h = S .few in omega arith;
       lenMemo = refl;
       lenW = refl;
-      grown = grown-same (g .stored);
+      grown = grown-same (g .indexed);
       sane = λ u _. subst⁻¹ (λ (X : List ℕ). Sane (programFor J) (bindings X) (termsIn k e q f)) nothing (w u);
       owes = λ _. starts-owes whole x;
       due = starts-due whole x;
@@ -284,46 +284,46 @@ module _ (J : List ℕ) (strict : Bool) (F G U : List ℕ) (p : ℕ) (rule : Boo
         nothing : drop 34 T ≡ []
         nothing = drop-of-length-le T {i = 34} (omega arith)
 
-        whole : Owes J strict F G U p k e q f W k e q f memo W (bindings (drop 34 T)) (rest turns 0)
-        whole = subst⁻¹ (λ (X : List ℕ). Owes J strict F G U p k e q f W k e q f memo W (bindings X) (rest turns 0)) nothing (record {
+        whole : Owes J strict F G U p k e q ix f W k e q ix f memo W (bindings (drop 34 T)) (rest turns 0)
+        whole = subst⁻¹ (λ (X : List ℕ). Owes J strict F G U p k e q ix f W k e q ix f memo W (bindings X) (rest turns 0)) nothing (record {
           part = λ room ps done. pure (bindings [], done);
-          walks = walks-here g (λ ps done y. does-here (g .stored) refl);
+          walks = walks-here g (λ ps done y. does-here (g .indexed) refl);
           same = λ ps done. S .step (roomOf k q) strict G ps (sub J strict F G U p (roomOf k q) ps) done (termsIn k e q f);
         })
 
     -- a stage
-    module _ {k₀ e₀ p₀ : List ℕ} {f₀ : Fill} {memo₀ W₀ k e q : List ℕ} {f : Fill} {memo W T : List ℕ} {at most i v : ℕ} (t : Task k₀ e₀ p₀ f₀ memo₀ W₀ k e q f memo W T at most i v) (h : i ≤ count) (v≢1 : v ≡ 1 → ⊥) where
-      pub task-ground : Ground J F G k e q f memo W
+    module _ {k₀ e₀ p₀ ix₀ : List ℕ} {f₀ : Fill} {memo₀ W₀ k e q ix : List ℕ} {f : Fill} {memo W T : List ℕ} {at most i v : ℕ} (t : Task k₀ e₀ p₀ ix₀ f₀ memo₀ W₀ k e q ix f memo W T at most i v) (h : i ≤ count) (v≢1 : v ≡ 1 → ⊥) where
+      pub task-ground : Ground J F G k e q ix f memo W
       task-ground = t .owes h v≢1 .walks .after refl .ground
 
-      module _ {k₁ e₁ p₁ : List ℕ} (c : Stage) {memo₁ W₁ : List ℕ} {X : List ℕ} (x : X ≡ drop at T) (d : Advances J strict F G U p rule r first second count X k e q f W i v k₁ e₁ p₁ c memo₁ W₁) where
+      module _ {k₁ e₁ p₁ ix₁ : List ℕ} (c : Stage) {memo₁ W₁ : List ℕ} {X : List ℕ} (x : X ≡ drop at T) (d : Advances J strict F G U p rule r first second count X k e q ix f W i v k₁ e₁ p₁ ix₁ c memo₁ W₁) where
         abbrev σ : List Binding
         σ = bindings (drop at T)
 
-        here : Advances J strict F G U p rule r first second count (drop at T) k e q f W i v k₁ e₁ p₁ c memo₁ W₁
-        here = subst (λ (Y : List ℕ). Advances J strict F G U p rule r first second count Y k e q f W i v k₁ e₁ p₁ c memo₁ W₁) x d
+        here : Advances J strict F G U p rule r first second count (drop at T) k e q ix f W i v k₁ e₁ p₁ ix₁ c memo₁ W₁
+        here = subst (λ (Y : List ℕ). Advances J strict F G U p rule r first second count Y k e q ix f W i v k₁ e₁ p₁ ix₁ c memo₁ W₁) x d
 
-        pub task-refused : (c .refusal .number ≡ 0 → ⊥) → Walks J F G U k₀ e₀ p₀ f₀ W₀ k₁ e₁ p₁ (c .fill) (c .refusal) memo₁ W₁ (λ y. y) (stepOf J strict F G U p)
+        pub task-refused : (c .refusal .number ≡ 0 → ⊥) → Walks J F G U k₀ e₀ p₀ ix₀ f₀ W₀ k₁ e₁ p₁ ix₁ (c .fill) (c .refusal) memo₁ W₁ (λ y. y) (stepOf J strict F G U p)
         task-refused n = owes-stop J strict F G U p (t .owes h v≢1) (stage (drop i turns) v) (next (drop i turns) v)
             (advance-is (drop i turns) v) (here .walks) n
 
-        advanced : c .refusal .number ≡ 0 → Owes J strict F G U p k₀ e₀ p₀ f₀ W₀ k₁ e₁ p₁ (c .fill) memo₁ W₁ (boundOver (c .binds) σ) (next (drop i turns) v)
+        advanced : c .refusal .number ≡ 0 → Owes J strict F G U p k₀ e₀ p₀ ix₀ f₀ W₀ k₁ e₁ p₁ ix₁ (c .fill) memo₁ W₁ (boundOver (c .binds) σ) (next (drop i turns) v)
         advanced n = owes-then J strict F G U p (t .owes h v≢1) (stage (drop i turns) v) (next (drop i turns) v)
             (advance-is (drop i turns) v) (here .walks) n
 
         -- no proof is walked: the next turn, or the end
-        after-over : c .refusal .number ≡ 0 → c .settled ≡ true → i < count → Owes J strict F G U p k₀ e₀ p₀ f₀ W₀ k₁ e₁ p₁ (c .fill) memo₁ W₁ (boundOver (c .binds) σ) (rest (drop (suc i) turns) 0)
+        after-over : c .refusal .number ≡ 0 → c .settled ≡ true → i < count → Owes J strict F G U p k₀ e₀ p₀ ix₀ f₀ W₀ k₁ e₁ p₁ ix₁ (c .fill) memo₁ W₁ (boundOver (c .binds) σ) (rest (drop (suc i) turns) 0)
         after-over n s l = go v (getD turns i noTurn) (left-at l) (sym (here .over n) ∙ s) (advanced n)
           where
             go : (w : ℕ) (u : Turn) → drop i turns ≡ u ∷ drop (suc i) turns → isOver (programFor J) (drop i turns) w ≡ true
-                → Owes J strict F G U p k₀ e₀ p₀ f₀ W₀ k₁ e₁ p₁ (c .fill) memo₁ W₁ (boundOver (c .binds) σ) (next (drop i turns) w)
-                → Owes J strict F G U p k₀ e₀ p₀ f₀ W₀ k₁ e₁ p₁ (c .fill) memo₁ W₁ (boundOver (c .binds) σ) (rest (drop (suc i) turns) 0)
-            go zero u y o O = owes-as J strict F G U p (subst (λ (ts : List Turn). Owes J strict F G U p k₀ e₀ p₀ f₀ W₀ k₁ e₁ p₁ (c .fill) memo₁ W₁ (boundOver (c .binds) σ) (next ts 0)) y O)
+                → Owes J strict F G U p k₀ e₀ p₀ ix₀ f₀ W₀ k₁ e₁ p₁ ix₁ (c .fill) memo₁ W₁ (boundOver (c .binds) σ) (next (drop i turns) w)
+                → Owes J strict F G U p k₀ e₀ p₀ ix₀ f₀ W₀ k₁ e₁ p₁ ix₁ (c .fill) memo₁ W₁ (boundOver (c .binds) σ) (rest (drop (suc i) turns) 0)
+            go zero u y o O = owes-as J strict F G U p (subst (λ (ts : List Turn). Owes J strict F G U p k₀ e₀ p₀ ix₀ f₀ W₀ k₁ e₁ p₁ ix₁ (c .fill) memo₁ W₁ (boundOver (c .binds) σ) (next ts 0)) y O)
                 (settled-is u (drop (suc i) turns) (sym (ap (λ (ts : List Turn). isOver (programFor J) ts 0) y) ∙ o))
-            go (suc w) u y o O = subst (λ (ts : List Turn). Owes J strict F G U p k₀ e₀ p₀ f₀ W₀ k₁ e₁ p₁ (c .fill) memo₁ W₁ (boundOver (c .binds) σ) (next ts (suc w))) y O
+            go (suc w) u y o O = subst (λ (ts : List Turn). Owes J strict F G U p k₀ e₀ p₀ ix₀ f₀ W₀ k₁ e₁ p₁ ix₁ (c .fill) memo₁ W₁ (boundOver (c .binds) σ) (next ts (suc w))) y O
 
-        after-end : c .refusal .number ≡ 0 → i ≡ count → Walks J F G U k₀ e₀ p₀ f₀ W₀ k₁ e₁ p₁ (c .fill) passed memo₁ W₁ (λ y. y) (stepOf J strict F G U p)
-        after-end n l = owes-none J strict F G U p (subst (λ (ts : List Turn). Owes J strict F G U p k₀ e₀ p₀ f₀ W₀ k₁ e₁ p₁ (c .fill) memo₁ W₁ (boundOver (c .binds) σ) (next ts v)) none-left (advanced n))
+        after-end : c .refusal .number ≡ 0 → i ≡ count → Walks J F G U k₀ e₀ p₀ ix₀ f₀ W₀ k₁ e₁ p₁ ix₁ (c .fill) passed memo₁ W₁ (λ y. y) (stepOf J strict F G U p)
+        after-end n l = owes-none J strict F G U p (subst (λ (ts : List Turn). Owes J strict F G U p k₀ e₀ p₀ ix₀ f₀ W₀ k₁ e₁ p₁ ix₁ (c .fill) memo₁ W₁ (boundOver (c .binds) σ) (next ts v)) none-left (advanced n))
           where
             none-left : drop i turns ≡ []
             none-left = drop-of-length-le turns {i = i} (let m = S .long in omega arith)
@@ -351,8 +351,8 @@ module _ (J : List ℕ) (strict : Bool) (F G U : List ℕ) (p : ℕ) (rule : Boo
               go true e = sym (b _) ∙ pushed-bindings (pairsFor J p) G ps
               go false e = ap (λ (w : Binds). boundOver w (bindingsBy J p false (drop at T) G)) (here .plain e)
 
-          pub task-settles : c .refusal .number ≡ 0 → c .settled ≡ true → length T₁ ≡ length T → length memo₁ ≡ length memo → length W₁ ≡ length W → Grown k₀ e₀ p₀ f₀ k₁ e₁ p₁ (c .fill)
-              → Task k₀ e₀ p₀ f₀ memo₀ W₀ k₁ e₁ p₁ (c .fill) memo₁ W₁ T₁ at₁ most (i + 1) 0
+          pub task-settles : c .refusal .number ≡ 0 → c .settled ≡ true → length T₁ ≡ length T → length memo₁ ≡ length memo → length W₁ ≡ length W → Grown k₀ e₀ p₀ ix₀ f₀ k₁ e₁ p₁ ix₁ (c .fill)
+              → Task k₀ e₀ p₀ ix₀ f₀ memo₀ W₀ k₁ e₁ p₁ ix₁ (c .fill) memo₁ W₁ T₁ at₁ most (i + 1) 0
           task-settles n s lT lMemo lW gr = record {
             few = omega arith;
             upto = omega arith;
@@ -363,8 +363,8 @@ module _ (J : List ℕ) (strict : Bool) (F G U : List ℕ) (p : ℕ) (rule : Boo
             lenW = lW ∙ t .lenW;
             grown = gr;
             sane = λ u l. subst (λ (ρ : List Binding). Sane (programFor J) ρ (termsIn k₁ e₁ p₁ (c .fill))) bound (here .sane u n);
-            owes = λ l _. subst⁻¹ (λ (m : ℕ). Owes J strict F G U p k₀ e₀ p₀ f₀ W₀ k₁ e₁ p₁ (c .fill) memo₁ W₁ (bindings (drop at₁ T₁)) (rest (drop m turns) 0)) (add-one i)
-                (subst (λ (ρ : List Binding). Owes J strict F G U p k₀ e₀ p₀ f₀ W₀ k₁ e₁ p₁ (c .fill) memo₁ W₁ ρ (rest (drop (suc i) turns) 0)) bound (after-over n s (omega arith)));
+            owes = λ l _. subst⁻¹ (λ (m : ℕ). Owes J strict F G U p k₀ e₀ p₀ ix₀ f₀ W₀ k₁ e₁ p₁ ix₁ (c .fill) memo₁ W₁ (bindings (drop at₁ T₁)) (rest (drop m turns) 0)) (add-one i)
+                (subst (λ (ρ : List Binding). Owes J strict F G U p k₀ e₀ p₀ ix₀ f₀ W₀ k₁ e₁ p₁ ix₁ (c .fill) memo₁ W₁ ρ (rest (drop (suc i) turns) 0)) bound (after-over n s (omega arith)));
             due = λ u. absurd (omega arith);
             ends = λ u _. let l = t .ends u v≢1 in omega arith;
             high = ap (λ (m : ℕ). max most (highest (drop m turns))) (add-one i) ∙ ap (max most) (sym (over-high n s)) ∙ t .high;
@@ -394,11 +394,11 @@ module _ (J : List ℕ) (strict : Bool) (F G U : List ℕ) (p : ℕ) (rule : Boo
           pub task-fresh : v ≡ 0
           task-fresh = waits .1
 
-          owed : Owes J strict F G U p k₀ e₀ p₀ f₀ W₀ k₁ e₁ p₁ (c .fill) memo₁ W₁ (boundOver (c .binds) σ) (next (getD turns i noTurn ∷ drop (suc i) turns) 0)
-          owed = subst (λ (m : ℕ). Owes J strict F G U p k₀ e₀ p₀ f₀ W₀ k₁ e₁ p₁ (c .fill) memo₁ W₁ (boundOver (c .binds) σ) (next (getD turns i noTurn ∷ drop (suc i) turns) m)) (waits .1)
-              (subst (λ (ts : List Turn). Owes J strict F G U p k₀ e₀ p₀ f₀ W₀ k₁ e₁ p₁ (c .fill) memo₁ W₁ (boundOver (c .binds) σ) (next ts v)) (left-at (waits .0)) (advanced n))
+          owed : Owes J strict F G U p k₀ e₀ p₀ ix₀ f₀ W₀ k₁ e₁ p₁ ix₁ (c .fill) memo₁ W₁ (boundOver (c .binds) σ) (next (getD turns i noTurn ∷ drop (suc i) turns) 0)
+          owed = subst (λ (m : ℕ). Owes J strict F G U p k₀ e₀ p₀ ix₀ f₀ W₀ k₁ e₁ p₁ ix₁ (c .fill) memo₁ W₁ (boundOver (c .binds) σ) (next (getD turns i noTurn ∷ drop (suc i) turns) m)) (waits .1)
+              (subst (λ (ts : List Turn). Owes J strict F G U p k₀ e₀ p₀ ix₀ f₀ W₀ k₁ e₁ p₁ ix₁ (c .fill) memo₁ W₁ (boundOver (c .binds) σ) (next ts v)) (left-at (waits .0)) (advanced n))
 
-          pub task-waits : length memo₁ ≡ length memo → length W₁ ≡ length W → Grown k₀ e₀ p₀ f₀ k₁ e₁ p₁ (c .fill) → Task k₀ e₀ p₀ f₀ memo₀ W₀ k₁ e₁ p₁ (c .fill) memo₁ W₁ T at most i 1
+          pub task-waits : length memo₁ ≡ length memo → length W₁ ≡ length W → Grown k₀ e₀ p₀ ix₀ f₀ k₁ e₁ p₁ ix₁ (c .fill) → Task k₀ e₀ p₀ ix₀ f₀ memo₀ W₀ k₁ e₁ p₁ ix₁ (c .fill) memo₁ W₁ T at most i 1
           task-waits lMemo lW gr = record {
             few = omega arith;
             upto = t .upto;
@@ -410,41 +410,41 @@ module _ (J : List ℕ) (strict : Bool) (F G U : List ℕ) (p : ℕ) (rule : Boo
             grown = gr;
             sane = λ u _. subst (λ (ρ : List Binding). Sane (programFor J) ρ (termsIn k₁ e₁ p₁ (c .fill))) quiet (here .sane u n);
             owes = λ _ u. absurd (u refl);
-            due = λ _. (waits .0, waits .2, subst (λ (ρ : List Binding). Owes J strict F G U p k₀ e₀ p₀ f₀ W₀ k₁ e₁ p₁ (c .fill) memo₁ W₁ ρ (next (getD turns i noTurn ∷ drop (suc i) turns) 0)) quiet owed);
+            due = λ _. (waits .0, waits .2, subst (λ (ρ : List Binding). Owes J strict F G U p k₀ e₀ p₀ ix₀ f₀ W₀ k₁ e₁ p₁ ix₁ (c .fill) memo₁ W₁ ρ (next (getD turns i noTurn ∷ drop (suc i) turns) 0)) quiet owed);
             ends = λ _ u. absurd (u refl);
             high = subst (λ (m : ℕ). max most (highest (drop (reached i m) turns)) ≡ highest turns) (waits .1) (t .high);
             ended = λ u. let l = waits .0 in absurd (omega arith);
           }
 
     -- the proof is walked
-    module _ {k₀ e₀ p₀ : List ℕ} {f₀ : Fill} {memo₀ W₀ k e q : List ℕ} {f : Fill} {memo W T : List ℕ} {at most i v : ℕ} (t : Task k₀ e₀ p₀ f₀ memo₀ W₀ k e q f memo W T at most i v) (v≡1 : v ≡ 1) where
+    module _ {k₀ e₀ p₀ ix₀ : List ℕ} {f₀ : Fill} {memo₀ W₀ k e q ix : List ℕ} {f : Fill} {memo W T : List ℕ} {at most i v : ℕ} (t : Task k₀ e₀ p₀ ix₀ f₀ memo₀ W₀ k e q ix f memo W T at most i v) (v≡1 : v ≡ 1) where
       pub task-turn : i < count
       task-turn = t .due v≡1 .0
 
-      pub task-next : Ground J F G k e q f memo W
+      pub task-next : Ground J F G k e q ix f memo W
       task-next = t .due v≡1 .2 .walks .after refl .ground
 
       module _ (fuel : (room : Room) (ps : List Proposition) (x : ℕ) → x < p → (done : List ℕ) (u : List Term) → checkProofWithContext room (programFor J) (proofsFor J) (contextOf G ps) strict (suc x) x done u ≡ sub J strict F G U p room ps x done u)
-          {a : ℕ} (y : a ≡ proofOf (getD turns i noTurn)) {k₂ e₂ p₂ : List ℕ} {f₂ : Fill} {r₂ : Refusal} {memo₂ W₂ : List ℕ}
-          (w : Walks J F G U k e q f W k₂ e₂ p₂ f₂ r₂ memo₂ W₂ (λ d. d) (λ room ps done. checkProofWithContext room (programFor J) (proofsFor J) (contextOf G ps) strict (suc a) a done)) where
+          {a : ℕ} (y : a ≡ proofOf (getD turns i noTurn)) {k₂ e₂ p₂ ix₂ : List ℕ} {f₂ : Fill} {r₂ : Refusal} {memo₂ W₂ : List ℕ}
+          (w : Walks J F G U k e q ix f W k₂ e₂ p₂ ix₂ f₂ r₂ memo₂ W₂ (λ d. d) (λ room ps done. checkProofWithContext room (programFor J) (proofsFor J) (contextOf G ps) strict (suc a) a done)) where
         abbrev turn : Turn
         turn = getD turns i noTurn
 
         abbrev τ : List Binding
         τ = bindings (drop at T)
 
-        walked-proof : Walks J F G U k e q f W k₂ e₂ p₂ f₂ r₂ memo₂ W₂ (λ d. d) (λ room ps done. sub J strict F G U p room ps (proofOf turn) done)
+        walked-proof : Walks J F G U k e q ix f W k₂ e₂ p₂ ix₂ f₂ r₂ memo₂ W₂ (λ d. d) (λ room ps done. sub J strict F G U p room ps (proofOf turn) done)
         walked-proof = walks-as {o′ = λ room ps done. sub J strict F G U p room ps (proofOf turn) done} (λ ps done.
             fuel (roomOf k q) ps a (let l = S .lower i task-turn in omega arith) done (termsIn k e q f) ∙ ap (λ (m : ℕ). sub J strict F G U p (roomOf k q) ps m done (termsIn k e q f)) y) w
 
-        pub task-walk-stops : (r₂ .number ≡ 0 → ⊥) → Walks J F G U k₀ e₀ p₀ f₀ W₀ k₂ e₂ p₂ f₂ r₂ memo₂ W₂ (λ d. d) (stepOf J strict F G U p)
+        pub task-walk-stops : (r₂ .number ≡ 0 → ⊥) → Walks J F G U k₀ e₀ p₀ ix₀ f₀ W₀ k₂ e₂ p₂ ix₂ f₂ r₂ memo₂ W₂ (λ d. d) (stepOf J strict F G U p)
         task-walk-stops m = owes-stop J strict F G U p (t .due v≡1 .2) (walks turn) (rest (turn ∷ drop (suc i) turns) 2) (walk-is turn (drop (suc i) turns) (t .due v≡1 .1))
             (walks-stop walked-proof (λ d. (τ, d)) (λ room ps d. pure (τ, d)) m) m
 
-        module _ {h most₂ : ℕ} (hq : h ≡ height (programFor J) (proofsFor J) a) (mq : most₂ ≡ max most h) (m : r₂ .number ≡ 0) (lMemo : length memo₂ ≡ length memo) (lW : length W₂ ≡ length W) (gr : Grown k₀ e₀ p₀ f₀ k₂ e₂ p₂ f₂) where
-          owed-after : Owes J strict F G U p k₀ e₀ p₀ f₀ W₀ k₂ e₂ p₂ f₂ memo₂ W₂ τ (rest (turn ∷ drop (suc i) turns) 2)
+        module _ {h most₂ : ℕ} (hq : h ≡ height (programFor J) (proofsFor J) a) (mq : most₂ ≡ max most h) (m : r₂ .number ≡ 0) (lMemo : length memo₂ ≡ length memo) (lW : length W₂ ≡ length W) (gr : Grown k₀ e₀ p₀ ix₀ f₀ k₂ e₂ p₂ ix₂ f₂) where
+          owed-after : Owes J strict F G U p k₀ e₀ p₀ ix₀ f₀ W₀ k₂ e₂ p₂ ix₂ f₂ memo₂ W₂ τ (rest (turn ∷ drop (suc i) turns) 2)
           owed-after = owes-then J strict F G U p (t .due v≡1 .2) (walks turn) (rest (turn ∷ drop (suc i) turns) 2) (walk-is turn (drop (suc i) turns) (t .due v≡1 .1))
-              (walks-then walked-proof (λ room ps d. pure (τ, d)) m (walks-here {r = passed} (w .after m .ground) (λ ps done u. does-here (w .after m .ground .stored) refl))) refl
+              (walks-then walked-proof (λ room ps d. pure (τ, d)) m (walks-here {r = passed} (w .after m .ground) (λ ps done u. does-here (w .after m .ground .indexed) refl))) refl
 
           sane-after : rule ≡ true → Sane (programFor J) τ (termsIn k₂ e₂ p₂ f₂)
           sane-after u = sane-fewer (t .sane u (let l = task-turn in omega arith)) (w .after m .grows) (w .after m .ground .sane)
@@ -456,7 +456,7 @@ module _ (J : List ℕ) (strict : Bool) (F G U : List ℕ) (p : ℕ) (rule : Boo
               let o : h ≡ height (programFor J) (proofsFor J) (proofOf turn) = hq ∙ ap (height (programFor J) (proofsFor J)) y in
               omega (arith, x, z, o, mq)
 
-          pub task-walks : rule ≡ true → Task k₀ e₀ p₀ f₀ memo₀ W₀ k₂ e₂ p₂ f₂ memo₂ W₂ T at most₂ i 2
+          pub task-walks : rule ≡ true → Task k₀ e₀ p₀ ix₀ f₀ memo₀ W₀ k₂ e₂ p₂ ix₂ f₂ memo₂ W₂ T at most₂ i 2
           task-walks is = record {
             few = omega arith;
             upto = t .upto;
@@ -467,14 +467,14 @@ module _ (J : List ℕ) (strict : Bool) (F G U : List ℕ) (p : ℕ) (rule : Boo
             lenW = lW ∙ t .lenW;
             grown = gr;
             sane = λ u _. sane-after u;
-            owes = λ _ _. subst⁻¹ (λ (ts : List Turn). Owes J strict F G U p k₀ e₀ p₀ f₀ W₀ k₂ e₂ p₂ f₂ memo₂ W₂ τ (rest ts 2)) (left-at task-turn) owed-after;
+            owes = λ _ _. subst⁻¹ (λ (ts : List Turn). Owes J strict F G U p k₀ e₀ p₀ ix₀ f₀ W₀ k₂ e₂ p₂ ix₂ f₂ memo₂ W₂ τ (rest ts 2)) (left-at task-turn) owed-after;
             due = λ u. absurd (omega arith);
             ends = λ u _. absurd (true≢false (sym is ∙ u));
             high = high-after;
             ended = λ u. let l = task-turn in absurd (omega arith);
           }
 
-          pub task-passes : rule ≡ false → {s : ℕ} → Starts rule count (i + 1) s → Task k₀ e₀ p₀ f₀ memo₀ W₀ k₂ e₂ p₂ f₂ memo₂ W₂ T at most₂ (i + 1) s
+          pub task-passes : rule ≡ false → {s : ℕ} → Starts rule count (i + 1) s → Task k₀ e₀ p₀ ix₀ f₀ memo₀ W₀ k₂ e₂ p₂ ix₂ f₂ memo₂ W₂ T at most₂ (i + 1) s
           task-passes is {s} x = record {
             few = let n = x .few in omega arith;
             upto = let l = task-turn in omega arith;
@@ -492,15 +492,15 @@ module _ (J : List ℕ) (strict : Bool) (F G U : List ℕ) (p : ℕ) (rule : Boo
             ended = λ u. let l = task-turn in absurd (omega arith);
           }
             where
-              passed-on : Owes J strict F G U p k₀ e₀ p₀ f₀ W₀ k₂ e₂ p₂ f₂ memo₂ W₂ τ (rest (drop (i + 1) turns) 0)
+              passed-on : Owes J strict F G U p k₀ e₀ p₀ ix₀ f₀ W₀ k₂ e₂ p₂ ix₂ f₂ memo₂ W₂ τ (rest (drop (i + 1) turns) 0)
               passed-on =
                   let c = proof-turn rule is i in
-                  subst⁻¹ (λ (n : ℕ). Owes J strict F G U p k₀ e₀ p₀ f₀ W₀ k₂ e₂ p₂ f₂ memo₂ W₂ τ (rest (drop n turns) 0)) (add-one i)
+                  subst⁻¹ (λ (n : ℕ). Owes J strict F G U p k₀ e₀ p₀ ix₀ f₀ W₀ k₂ e₂ p₂ ix₂ f₂ memo₂ W₂ τ (rest (drop n turns) 0)) (add-one i)
                   (owes-as J strict F G U p {rest = rest (ofProof (c .0) ∷ drop (suc i) turns) 2}
-                  (subst (λ (u : Turn). Owes J strict F G U p k₀ e₀ p₀ f₀ W₀ k₂ e₂ p₂ f₂ memo₂ W₂ τ (rest (u ∷ drop (suc i) turns) 2)) (c .1) owed-after) (λ room ps b u. refl))
+                  (subst (λ (u : Turn). Owes J strict F G U p k₀ e₀ p₀ ix₀ f₀ W₀ k₂ e₂ p₂ ix₂ f₂ memo₂ W₂ τ (rest (u ∷ drop (suc i) turns) 2)) (c .1) owed-after) (λ room ps b u. refl))
 
     -- the height, at the end
-    pub task-height : Ready J → p < sizesOf J .proofs → {k₀ e₀ p₀ : List ℕ} {f₀ : Fill} {memo₀ W₀ k e q : List ℕ} {f : Fill} {memo W T : List ℕ} {at most i s : ℕ} → Task k₀ e₀ p₀ f₀ memo₀ W₀ k e q f memo W T at most i s → i ≡ suc count
+    pub task-height : Ready J → p < sizesOf J .proofs → {k₀ e₀ p₀ ix₀ : List ℕ} {f₀ : Fill} {memo₀ W₀ k e q ix : List ℕ} {f : Fill} {memo W T : List ℕ} {at most i s : ℕ} → Task k₀ e₀ p₀ ix₀ f₀ memo₀ W₀ k e q ix f memo W T at most i s → i ≡ suc count
         → most + 1 ≡ height (programFor J) (proofsFor J) p
     task-height R l {most = most} {i = i} {s = s} t u =
         let a = reached-least i s in
@@ -511,25 +511,25 @@ module _ (J : List ℕ) (strict : Bool) (F G U : List ℕ) (p : ℕ) (rule : Boo
         omega (arith, b, c, d, e)
 
     -- it is a word
-    pub task-word : Ready J → p < sizesOf J .proofs → {k₀ e₀ p₀ : List ℕ} {f₀ : Fill} {memo₀ W₀ k e q : List ℕ} {f : Fill} {memo W T : List ℕ} {at most i s : ℕ} → Task k₀ e₀ p₀ f₀ memo₀ W₀ k e q f memo W T at most i s → i ≡ suc count
+    pub task-word : Ready J → p < sizesOf J .proofs → {k₀ e₀ p₀ ix₀ : List ℕ} {f₀ : Fill} {memo₀ W₀ k e q ix : List ℕ} {f : Fill} {memo W T : List ℕ} {at most i s : ℕ} → Task k₀ e₀ p₀ ix₀ f₀ memo₀ W₀ k e q ix f memo W T at most i s → i ≡ suc count
         → most + 1 ≤ 4096
     task-word R l t u = let h = task-height R l t u in let f = height-few R p in omega arith
 
 -- a plan that is refused
-pub plan-refused : (J : List ℕ) (strict : Bool) (F G U : List ℕ) (p : ℕ) {k e q : List ℕ} {f : Fill} {memo W : List ℕ} → Ground J F G k e q f memo W → {s : Plan} → Plans J p s → (s .refusal .number ≡ 0 → ⊥)
-    → Walks J F G U k e q f W k e q f (s .refusal) memo W (λ d. d) (stepOf J strict F G U p)
-plan-refused J strict F G U p {k} {e} {q} {f} g S n = walks-here g (λ ps done y. does-here (g .stored) (S .stops n (roomOf k q) strict G ps (sub J strict F G U p (roomOf k q) ps) done (termsIn k e q f)))
+pub plan-refused : (J : List ℕ) (strict : Bool) (F G U : List ℕ) (p : ℕ) {k e q ix : List ℕ} {f : Fill} {memo W : List ℕ} → Ground J F G k e q ix f memo W → {s : Plan} → Plans J p s → (s .refusal .number ≡ 0 → ⊥)
+    → Walks J F G U k e q ix f W k e q ix f (s .refusal) memo W (λ d. d) (stepOf J strict F G U p)
+plan-refused J strict F G U p {k} {e} {q} {ix} {f} g S n = walks-here g (λ ps done y. does-here (g .indexed) (S .stops n (roomOf k q) strict G ps (sub J strict F G U p (roomOf k q) ps) done (termsIn k e q f)))
 
 -- what the step starts from
-pub start-sane : (J : List ℕ) (p : ℕ) {F G k e q : List ℕ} {f : Fill} {memo W : List ℕ} → Ground J F G k e q f memo W → p < sizesOf J .proofs → {rule : Bool} {r first second count : ℕ} → rule ≡ true → Planned J p rule r first second count
+pub start-sane : (J : List ℕ) (p : ℕ) {F G k e q ix : List ℕ} {f : Fill} {memo W : List ℕ} → Ground J F G k e q ix f memo W → p < sizesOf J .proofs → {rule : Bool} {r first second count : ℕ} → rule ≡ true → Planned J p rule r first second count
     → Sane (programFor J) (bindingsBy J p rule [] G) (termsIn k e q f)
-start-sane J p {G = G} {k = k} {e = e} {q = q} {f = f} g h {rule} u S =
+start-sane J p {G = G} {k = k} {e = e} {q = q} {ix = ix} {f = f} g h {rule} u S =
     subst⁻¹ (λ (b : Bool). Sane (programFor J) (bindingsBy J p b [] G) (termsIn k e q f)) u
     (sane-substitution (pairsFor J p) g (substitution-read (g .ready) p h (S .kind u) refl refl .within))
 
 pub sane-part-by : (J : List ℕ) (p : ℕ) (G : List ℕ) (rule : Bool) {X Y : List ℕ} {s : List Term} → X ≡ Y → Sane (programFor J) (bindingsBy J p rule Y G) s → Sane (programFor J) (bindingsBy J p rule X G) s
 sane-part-by J p G rule {s = s} x w = subst⁻¹ (λ (X : List ℕ). Sane (programFor J) (bindingsBy J p rule X G) s) x w
 
-pub passed-as : {J : List ℕ} {F G U k e q : List ℕ} {f : Fill} {W k₁ e₁ p₁ : List ℕ} {f₁ : Fill} {memo₁ W₁ : List ℕ} {o : Room → List Proposition → List ℕ → Check (List ℕ)} {v : ℕ} {c : Checked} → c ≡ record { refusal = passed; value = v; fill = f₁ }
-    → Walks J F G U k e q f W k₁ e₁ p₁ f₁ passed memo₁ W₁ (λ d. d) o → Walks J F G U k e q f W k₁ e₁ p₁ (c .fill) (c .refusal) memo₁ W₁ (λ d. d) o
-passed-as {J} {F} {G} {U} {k} {e} {q} {f} {W} {k₁} {e₁} {p₁} {memo₁ = memo₁} {W₁ = W₁} {o = o} h w = subst⁻¹ (λ (x : Checked). Walks J F G U k e q f W k₁ e₁ p₁ (x .fill) (x .refusal) memo₁ W₁ (λ d. d) o) h w
+pub passed-as : {J : List ℕ} {F G U k e q ix : List ℕ} {f : Fill} {W k₁ e₁ p₁ ix₁ : List ℕ} {f₁ : Fill} {memo₁ W₁ : List ℕ} {o : Room → List Proposition → List ℕ → Check (List ℕ)} {v : ℕ} {c : Checked} → c ≡ record { refusal = passed; value = v; fill = f₁ }
+    → Walks J F G U k e q ix f W k₁ e₁ p₁ ix₁ f₁ passed memo₁ W₁ (λ d. d) o → Walks J F G U k e q ix f W k₁ e₁ p₁ ix₁ (c .fill) (c .refusal) memo₁ W₁ (λ d. d) o
+passed-as {J} {F} {G} {U} {k} {e} {q} {ix} {f} {W} {k₁} {e₁} {p₁} {ix₁} {memo₁ = memo₁} {W₁ = W₁} {o = o} h w = subst⁻¹ (λ (x : Checked). Walks J F G U k e q ix f W k₁ e₁ p₁ ix₁ (x .fill) (x .refusal) memo₁ W₁ (λ d. d) o) h w

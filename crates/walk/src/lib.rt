@@ -1,9 +1,9 @@
 // The walk over the proofs: `check_proof_with_context` of proof_checker.rs. Each proof is checked once; a reference has a lower number.
 use actions::Effect;
 use actions::push_binding;
-use cells::Fill;
 use cells::wide;
 use conditions::Binds;
+use index::Fill;
 use outcome::Checked;
 use outcome::pass;
 use turns::advance;
@@ -84,14 +84,15 @@ fn justify(
     skinds: &mut [u32],
     sends: &mut [u32],
     spool: &mut [u32],
+    index: &mut [u32],
     fill: Fill,
     memo: &mut [u32],
     scratch: &mut [u32],
     p: u32,
 ) -> Checked
-    requires { ⌜ Ground (now job) (now found) (now globals) (now skinds) (now sends) (now spool) fill (now memo) (now scratch) ⌝ }
+    requires { ⌜ Ground (now job) (now found) (now globals) (now skinds) (now sends) (now spool) (now index) fill (now memo) (now scratch) ⌝ }
     requires { ⌜ p < sizesOf (now job) .proofs ⌝ }
-    ensures does { λ r. ⌜ Walks (now (job .entry)) (now (found .entry)) (now (globals .entry)) (now (unions .entry)) (now (skinds .entry)) (now (sends .entry)) (now (spool .entry)) fill (now (scratch .entry)) (now (skinds .exit)) (now (sends .exit)) (now (spool .exit)) (r .fill) (r .refusal) (now (memo .exit)) (now (scratch .exit)) (λ d. d) (λ room ps done. checkJustification room (programFor (now (job .entry))) (proofsFor (now (job .entry))) (contextOf (now (globals .entry)) ps) (checkProofWithContext room (programFor (now (job .entry))) (proofsFor (now (job .entry))) (contextOf (now (globals .entry)) ps) strict p) strict p (claimAt (proofsFor (now (job .entry))) p) (getD (proofsFor (now (job .entry))) p noProof .justification) done) ⌝ }
+    ensures does { λ r. ⌜ Walks (now (job .entry)) (now (found .entry)) (now (globals .entry)) (now (unions .entry)) (now (skinds .entry)) (now (sends .entry)) (now (spool .entry)) (now (index .entry)) fill (now (scratch .entry)) (now (skinds .exit)) (now (sends .exit)) (now (spool .exit)) (now (index .exit)) (r .fill) (r .refusal) (now (memo .exit)) (now (scratch .exit)) (λ d. d) (λ room ps done. checkJustification room (programFor (now (job .entry))) (proofsFor (now (job .entry))) (contextOf (now (globals .entry)) ps) (checkProofWithContext room (programFor (now (job .entry))) (proofsFor (now (job .entry))) (contextOf (now (globals .entry)) ps) strict p) strict p (claimAt (proofsFor (now (job .entry))) p) (getD (proofsFor (now (job .entry))) p noProof .justification) done) ⌝ }
     ensures high { λ r. ⌜ (r .refusal .number ≡ 0 → r .value ≡ height (programFor (now (job .entry))) (proofsFor (now (job .entry))) p) ⌝ }
 {
     let s = plan_step(job, p);
@@ -122,6 +123,7 @@ fn justify(
                 skinds,
                 sends,
                 spool,
+                index,
                 have,
                 memo,
                 scratch,
@@ -150,6 +152,7 @@ fn justify(
             skinds,
             sends,
             spool,
+            index,
             have,
             memo,
             scratch,
@@ -193,14 +196,15 @@ pub fn walk(
     skinds: &mut [u32],
     sends: &mut [u32],
     spool: &mut [u32],
+    index: &mut [u32],
     fill: Fill,
     memo: &mut [u32],
     scratch: &mut [u32],
     p: u32,
 ) -> Checked
-    requires { ⌜ Ground (now job) (now found) (now globals) (now skinds) (now sends) (now spool) fill (now memo) (now scratch) ⌝ }
+    requires { ⌜ Ground (now job) (now found) (now globals) (now skinds) (now sends) (now spool) (now index) fill (now memo) (now scratch) ⌝ }
     requires { ⌜ p < sizesOf (now job) .proofs ⌝ }
-    ensures does { λ r. ⌜ Walks (now (job .entry)) (now (found .entry)) (now (globals .entry)) (now (unions .entry)) (now (skinds .entry)) (now (sends .entry)) (now (spool .entry)) fill (now (scratch .entry)) (now (skinds .exit)) (now (sends .exit)) (now (spool .exit)) (r .fill) (r .refusal) (now (memo .exit)) (now (scratch .exit)) (λ d. d) (λ room ps done. checkProofWithContext room (programFor (now (job .entry))) (proofsFor (now (job .entry))) (contextOf (now (globals .entry)) ps) strict (suc p) p done) ⌝ }
+    ensures does { λ r. ⌜ Walks (now (job .entry)) (now (found .entry)) (now (globals .entry)) (now (unions .entry)) (now (skinds .entry)) (now (sends .entry)) (now (spool .entry)) (now (index .entry)) fill (now (scratch .entry)) (now (skinds .exit)) (now (sends .exit)) (now (spool .exit)) (now (index .exit)) (r .fill) (r .refusal) (now (memo .exit)) (now (scratch .exit)) (λ d. d) (λ room ps done. checkProofWithContext room (programFor (now (job .entry))) (proofsFor (now (job .entry))) (contextOf (now (globals .entry)) ps) strict (suc p) p done) ⌝ }
     ensures high { λ r. ⌜ (r .refusal .number ≡ 0 → r .value ≡ height (programFor (now (job .entry))) (proofsFor (now (job .entry))) p) ⌝ }
 {
     let cells = skinds.len();
@@ -218,6 +222,7 @@ pub fn walk(
         skinds,
         sends,
         spool,
+        index,
         fill,
         memo,
         scratch,

@@ -3,37 +3,30 @@ use Rattle.program.specs.Read.{exprFor}
 use borrow.Author.Needs.{needs}
 use Rattle.actions.proofs.act_run.Statement.{statement}
 use Rattle.actions.proofs.act_run.Tie as tie
-use Rattle.actions.proofs.act_run.Reads as reads
-use Rattle.actions.proofs.act_run.Lts as lts
-use Rattle.actions.proofs.yield_value.Reads as yield-value-reads
 
--- src/lib.rt:142:9
 yield-value-requires : tie.Need-yield-value-requires
 yield-value-requires c κs = search needs
 
--- src/lib.rt:120:1
 same-length : tie.Need-same-length
 same-length c = search needs
 
--- src/lib.rt:120:1
 same-length-2 : tie.Need-same-length-2
 same-length-2 c = search needs
 
--- src/lib.rt:120:1
 same-length-3 : tie.Need-same-length-3
 same-length-3 c = search needs
 
--- src/lib.rt:120:1
 same-length-4 : tie.Need-same-length-4
 same-length-4 c = search needs
 
--- src/lib.rt:120:1
 same-length-5 : tie.Need-same-length-5
 same-length-5 c = search needs
 
--- src/lib.rt:120:1
+same-length-6 : tie.Need-same-length-6
+same-length-6 c = search needs
+
 returns : tie.Need-returns
-returns c = let a = c .before .before .before .before .before .before .before .before .before .before .before .before .before .before .before .before .before .before .before .before .before .before .before .before .before .before .before .args in acts-run (a .rule) (exprFor (a .job .now) (a .e)) (c .before .before .before .before .before .before .before .before .before .before .before .before .yield-value .ensures)
+returns c = let a = c .before .before .before .before .before .before .before .before .before .before .before .before .before .before .before .before .before .before .before .before .before .before .before .before .before .before .before .before .before .before .before .args in acts-run (a .rule) (exprFor (a .job .now) (a .e)) (c .before .before .before .before .before .before .before .before .before .before .before .before .before .before .yield-value .ensures)
 
 pub act-run-spec : {M : Type 1} → statement M
 act-run-spec =
@@ -45,4 +38,5 @@ act-run-spec =
     same-length-3
     same-length-4
     same-length-5
+    same-length-6
     returns)

@@ -2,65 +2,54 @@ use Rattle.actions.proofs.Yielding.{yields-refused, yields-value}
 use borrow.Author.Needs.{needs}
 use Rattle.actions.proofs.yield_value.Statement.{statement}
 use Rattle.actions.proofs.yield_value.Tie as tie
-use Rattle.actions.proofs.yield_value.Reads as reads
-use Rattle.actions.proofs.yield_value.Lts as lts
-use Rattle.actions.proofs.mark_if.Reads as mark-if-reads
-use Rattle.evaluate.proofs.evaluate.Reads as evaluate-reads
 
--- src/lib.rt:81:9
 size-requires : tie.Need-size-requires
 size-requires c κs = search needs
 
 evaluate-requires : tie.Need-evaluate-requires
-evaluate-requires c κs = let S = c .before .before .before .before .before .before .before .before .before .before .before .before .before .before .pre .0 in (S .ready, (S .stored, (c .before .before .before .before .before .before .before .before .before .before .before .before .before .before .pre .1, (S .fits, S .past))))
+evaluate-requires c κs = let S = c .before .before .before .before .before .before .before .before .before .before .before .before .before .before .before .before .pre .0 in (S .ready, (S .indexed, (c .before .before .before .before .before .before .before .before .before .before .before .before .before .before .before .before .pre .1, (S .fits, S .past))))
 
--- src/lib.rt:83:9
 same-length : tie.Need-same-length
 same-length c = search needs
 
--- src/lib.rt:83:9
 same-length-2 : tie.Need-same-length-2
 same-length-2 c = search needs
 
--- src/lib.rt:83:9
 same-length-3 : tie.Need-same-length-3
 same-length-3 c = search needs
 
--- src/lib.rt:83:9
 same-length-4 : tie.Need-same-length-4
 same-length-4 c = search needs
 
--- src/lib.rt:83:9
-returns : tie.Need-returns
-returns c = yields-refused (c .before .before .before .before .before .before .before .before .before .before .before .before .before .before .before .before .before .before .before .before .before .before .before .before .before .args .rule) (c .before .before .before .before .before .before .before .before .before .before .before .before .before .before .before .before .before .before .before .before .before .before .before .before .before .pre .0) (c .before .before .before .before .before .before .before .before .before .before .before .before .before .before .before .before .before .before .before .before .before .before .before .before .before .pre .1) (c .before .before .before .before .before .before .before .before .before .before .evaluate .ensures) (search needs)
-
--- src/lib.rt:85:5
-mark-if-requires : tie.Need-mark-if-requires
-mark-if-requires c κs = let S = c .before .before .before .before .before .before .before .before .before .before .before .before .before .before .before .before .before .before .before .before .before .before .before .before .before .before .before .pre .0 in let f = S .fits in search needs
-
--- src/lib.rt:59:1
 same-length-5 : tie.Need-same-length-5
 same-length-5 c = search needs
 
--- src/lib.rt:59:1
+returns : tie.Need-returns
+returns c = yields-refused (c .before .before .before .before .before .before .before .before .before .before .before .before .before .before .before .before .before .before .before .before .before .before .before .before .before .before .before .before .before .args .rule) (c .before .before .before .before .before .before .before .before .before .before .before .before .before .before .before .before .before .before .before .before .before .before .before .before .before .before .before .before .before .pre .0) (c .before .before .before .before .before .before .before .before .before .before .before .before .before .before .before .before .before .before .before .before .before .before .before .before .before .before .before .before .before .pre .1) (c .before .before .before .before .before .before .before .before .before .before .before .before .evaluate .ensures) (search needs)
+
+mark-if-requires : tie.Need-mark-if-requires
+mark-if-requires c κs = let S = c .before .before .before .before .before .before .before .before .before .before .before .before .before .before .before .before .before .before .before .before .before .before .before .before .before .before .before .before .before .before .before .pre .0 in let f = S .fits in search needs
+
 same-length-6 : tie.Need-same-length-6
 same-length-6 c = search needs
 
--- src/lib.rt:59:1
 same-length-7 : tie.Need-same-length-7
 same-length-7 c = search needs
 
--- src/lib.rt:59:1
 same-length-8 : tie.Need-same-length-8
 same-length-8 c = search needs
 
--- src/lib.rt:59:1
 same-length-9 : tie.Need-same-length-9
 same-length-9 c = search needs
 
--- src/lib.rt:59:1
+same-length-10 : tie.Need-same-length-10
+same-length-10 c = search needs
+
+same-length-11 : tie.Need-same-length-11
+same-length-11 c = search needs
+
 returns-2 : tie.Need-returns-2
-returns-2 c = yields-value (c .before .before .before .before .before .before .before .before .before .before .before .before .before .before .before .before .before .before .before .before .before .before .before .before .before .before .before .before .before .before .args .rule) (c .before .before .before .before .before .before .before .before .before .before .before .before .before .before .before .before .before .before .before .before .before .before .before .before .before .before .before .before .before .before .pre .0) (c .before .before .before .before .before .before .before .before .before .before .before .before .before .before .before .before .before .before .before .before .before .before .before .before .before .before .before .before .before .before .pre .1) (c .before .before .before .before .before .before .before .before .before .before .before .before .before .before .before .evaluate .ensures) (search needs) (c .before .before .before .before .before .before .before .before .before .before .before .before .before .before .before .before .before .before .before .before .size .ensures) (c .before .before .mark-if .ensures)
+returns-2 c = yields-value (c .before .before .before .before .before .before .before .before .before .before .before .before .before .before .before .before .before .before .before .before .before .before .before .before .before .before .before .before .before .before .before .before .before .before .args .rule) (c .before .before .before .before .before .before .before .before .before .before .before .before .before .before .before .before .before .before .before .before .before .before .before .before .before .before .before .before .before .before .before .before .before .before .pre .0) (c .before .before .before .before .before .before .before .before .before .before .before .before .before .before .before .before .before .before .before .before .before .before .before .before .before .before .before .before .before .before .before .before .before .before .pre .1) (c .before .before .before .before .before .before .before .before .before .before .before .before .before .before .before .before .before .evaluate .ensures) (search needs) (c .before .before .before .before .before .before .before .before .before .before .before .before .before .before .before .before .before .before .before .before .before .before .before .size .ensures) (c .before .before .mark-if .ensures)
 
 pub yield-value-spec : {M : Type 1} → statement M
 yield-value-spec =
@@ -72,11 +61,13 @@ yield-value-spec =
     same-length-2
     same-length-3
     same-length-4
+    same-length-5
     returns
     mark-if-requires
-    same-length-5
     same-length-6
     same-length-7
     same-length-8
     same-length-9
+    same-length-10
+    same-length-11
     returns-2)

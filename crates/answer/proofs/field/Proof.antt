@@ -16,4 +16,10 @@ returns-2 : tie.Need-returns-2
 returns-2 c = let a = c .before .before .args in first-past (a .r .count) (a .r .fields) (a .i) (c .if1 .left)
 
 pub field-spec : {M : Type 1} → statement M
-field-spec = tie.close (tie.spec mul-result array-read-result returns returns-2)
+field-spec =
+    tie.close
+    (tie.spec
+    mul-result
+    array-read-result
+    returns
+    returns-2)

@@ -20,4 +20,10 @@ returns c = let a = c .before .before .before .before .before .before .args in w
 
 pub write-passed-spec : {M : Type 1} → statement M
 write-passed-spec =
-    tie.close (tie.spec cast-t7 slice-aggregate-copy copy-requires same-length returns)
+    tie.close
+    (tie.spec
+    cast-t7
+    slice-aggregate-copy
+    copy-requires
+    same-length
+    returns)

@@ -17,4 +17,10 @@ returns-2 : tie.Need-returns-2
 returns-2 c = let a = c .before .before .args in (refl, λ σ s. output-none (a .rule) (a .i) (a .t) σ s (c .enum-told .given .1))
 
 pub bind-output-spec : {M : Type 1} → statement M
-bind-output-spec = tie.close (tie.spec enum-known-variable enum-told returns returns-2)
+bind-output-spec =
+    tie.close
+    (tie.spec
+    enum-known-variable
+    enum-told
+    returns
+    returns-2)

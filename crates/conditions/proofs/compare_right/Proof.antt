@@ -21,4 +21,10 @@ returns-2 c = let a = c .before .before .args in (refl, λ σ rv s. compared-non
 
 pub compare-right-spec : {M : Type 1} → statement M
 compare-right-spec =
-    tie.close (tie.spec enum-known-b bind-output-requires enum-told returns returns-2)
+    tie.close
+    (tie.spec
+    enum-known-b
+    bind-output-requires
+    enum-told
+    returns
+    returns-2)

@@ -10,4 +10,8 @@ returns-2 : tie.Need-returns-2
 returns-2 c = let a = c .before .args in (refl, λ σ lv rv s. compared-differ (a .rule) (a .i) σ lv rv s (a .x) (a .y) (c .if1 .left))
 
 pub compare-values-spec : {M : Type 1} → statement M
-compare-values-spec = tie.close (tie.spec returns returns-2)
+compare-values-spec =
+    tie.close
+    (tie.spec
+    returns
+    returns-2)

@@ -18,4 +18,10 @@ returns-2 : tie.Need-returns-2
 returns-2 c = λ ps g. c .has-union .ensures ∙ sym (g .others (propositionOf (c .before .before .before .before .before .args .q)) (c .before .if1 .left))
 
 pub is-global-pair-spec : {M : Type 1} → statement M
-is-global-pair-spec = tie.close (tie.spec is-marked-requires returns has-union-requires returns-2)
+is-global-pair-spec =
+    tie.close
+    (tie.spec
+    is-marked-requires
+    returns
+    has-union-requires
+    returns-2)

@@ -26,21 +26,21 @@ use Rattle.program.proofs.read.head_at.Reads as head-at-reads
 use Rattle.evaluate.proofs.+eval.{statement}
 use Rattle.evaluate.proofs.+eval.Tie.{close}
 
-abbrev μ-eval : Measures 8 eval-kinds.ps ℕ
-μ-eval κs a = a .1 .1 .1 .1 .1 .1 .1 .1 .1 .1 .1 .0
+abbrev μ-eval : Measures 9 eval-kinds.ps ℕ
+μ-eval κs a = a .1 .1 .1 .1 .1 .1 .1 .1 .1 .1 .1 .1 .0
 
-abbrev eval-at : ℕ → In 8 eval-kinds.ps
-eval-at t = and 8 eval-kinds.ps (is 8 eval-kinds.ps μ-eval t) eval.Pre
+abbrev eval-at : ℕ → In 9 eval-kinds.ps
+eval-at t = and 9 eval-kinds.ps (is 9 eval-kinds.ps μ-eval t) eval.Pre
 
-abbrev eval-below : ℕ → In 8 eval-kinds.ps
-eval-below t = and 8 eval-kinds.ps (falls 8 eval-kinds.ps _<_ μ-eval t) eval.Pre
+abbrev eval-below : ℕ → In 9 eval-kinds.ps
+eval-below t = and 9 eval-kinds.ps (falls 9 eval-kinds.ps _<_ μ-eval t) eval.Pre
 
 abbrev eval-Inv-loop : eval-lts.InvT-loop
-eval-Inv-loop job bound pairs globals rule fact skinds₀ sends₀ spool₀ memo₀ e at args count vals₀ have₀ i₀ skinds sends spool memo vals have i =
-    Turn fact (programFor job) rule (bindingsIn bound pairs globals) (sizesOf job .expressions) (argumentsFor job) (headFor job) (exprFor job) e args skinds₀ sends₀ spool₀ have₀ memo₀ skinds sends spool have memo vals i
+eval-Inv-loop job bound pairs globals rule fact skinds₀ sends₀ spool₀ index₀ memo₀ e at args count vals₀ have₀ i₀ skinds sends spool index memo vals have i =
+    Turn fact (programFor job) rule (bindingsIn bound pairs globals) (sizesOf job .expressions) (argumentsFor job) (headFor job) (exprFor job) e args skinds₀ sends₀ spool₀ index₀ have₀ memo₀ skinds sends spool index have memo vals i
 
 abbrev eval-μ-loop : eval-lts.MeasureT-loop
-eval-μ-loop job bound pairs globals rule fact skinds₀ sends₀ spool₀ memo₀ e at args count vals₀ have₀ i₀ skinds sends spool memo vals have i =
+eval-μ-loop job bound pairs globals rule fact skinds₀ sends₀ spool₀ index₀ memo₀ e at args count vals₀ have₀ i₀ skinds sends spool index memo vals have i =
     length args - i
 
 abbrev R-eval : ℕ → eval-lts.Claims
@@ -50,10 +50,10 @@ eval-wide-requires : (t : ℕ) → eval-lts.Need-wide-requires (R-eval t) (eval-
 eval-wide-requires t c κs = search needs
 
 eval-is-noted-requires : (t : ℕ) → eval-lts.Need-is-noted-requires (R-eval t) (eval-at t) eval.Post eval-Inv-loop eval-μ-loop
-eval-is-noted-requires t c κs = let pre = c .before .before .before .before .before .before .before .before .before .before .pre .1 in let l = pre .1 .1 .1 .long in let h = pre .1 .1 .0 in let w = c .before .wide .ensures in omega arith
+eval-is-noted-requires t c κs = let pre = c .before .before .before .before .before .before .before .before .before .before .before .pre .1 in let l = pre .1 .1 .1 .long in let h = pre .1 .1 .0 in let w = c .before .wide .ensures in omega arith
 
 eval-value-of-requires : (t : ℕ) → eval-lts.Need-value-of-requires (R-eval t) (eval-at t) eval.Post eval-Inv-loop eval-μ-loop
-eval-value-of-requires t c κs = let pre = c .before .before .before .before .before .before .before .before .before .before .before .before .before .pre .1 in let l = pre .1 .1 .1 .long in let h = pre .1 .1 .0 in let w = c .before .before .before .before .wide .ensures in omega arith
+eval-value-of-requires t c κs = let pre = c .before .before .before .before .before .before .before .before .before .before .before .before .before .before .pre .1 in let l = pre .1 .1 .1 .long in let h = pre .1 .1 .0 in let w = c .before .before .before .before .wide .ensures in omega arith
 
 eval-pass-requires : (t : ℕ) → eval-lts.Need-pass-requires (R-eval t) (eval-at t) eval.Post eval-Inv-loop eval-μ-loop
 eval-pass-requires t c κs = search needs
@@ -62,13 +62,13 @@ eval-same-length : (t : ℕ) → eval-lts.Need-same-length (R-eval t) (eval-at t
 eval-same-length t c = search needs
 
 eval-returns : (t : ℕ) → eval-lts.Need-returns (R-eval t) (eval-at t) eval.Post eval-Inv-loop eval-μ-loop
-eval-returns t c = let a = c .before .before .before .before .before .before .before .before .before .before .before .before .before .before .before .args in let pre = c .before .before .before .before .before .before .before .before .before .before .before .before .before .before .before .pre .1 in let prog = programFor (a .job .now) in let σ = bindingsIn (a .bound .now) (a .pairs .now) (a .globals .now) in let args = argumentsFor (a .job .now) in let head = headFor (a .job .now) in let expr = exprFor (a .job .now) in known (a .fact) prog (a .rule) σ (sizesOf (a .job .now) .expressions) args head expr (pre .1 .1 .0) (pre .1 .0) (pre .1 .1 .1) (ap (isNoted (a .memo .now)) (sym (c .before .before .before .before .before .before .wide .ensures)) ∙ sym (c .before .before .before .before .is-noted .ensures) ∙ c .before .before .before .if1 .taken) (c .pass .ensures ∙ ap (λ (v : ℕ). record { refusal = passed; value = v; fill = a .fill }) (c .before .value-of .ensures ∙ ap (valueAt (a .memo .now)) (c .before .before .before .before .before .before .wide .ensures)))
+eval-returns t c = let a = c .before .before .before .before .before .before .before .before .before .before .before .before .before .before .before .before .args in let pre = c .before .before .before .before .before .before .before .before .before .before .before .before .before .before .before .before .pre .1 in let prog = programFor (a .job .now) in let σ = bindingsIn (a .bound .now) (a .pairs .now) (a .globals .now) in let args = argumentsFor (a .job .now) in let head = headFor (a .job .now) in let expr = exprFor (a .job .now) in known (a .fact) prog (a .rule) σ (sizesOf (a .job .now) .expressions) args head expr (pre .1 .1 .0) (pre .1 .0) (pre .1 .1 .1) (ap (isNoted (a .memo .now)) (sym (c .before .before .before .before .before .before .wide .ensures)) ∙ sym (c .before .before .before .before .is-noted .ensures) ∙ c .before .before .before .if1 .taken) (c .pass .ensures ∙ ap (λ (v : ℕ). record { refusal = passed; value = v; fill = a .fill }) (c .before .value-of .ensures ∙ ap (valueAt (a .memo .now)) (c .before .before .before .before .before .before .wide .ensures)))
 
 eval-arguments-at-requires : (t : ℕ) → eval-lts.Need-arguments-at-requires (R-eval t) (eval-at t) eval.Post eval-Inv-loop eval-μ-loop
-eval-arguments-at-requires t c κs = let pre = c .before .before .before .before .before .before .before .before .before .before .before .before .pre .1 in let h = pre .1 .1 .0 in let w = c .before .before .before .wide .ensures in (pre .0, omega arith)
+eval-arguments-at-requires t c κs = let pre = c .before .before .before .before .before .before .before .before .before .before .before .before .before .pre .1 in let h = pre .1 .1 .0 in let w = c .before .before .before .wide .ensures in (pre .0, omega arith)
 
 eval-loop-holds : (t : ℕ) → eval-lts.Need-loop-holds (R-eval t) (eval-at t) eval.Post eval-Inv-loop eval-μ-loop
-eval-loop-holds t c = let a = c .before .before .before .before .before .before .before .before .before .before .before .before .before .args in let pre = c .before .before .before .before .before .before .before .before .before .before .before .before .before .pre .1 in let prog = programFor (a .job .now) in let σ = bindingsIn (a .bound .now) (a .pairs .now) (a .globals .now) in let args = argumentsFor (a .job .now) in let head = headFor (a .job .now) in let expr = exprFor (a .job .now) in start (a .fact) prog (a .rule) σ (sizesOf (a .job .now) .expressions) args head expr (node-for (pre .0) (a .e)) (c .arguments-at .ensures .is ∙ ap args (c .before .before .before .before .wide .ensures)) (pre .1 .0) (pre .1 .1 .1) refl
+eval-loop-holds t c = let a = c .before .before .before .before .before .before .before .before .before .before .before .before .before .before .args in let pre = c .before .before .before .before .before .before .before .before .before .before .before .before .before .before .pre .1 in let prog = programFor (a .job .now) in let σ = bindingsIn (a .bound .now) (a .pairs .now) (a .globals .now) in let args = argumentsFor (a .job .now) in let head = headFor (a .job .now) in let expr = exprFor (a .job .now) in start (a .fact) prog (a .rule) σ (sizesOf (a .job .now) .expressions) args head expr (node-for (pre .0) (a .e)) (c .arguments-at .ensures .is ∙ ap args (c .before .before .before .before .wide .ensures)) (pre .1 .0) (pre .1 .1 .1) refl
 
 eval-mul-eval : (t : ℕ) → eval-lts.Need-mul-eval (R-eval t) (eval-at t) eval.Post eval-Inv-loop eval-μ-loop
 eval-mul-eval t c = search needs
@@ -77,70 +77,73 @@ eval-shared-slice-read-eval : (t : ℕ) → eval-lts.Need-shared-slice-read-eval
 eval-shared-slice-read-eval t c = search needs
 
 eval-eval-requires : (t : ℕ) → eval-lts.Need-eval-requires (R-eval t) (eval-at t) eval.Post eval-Inv-loop eval-μ-loop
-eval-eval-requires t c κs = let a = c .before .before .before .before .before .before .before .before .before .before .before .before .before .before .before .before .before .before .before .before .args in let pre = c .before .before .before .before .before .before .before .before .before .before .before .before .before .before .before .before .before .before .before .before .pre .1 in let prog = programFor (a .job .now) in let σ = bindingsIn (a .bound .now) (a .pairs .now) (a .globals .now) in let args = argumentsFor (a .job .now) in let head = headFor (a .job .now) in let expr = exprFor (a .job .now) in let l = c .before .before .before .before .before .before .before .arguments-at .ensures .lower (c .before .before .before .before .before .before .loop .i) (search needs) in let w = c .before .before .before .before .before .before .before .before .before .before .before .wide .ensures in let h = pre .1 .1 .0 in (let m = c .before .before .before .before .before .before .before .before .before .before .before .before .before .before .before .before .before .before .before .before .pre .0 in omega arith, (pre .0, (c .before .before .before .before .before .before .loop .inv .run .grown .stored, (omega arith, next-memo (a .fact) prog (a .rule) σ (sizesOf (a .job .now) .expressions) args head expr (c .before .before .before .before .before .before .loop .inv)))))
+eval-eval-requires t c κs = let a = c .before .before .before .before .before .before .before .before .before .before .before .before .before .before .before .before .before .before .before .before .before .before .args in let pre = c .before .before .before .before .before .before .before .before .before .before .before .before .before .before .before .before .before .before .before .before .before .before .pre .1 in let prog = programFor (a .job .now) in let σ = bindingsIn (a .bound .now) (a .pairs .now) (a .globals .now) in let args = argumentsFor (a .job .now) in let head = headFor (a .job .now) in let expr = exprFor (a .job .now) in let l = c .before .before .before .before .before .before .before .before .arguments-at .ensures .lower (c .before .before .before .before .before .before .before .loop .i) (search needs) in let w = c .before .before .before .before .before .before .before .before .before .before .before .before .wide .ensures in let h = pre .1 .1 .0 in (let m = c .before .before .before .before .before .before .before .before .before .before .before .before .before .before .before .before .before .before .before .before .before .before .pre .0 in omega arith, (pre .0, (c .before .before .before .before .before .before .before .loop .inv .run .grown .indexed, (omega arith, next-memo (a .fact) prog (a .rule) σ (sizesOf (a .job .now) .expressions) args head expr (c .before .before .before .before .before .before .before .loop .inv)))))
 
 eval-same-length-2 : (t : ℕ) → eval-lts.Need-same-length-2 (R-eval t) (eval-at t) eval.Post eval-Inv-loop eval-μ-loop
-eval-same-length-2 t c = c .before .before .before .before .before .before .before .before .before .before .eval .ensures .does .grown .lenK ∙ c .before .before .before .before .before .before .before .before .before .before .before .before .before .before .before .before .before .loop .inv .run .grown .lenK
+eval-same-length-2 t c = c .before .before .before .before .before .before .before .before .before .before .before .before .eval .ensures .does .grown .lenK ∙ c .before .before .before .before .before .before .before .before .before .before .before .before .before .before .before .before .before .before .before .before .loop .inv .run .grown .lenK
 
 eval-same-length-3 : (t : ℕ) → eval-lts.Need-same-length-3 (R-eval t) (eval-at t) eval.Post eval-Inv-loop eval-μ-loop
-eval-same-length-3 t c = c .before .before .before .before .before .before .before .before .before .before .eval .ensures .does .grown .lenE ∙ c .before .before .before .before .before .before .before .before .before .before .before .before .before .before .before .before .before .loop .inv .run .grown .lenE
+eval-same-length-3 t c = c .before .before .before .before .before .before .before .before .before .before .before .before .eval .ensures .does .grown .lenE ∙ c .before .before .before .before .before .before .before .before .before .before .before .before .before .before .before .before .before .before .before .before .loop .inv .run .grown .lenE
 
 eval-same-length-4 : (t : ℕ) → eval-lts.Need-same-length-4 (R-eval t) (eval-at t) eval.Post eval-Inv-loop eval-μ-loop
-eval-same-length-4 t c = c .before .before .before .before .before .before .before .before .before .before .eval .ensures .does .grown .lenP ∙ c .before .before .before .before .before .before .before .before .before .before .before .before .before .before .before .before .before .loop .inv .run .grown .lenP
+eval-same-length-4 t c = c .before .before .before .before .before .before .before .before .before .before .before .before .eval .ensures .does .grown .lenP ∙ c .before .before .before .before .before .before .before .before .before .before .before .before .before .before .before .before .before .before .before .before .loop .inv .run .grown .lenP
 
 eval-same-length-5 : (t : ℕ) → eval-lts.Need-same-length-5 (R-eval t) (eval-at t) eval.Post eval-Inv-loop eval-μ-loop
-eval-same-length-5 t c = search needs
+eval-same-length-5 t c = c .before .before .before .before .before .before .before .before .before .before .before .before .eval .ensures .does .grown .lenI ∙ c .before .before .before .before .before .before .before .before .before .before .before .before .before .before .before .before .before .before .before .before .loop .inv .run .grown .lenI
+
+eval-same-length-6 : (t : ℕ) → eval-lts.Need-same-length-6 (R-eval t) (eval-at t) eval.Post eval-Inv-loop eval-μ-loop
+eval-same-length-6 t c = search needs
 
 eval-returns-2 : (t : ℕ) → eval-lts.Need-returns-2 (R-eval t) (eval-at t) eval.Post eval-Inv-loop eval-μ-loop
-eval-returns-2 t c = let a = c .before .before .before .before .before .before .before .before .before .before .before .before .before .before .before .before .before .before .before .before .before .before .before .before .before .before .before .before .before .before .before .args in let pre = c .before .before .before .before .before .before .before .before .before .before .before .before .before .before .before .before .before .before .before .before .before .before .before .before .before .before .before .before .before .before .before .pre .1 in let prog = programFor (a .job .now) in let σ = bindingsIn (a .bound .now) (a .pairs .now) (a .globals .now) in let args = argumentsFor (a .job .now) in let head = headFor (a .job .now) in let expr = exprFor (a .job .now) in stops (a .fact) prog (a .rule) σ (sizesOf (a .job .now) .expressions) args head expr (c .before .before .before .before .before .before .before .before .before .before .before .before .before .before .before .before .before .loop .inv) (search needs) (c .before .before .before .before .before .before .before .before .before .before .eval .ensures) (search needs)
+eval-returns-2 t c = let a = c .before .before .before .before .before .before .before .before .before .before .before .before .before .before .before .before .before .before .before .before .before .before .before .before .before .before .before .before .before .before .before .before .before .before .before .args in let pre = c .before .before .before .before .before .before .before .before .before .before .before .before .before .before .before .before .before .before .before .before .before .before .before .before .before .before .before .before .before .before .before .before .before .before .before .pre .1 in let prog = programFor (a .job .now) in let σ = bindingsIn (a .bound .now) (a .pairs .now) (a .globals .now) in let args = argumentsFor (a .job .now) in let head = headFor (a .job .now) in let expr = exprFor (a .job .now) in stops (a .fact) prog (a .rule) σ (sizesOf (a .job .now) .expressions) args head expr (c .before .before .before .before .before .before .before .before .before .before .before .before .before .before .before .before .before .before .before .before .loop .inv) (c .before .before .before .before .before .before .before .before .before .before .before .before .before .before .before .before .before .before .before .loop-test .taken) (c .before .before .before .before .before .before .before .before .before .before .before .before .eval .ensures) (search needs)
 
 eval-mul-vals : (t : ℕ) → eval-lts.Need-mul-vals (R-eval t) (eval-at t) eval.Post eval-Inv-loop eval-μ-loop
-eval-mul-vals t c = search needs
+eval-mul-vals t c = let i = c .before .before .before .before .before .before .before .before .before .before .before .before .before .before .before .before .before .before .before .loop-test .taken in let f = c .before .before .before .before .before .before .before .before .before .before .before .before .before .before .before .before .before .before .before .before .before .arguments-at .ensures .few in record { fits = omega arith }
 
 eval-array-write-vals : (t : ℕ) → eval-lts.Need-array-write-vals (R-eval t) (eval-at t) eval.Post eval-Inv-loop eval-μ-loop
-eval-array-write-vals t c = let f = c .before .before .before .before .before .before .before .before .before .before .before .before .before .before .before .before .before .before .arguments-at .ensures .few in let h = c .before .before .before .before .before .before .before .before .before .before .before .before .before .before .before .before .before .loop .inv .full in let t = c .before .before .before .before .before .before .before .before .before .before .before .before .before .before .before .before .loop-test .taken in omega arith
+eval-array-write-vals t c = let f = c .before .before .before .before .before .before .before .before .before .before .before .before .before .before .before .before .before .before .before .before .before .arguments-at .ensures .few in let h = c .before .before .before .before .before .before .before .before .before .before .before .before .before .before .before .before .before .before .before .before .loop .inv .full in let t = c .before .before .before .before .before .before .before .before .before .before .before .before .before .before .before .before .before .before .before .loop-test .taken in omega arith
 
 eval-add-i : (t : ℕ) → eval-lts.Need-add-i (R-eval t) (eval-at t) eval.Post eval-Inv-loop eval-μ-loop
-eval-add-i t c = search needs
+eval-add-i t c = let i = c .before .before .before .before .before .before .before .before .before .before .before .before .before .before .before .before .before .before .before .before .loop-test .taken in let f = c .before .before .before .before .before .before .before .before .before .before .before .before .before .before .before .before .before .before .before .before .before .before .arguments-at .ensures .few in record { fits = omega arith }
 
 eval-loop-less : (t : ℕ) → eval-lts.Need-loop-less (R-eval t) (eval-at t) eval.Post eval-Inv-loop eval-μ-loop
 eval-loop-less t c = search needs
 
 eval-loop-again : (t : ℕ) → eval-lts.Need-loop-again (R-eval t) (eval-at t) eval.Post eval-Inv-loop eval-μ-loop
-eval-loop-again t c = let a = c .before .before .before .before .before .before .before .before .before .before .before .before .before .before .before .before .before .before .before .before .before .before .before .before .before .before .before .before .before .before .before .before .args in let pre = c .before .before .before .before .before .before .before .before .before .before .before .before .before .before .before .before .before .before .before .before .before .before .before .before .before .before .before .before .before .before .before .before .pre .1 in let prog = programFor (a .job .now) in let σ = bindingsIn (a .bound .now) (a .pairs .now) (a .globals .now) in let args = argumentsFor (a .job .now) in let head = headFor (a .job .now) in let expr = exprFor (a .job .now) in turns (a .fact) prog (a .rule) σ (sizesOf (a .job .now) .expressions) args head expr (c .before .before .before .before .before .before .before .before .before .before .before .before .before .before .before .before .before .before .loop .inv) (search needs) (c .before .before .before .before .before .before .before .before .before .before .before .eval .ensures) (c .before .before .before .before .before .before .before .before .before .before .before .before .before .before .before .before .before .before .before .arguments-at .ensures .is ∙ ap args (c .before .before .before .before .before .before .before .before .before .before .before .before .before .before .before .before .before .before .before .before .before .before .before .wide .ensures)) (c .before .before .before .before .before .before .before .before .before .before .before .before .before .before .before .before .before .before .before .arguments-at .ensures .few) (λ j u. let l = c .before .before .before .before .before .before .before .before .before .before .before .before .before .before .before .before .before .before .before .arguments-at .ensures .lower j u in let w = c .before .before .before .before .before .before .before .before .before .before .before .before .before .before .before .before .before .before .before .before .before .before .before .wide .ensures in let h = pre .1 .1 .0 in omega arith) (search needs) (search needs)
+eval-loop-again t c = let a = c .before .before .before .before .before .before .before .before .before .before .before .before .before .before .before .before .before .before .before .before .before .before .before .before .before .before .before .before .before .before .before .before .before .before .before .before .args in let pre = c .before .before .before .before .before .before .before .before .before .before .before .before .before .before .before .before .before .before .before .before .before .before .before .before .before .before .before .before .before .before .before .before .before .before .before .before .pre .1 in let prog = programFor (a .job .now) in let σ = bindingsIn (a .bound .now) (a .pairs .now) (a .globals .now) in let args = argumentsFor (a .job .now) in let head = headFor (a .job .now) in let expr = exprFor (a .job .now) in turns (a .fact) prog (a .rule) σ (sizesOf (a .job .now) .expressions) args head expr (c .before .before .before .before .before .before .before .before .before .before .before .before .before .before .before .before .before .before .before .before .before .loop .inv) (c .before .before .before .before .before .before .before .before .before .before .before .before .before .before .before .before .before .before .before .before .loop-test .taken) (c .before .before .before .before .before .before .before .before .before .before .before .before .before .eval .ensures) (c .before .before .before .before .before .before .before .before .before .before .before .before .before .before .before .before .before .before .before .before .before .before .arguments-at .ensures .is ∙ ap args (c .before .before .before .before .before .before .before .before .before .before .before .before .before .before .before .before .before .before .before .before .before .before .before .before .before .before .wide .ensures)) (c .before .before .before .before .before .before .before .before .before .before .before .before .before .before .before .before .before .before .before .before .before .before .arguments-at .ensures .few) (λ j u. let l = c .before .before .before .before .before .before .before .before .before .before .before .before .before .before .before .before .before .before .before .before .before .before .arguments-at .ensures .lower j u in let w = c .before .before .before .before .before .before .before .before .before .before .before .before .before .before .before .before .before .before .before .before .before .before .before .before .before .before .wide .ensures in let h = pre .1 .1 .0 in omega arith) (search needs) (search needs)
 
 eval-head-at-requires : (t : ℕ) → eval-lts.Need-head-at-requires (R-eval t) (eval-at t) eval.Post eval-Inv-loop eval-μ-loop
-eval-head-at-requires t c κs = let pre = c .before .before .before .before .before .before .before .before .before .before .before .before .before .before .before .pre .1 in let h = pre .1 .1 .0 in let w = c .before .before .before .before .before .before .wide .ensures in (pre .0, omega arith)
-
-eval-value-of-requires-2 : (t : ℕ) → eval-lts.Need-value-of-requires-2 (R-eval t) (eval-at t) eval.Post eval-Inv-loop eval-μ-loop
-eval-value-of-requires-2 t c κs = let pre = c .before .before .before .before .before .before .before .before .before .before .before .before .before .before .before .before .before .pre .1 in let l = c .before .before .before .loop .inv .memo .long in let h = pre .1 .1 .0 in let w = c .before .before .before .before .before .before .before .before .wide .ensures in omega arith
+eval-head-at-requires t c κs = let pre = c .before .before .before .before .before .before .before .before .before .before .before .before .before .before .before .before .pre .1 in let h = pre .1 .1 .0 in let w = c .before .before .before .before .before .before .wide .ensures in (pre .0, omega arith)
 
 eval-array-share-prefix-vals : (t : ℕ) → eval-lts.Need-array-share-prefix-vals (R-eval t) (eval-at t) eval.Post eval-Inv-loop eval-μ-loop
-eval-array-share-prefix-vals t c = let f = c .before .before .before .before .before .before .before .before .arguments-at .ensures .few in let h = c .before .before .before .before .before .before .before .loop .inv .full in omega arith
+eval-array-share-prefix-vals t c = let f = c .before .before .before .before .before .before .before .arguments-at .ensures .few in let h = c .before .before .before .before .before .before .loop .inv .full in omega arith
 
 eval-slice-aggregate-head-value : (t : ℕ) → eval-lts.Need-slice-aggregate-head-value (R-eval t) (eval-at t) eval.Post eval-Inv-loop eval-μ-loop
-eval-slice-aggregate-head-value t c = let f = c .before .before .before .before .before .before .before .before .before .arguments-at .ensures .few in let h = c .before .before .before .before .before .before .before .before .loop .inv .full in simp length-take (omega arith)
+eval-slice-aggregate-head-value t c = let f = c .before .before .before .before .before .before .before .before .arguments-at .ensures .few in let h = c .before .before .before .before .before .before .before .loop .inv .full in simp length-take (omega arith)
 
 eval-head-value-requires : (t : ℕ) → eval-lts.Need-head-value-requires (R-eval t) (eval-at t) eval.Post eval-Inv-loop eval-μ-loop
-eval-head-value-requires t c κs = let pre = c .before .before .before .before .before .before .before .before .before .before .before .before .before .before .before .before .before .before .before .before .before .before .pre .1 in (pre .0, (c .before .before .before .before .before .before .before .before .loop .inv .run .grown .stored, (let f = c .before .before .before .before .before .before .before .before .before .arguments-at .ensures .few in simp length-take (omega arith), c .before .before .before .before .before .before .head-at .ensures .primitive)))
+eval-head-value-requires t c κs = let pre = c .before .before .before .before .before .before .before .before .before .before .before .before .before .before .before .before .before .before .before .before .before .before .pre .1 in (pre .0, (c .before .before .before .before .before .before .before .loop .inv .run .grown .indexed, (let f = c .before .before .before .before .before .before .before .before .arguments-at .ensures .few in simp length-take (omega arith), c .before .before .before .before .before .head-at .ensures .primitive)))
 
 eval-note-requires : (t : ℕ) → eval-lts.Need-note-requires (R-eval t) (eval-at t) eval.Post eval-Inv-loop eval-μ-loop
-eval-note-requires t c κs = let pre = c .before .before .before .before .before .before .before .before .before .before .before .before .before .before .before .before .before .before .before .before .before .before .before .before .before .before .before .before .before .before .pre .1 in let l = c .before .before .before .before .before .before .before .before .before .before .before .before .before .before .before .before .loop .inv .memo .long in let h = pre .1 .1 .0 in let w = c .before .before .before .before .before .before .before .before .before .before .before .before .before .before .before .before .before .before .before .before .before .wide .ensures in omega arith
-
-eval-same-length-6 : (t : ℕ) → eval-lts.Need-same-length-6 (R-eval t) (eval-at t) eval.Post eval-Inv-loop eval-μ-loop
-eval-same-length-6 t c = c .before .before .before .before .before .before .before .before .before .before .head-value .ensures .grown .lenK ∙ c .before .before .before .before .before .before .before .before .before .before .before .before .before .before .before .before .before .before .before .loop .inv .run .grown .lenK
+eval-note-requires t c κs = let pre = c .before .before .before .before .before .before .before .before .before .before .before .before .before .before .before .before .before .before .before .before .before .before .before .before .before .before .before .before .before .before .before .before .pre .1 in let l = c .before .before .before .before .before .before .before .before .before .before .before .before .before .before .before .before .before .loop .inv .memo .long in let h = pre .1 .1 .0 in let w = c .before .before .before .before .before .before .before .before .before .before .before .before .before .before .before .before .before .before .before .before .before .before .wide .ensures in omega arith
 
 eval-same-length-7 : (t : ℕ) → eval-lts.Need-same-length-7 (R-eval t) (eval-at t) eval.Post eval-Inv-loop eval-μ-loop
-eval-same-length-7 t c = c .before .before .before .before .before .before .before .before .before .before .head-value .ensures .grown .lenE ∙ c .before .before .before .before .before .before .before .before .before .before .before .before .before .before .before .before .before .before .before .loop .inv .run .grown .lenE
+eval-same-length-7 t c = c .before .before .before .before .before .before .before .before .before .before .before .before .head-value .ensures .grown .lenK ∙ c .before .before .before .before .before .before .before .before .before .before .before .before .before .before .before .before .before .before .before .before .loop .inv .run .grown .lenK
 
 eval-same-length-8 : (t : ℕ) → eval-lts.Need-same-length-8 (R-eval t) (eval-at t) eval.Post eval-Inv-loop eval-μ-loop
-eval-same-length-8 t c = c .before .before .before .before .before .before .before .before .before .before .head-value .ensures .grown .lenP ∙ c .before .before .before .before .before .before .before .before .before .before .before .before .before .before .before .before .before .before .before .loop .inv .run .grown .lenP
+eval-same-length-8 t c = c .before .before .before .before .before .before .before .before .before .before .before .before .head-value .ensures .grown .lenE ∙ c .before .before .before .before .before .before .before .before .before .before .before .before .before .before .before .before .before .before .before .before .loop .inv .run .grown .lenE
 
 eval-same-length-9 : (t : ℕ) → eval-lts.Need-same-length-9 (R-eval t) (eval-at t) eval.Post eval-Inv-loop eval-μ-loop
-eval-same-length-9 t c = c .before .before .note .kept .0 ∙ c .before .before .before .before .before .before .before .before .before .before .before .before .before .before .before .before .before .before .before .loop .inv .lenM
+eval-same-length-9 t c = c .before .before .before .before .before .before .before .before .before .before .before .before .head-value .ensures .grown .lenP ∙ c .before .before .before .before .before .before .before .before .before .before .before .before .before .before .before .before .before .before .before .before .loop .inv .run .grown .lenP
+
+eval-same-length-10 : (t : ℕ) → eval-lts.Need-same-length-10 (R-eval t) (eval-at t) eval.Post eval-Inv-loop eval-μ-loop
+eval-same-length-10 t c = c .before .before .before .before .before .before .before .before .before .before .before .before .head-value .ensures .grown .lenI ∙ c .before .before .before .before .before .before .before .before .before .before .before .before .before .before .before .before .before .before .before .before .loop .inv .run .grown .lenI
+
+eval-same-length-11 : (t : ℕ) → eval-lts.Need-same-length-11 (R-eval t) (eval-at t) eval.Post eval-Inv-loop eval-μ-loop
+eval-same-length-11 t c = c .before .before .note .kept .0 ∙ c .before .before .before .before .before .before .before .before .before .before .before .before .before .before .before .before .before .before .before .before .loop .inv .lenM
 
 eval-returns-3 : (t : ℕ) → eval-lts.Need-returns-3 (R-eval t) (eval-at t) eval.Post eval-Inv-loop eval-μ-loop
-eval-returns-3 t c = let a = c .before .before .before .before .before .before .before .before .before .before .before .before .before .before .before .before .before .before .before .before .before .before .before .before .before .before .before .before .before .before .before .before .before .args in let pre = c .before .before .before .before .before .before .before .before .before .before .before .before .before .before .before .before .before .before .before .before .before .before .before .before .before .before .before .before .before .before .before .before .before .pre .1 in let prog = programFor (a .job .now) in let σ = bindingsIn (a .bound .now) (a .pairs .now) (a .globals .now) in let args = argumentsFor (a .job .now) in let head = headFor (a .job .now) in let expr = exprFor (a .job .now) in finishes (a .fact) prog (a .rule) σ (sizesOf (a .job .now) .expressions) args head expr (c .before .before .before .before .before .before .before .before .before .before .before .before .before .before .before .before .before .before .before .loop .inv) (c .before .before .before .before .before .before .before .before .before .before .before .before .before .before .before .before .before .before .loop-test .left) (c .before .before .before .before .before .before .before .before .before .before .before .before .before .before .before .before .before .before .before .before .arguments-at .ensures .is ∙ ap args (c .before .before .before .before .before .before .before .before .before .before .before .before .before .before .before .before .before .before .before .before .before .before .before .before .wide .ensures)) (pre .1 .1 .0) (at-head (a .fact) _ prog (a .rule) σ _ _ (c .before .before .before .before .before .before .before .before .before .before .before .before .before .before .before .before .before .head-at .ensures .is ∙ ap head (c .before .before .before .before .before .before .before .before .before .before .before .before .before .before .before .before .before .before .before .before .before .before .before .before .wide .ensures)) (c .before .before .before .before .before .before .before .before .before .before .head-value .ensures)) (c .before .before .note .ensures ∙ ap (λ (k : ℕ). noteAt (c .before .before .before .before .before .before .before .before .before .before .before .before .before .before .before .before .before .before .before .loop .memo) k (c .before .before .before .before .before .before .before .before .before .before .head-value .result .value)) (c .before .before .before .before .before .before .before .before .before .before .before .before .before .before .before .before .before .before .before .before .before .before .before .before .wide .ensures))
+eval-returns-3 t c = let a = c .before .before .before .before .before .before .before .before .before .before .before .before .before .before .before .before .before .before .before .before .before .before .before .before .before .before .before .before .before .before .before .before .before .before .before .args in let pre = c .before .before .before .before .before .before .before .before .before .before .before .before .before .before .before .before .before .before .before .before .before .before .before .before .before .before .before .before .before .before .before .before .before .before .before .pre .1 in let prog = programFor (a .job .now) in let σ = bindingsIn (a .bound .now) (a .pairs .now) (a .globals .now) in let args = argumentsFor (a .job .now) in let head = headFor (a .job .now) in let expr = exprFor (a .job .now) in finishes (a .fact) prog (a .rule) σ (sizesOf (a .job .now) .expressions) args head expr (c .before .before .before .before .before .before .before .before .before .before .before .before .before .before .before .before .before .before .before .before .loop .inv) (c .before .before .before .before .before .before .before .before .before .before .before .before .before .before .before .before .before .before .before .loop-test .left) (c .before .before .before .before .before .before .before .before .before .before .before .before .before .before .before .before .before .before .before .before .before .arguments-at .ensures .is ∙ ap args (c .before .before .before .before .before .before .before .before .before .before .before .before .before .before .before .before .before .before .before .before .before .before .before .before .before .wide .ensures)) (pre .1 .1 .0) (at-head (a .fact) _ prog (a .rule) σ _ _ (c .before .before .before .before .before .before .before .before .before .before .before .before .before .before .before .before .before .before .head-at .ensures .is ∙ ap head (c .before .before .before .before .before .before .before .before .before .before .before .before .before .before .before .before .before .before .before .before .before .before .before .before .before .wide .ensures)) (c .before .before .before .before .before .before .before .before .before .before .before .before .head-value .ensures)) (c .before .before .note .ensures ∙ ap (λ (k : ℕ). noteAt (c .before .before .before .before .before .before .before .before .before .before .before .before .before .before .before .before .before .before .before .before .loop .memo) k (c .before .before .before .before .before .before .before .before .before .before .before .before .head-value .result .value)) (c .before .before .before .before .before .before .before .before .before .before .before .before .before .before .before .before .before .before .before .before .before .before .before .before .before .wide .ensures))
 
 pub +eval-spec : {M : Type 1} → statement M
 +eval-spec = close μ-eval λ t. eval-lts.spec (R-eval t)
@@ -163,6 +166,7 @@ pub +eval-spec : {M : Type 1} → statement M
     (eval-same-length-3 t)
     (eval-same-length-4 t)
     (eval-same-length-5 t)
+    (eval-same-length-6 t)
     (eval-returns-2 t)
     (eval-mul-vals t)
     (eval-array-write-vals t)
@@ -170,13 +174,13 @@ pub +eval-spec : {M : Type 1} → statement M
     (eval-loop-less t)
     (eval-loop-again t)
     (eval-head-at-requires t)
-    (eval-value-of-requires-2 t)
     (eval-array-share-prefix-vals t)
     (eval-slice-aggregate-head-value t)
     (eval-head-value-requires t)
     (eval-note-requires t)
-    (eval-same-length-6 t)
     (eval-same-length-7 t)
     (eval-same-length-8 t)
     (eval-same-length-9 t)
+    (eval-same-length-10 t)
+    (eval-same-length-11 t)
     (eval-returns-3 t)

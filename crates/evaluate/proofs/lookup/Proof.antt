@@ -4,19 +4,18 @@ use mathlib.Core.Path.{sym, ap, _∙_}
 use borrow.Author.Needs.{needs}
 use Rattle.evaluate.proofs.lookup.Statement.{statement}
 use Rattle.evaluate.proofs.lookup.Tie as tie
-use Rattle.evaluate.proofs.lookup.Reads as reads
-use Rattle.evaluate.proofs.lookup.Lts as lts
-use Rattle.program.proofs.lookup_pairs.Reads as lookup-pairs-reads
 
 -- src/lib.rt:46:9
 lookup-pairs-requires : tie.Need-lookup-pairs-requires
 lookup-pairs-requires c κs = search needs
 
 -- src/lib.rt:47:25
+
 enum-known-first : tie.Need-enum-known-first
 enum-known-first c = search needs
 
 -- src/lib.rt:48:9
+
 returns : tie.Need-returns
 returns c = let a = c .before .before .before .before .before .before .before .args in found-first (a .bound .now) (a .pairs .now) (a .globals .now) (a .name) _ (ap optionOf (sym (c .before .first .given .1)) ∙ c .before .before .before .lookup-pairs .ensures)
 
@@ -24,14 +23,17 @@ enum-told : tie.Need-enum-told
 enum-told c = search needs
 
 -- src/lib.rt:50:9
+
 lookup-pairs-requires-2 : tie.Need-lookup-pairs-requires-2
 lookup-pairs-requires-2 c κs = search needs
 
 -- src/lib.rt:51:25
+
 enum-known-second : tie.Need-enum-known-second
 enum-known-second c = search needs
 
 -- src/lib.rt:52:9
+
 returns-2 : tie.Need-returns-2
 returns-2 c = let a = c .before .before .before .before .before .before .before .before .before .before .args in found-second (a .bound .now) (a .pairs .now) (a .globals .now) (a .name) _ (ap optionOf (sym (c .before .before .before .before .enum-told .given .1)) ∙ c .before .before .before .before .before .before .lookup-pairs .ensures) (ap optionOf (sym (c .before .second .given .1)) ∙ c .before .before .before .lookup-pairs2 .ensures)
 
@@ -39,10 +41,12 @@ enum-told-2 : tie.Need-enum-told-2
 enum-told-2 c = search needs
 
 -- src/lib.rt:54:5
+
 lookup-pairs-requires-3 : tie.Need-lookup-pairs-requires-3
 lookup-pairs-requires-3 c κs = search needs
 
 -- src/lib.rt:43:1
+
 returns-3 : tie.Need-returns-3
 returns-3 c = let a = c .before .before .before .before .before .before .before .before .before .before .args in found-third (a .bound .now) (a .pairs .now) (a .globals .now) (a .name) _ (ap optionOf (sym (c .before .before .before .before .enum-told .given .1)) ∙ c .before .before .before .before .before .before .lookup-pairs .ensures) (ap optionOf (sym (c .before .enum-told2 .given .1)) ∙ c .before .before .before .lookup-pairs2 .ensures) (c .lookup-pairs3 .ensures)
 

@@ -15,4 +15,9 @@ returns-2 : tie.Need-returns-2
 returns-2 c = let a = c .before .before .args in λ e s. bare-differs (a .rule) (a .i) (propositionOf (a .w)) (propositionOf (a .q)) s e (sym (c .before .same-right .ensures) ∙ c .if1 .left)
 
 pub bare-matches-spec : {M : Type 1} → statement M
-bare-matches-spec = tie.close (tie.spec same-right-requires returns returns-2)
+bare-matches-spec =
+    tie.close
+    (tie.spec
+    same-right-requires
+    returns
+    returns-2)

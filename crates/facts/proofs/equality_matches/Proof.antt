@@ -25,4 +25,11 @@ returns-3 c = let a = c .before .before .before .before .before .before .before 
 
 pub equality-matches-spec : {M : Type 1} → statement M
 equality-matches-spec =
-    tie.close (tie.spec function-fact-requires returns enum-told enum-told-2 returns-2 returns-3)
+    tie.close
+    (tie.spec
+    function-fact-requires
+    returns
+    enum-told
+    enum-told-2
+    returns-2
+    returns-3)

@@ -5,25 +5,24 @@ use mathlib.Core.Path.{sym, ap, _∙_}
 use borrow.Author.Needs.{needs}
 use Rattle.heads.proofs.clear_if.Statement.{statement}
 use Rattle.heads.proofs.clear_if.Tie as tie
-use Rattle.heads.proofs.clear_if.Reads as reads
-use Rattle.heads.proofs.clear_if.Lts as lts
-use Rattle.marks.proofs.clear.Reads as clear-reads
 
--- src/lib.rt:112:9
 returns : tie.Need-returns
 returns c = ap (λ (b : Bool). clearedIf b (c .before .before .args .marks .now)) (sym (not-true (c .before .before .args .marking) (c .if1 .taken)))
 
--- src/lib.rt:114:5
 clear-requires : tie.Need-clear-requires
 clear-requires c κs = search needs
 
--- src/lib.rt:108:1
 same-length : tie.Need-same-length
 same-length c = search needs
 
--- src/lib.rt:108:1
 returns-2 : tie.Need-returns-2
 returns-2 c = c .before .before .clear .ensures ∙ ap (λ (b : Bool). clearedIf b (c .before .before .before .before .before .before .args .marks .now)) (sym (not-false (c .before .before .before .before .before .before .args .marking) (c .before .before .before .before .if1 .left)))
 
 pub clear-if-spec : {M : Type 1} → statement M
-clear-if-spec = tie.close (tie.spec returns clear-requires same-length returns-2)
+clear-if-spec =
+    tie.close
+    (tie.spec
+    returns
+    clear-requires
+    same-length
+    returns-2)

@@ -5,33 +5,32 @@ use mathlib.Core.Path.{sym, ap}
 use borrow.Author.Needs.{needs}
 use Rattle.heads.proofs.has_pair.Statement.{statement}
 use Rattle.heads.proofs.has_pair.Tie as tie
-use Rattle.heads.proofs.has_pair.Reads as reads
-use Rattle.heads.proofs.has_pair.Lts as lts
 
--- src/lib.rt:50:31
 enum-told : tie.Need-enum-told
 enum-told c = search needs
 
--- src/lib.rt:51:23
 enum-known-effect : tie.Need-enum-known-effect
 enum-known-effect c = search needs
 
--- src/lib.rt:52:28
 enum-told-2 : tie.Need-enum-told-2
 enum-told-2 c = search needs
 
--- src/lib.rt:46:1
 returns : tie.Need-returns
 returns c = search needs
 
--- src/lib.rt:46:1
 returns-2 : tie.Need-returns-2
 returns-2 c = ap (λ (e : Effect). effectHas e (propositionOf (c .before .before .before .before .before .before .before .args .q))) (sym (c .before .before .before .before .before .effect .given .1))
 
--- src/lib.rt:46:1
 returns-3 : tie.Need-returns-3
 returns-3 c = search needs
 
 pub has-pair-spec : {M : Type 1} → statement M
 has-pair-spec =
-    tie.close (tie.spec enum-told enum-known-effect enum-told-2 returns returns-2 returns-3)
+    tie.close
+    (tie.spec
+    enum-told
+    enum-known-effect
+    enum-told-2
+    returns
+    returns-2
+    returns-3)

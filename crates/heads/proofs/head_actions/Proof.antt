@@ -9,136 +9,107 @@ use mathlib.Core.List.{[]}
 use Prim.Native.Nat.{_-_}
 use Rattle.heads.proofs.head_actions.Statement.{statement}
 use Rattle.heads.proofs.head_actions.Tie as tie
-use Rattle.heads.proofs.head_actions.Reads as reads
-use Rattle.heads.proofs.head_actions.Lts as lts
-use Rattle.actions.proofs.process_action.Reads as process-action-reads
-use Rattle.actions.proofs.push_binding.Reads as push-binding-reads
-use Rattle.cells.proofs.copy.Reads as copy-reads
-use Rattle.heads.proofs.has_pair.Reads as has-pair-reads
 
 abbrev Inv-loop : tie.InvT-loop
-Inv-loop job bound pairs globals rule skinds₀ sends₀ spool₀ memo₀ marking marks₀ actions q table₀ at₀ have₀ found₀ i₀ skinds sends spool memo marks table at have found i =
-    Turn job rule pairs globals (propositionOf q) marking actions (bindingsIn bound pairs globals) skinds₀ sends₀ spool₀ have₀ memo₀ marks₀ skinds sends spool have memo marks table at found i
+Inv-loop job bound pairs globals rule skinds₀ sends₀ spool₀ index₀ memo₀ marking marks₀ actions q table₀ at₀ have₀ found₀ i₀ skinds sends spool index memo marks table at have found i =
+    Turn job rule pairs globals (propositionOf q) marking actions (bindingsIn bound pairs globals) skinds₀ sends₀ spool₀ index₀ have₀ memo₀ marks₀ skinds sends spool index have memo marks table at found i
 
 abbrev μ-loop : tie.MeasureT-loop
-μ-loop job bound pairs globals rule skinds₀ sends₀ spool₀ memo₀ marking marks₀ actions q table₀ at₀ have₀ found₀ i₀ skinds sends spool memo marks table at have found i =
+μ-loop job bound pairs globals rule skinds₀ sends₀ spool₀ index₀ memo₀ marking marks₀ actions q table₀ at₀ have₀ found₀ i₀ skinds sends spool index memo marks table at have found i =
     length actions - i
 
--- src/lib.rt:83:18
 sub-at : tie.Need-sub-at Inv-loop μ-loop
-sub-at c = let h = c .before .before .before .before .before .before .before .before .before .before .pre .1 .0 in omega arith
+sub-at c = let h = c .before .before .before .before .before .before .before .before .before .before .before .pre .1 .0 in omega arith
 
--- src/lib.rt:84:17
 slice-aggregate-copy : tie.Need-slice-aggregate-copy Inv-loop μ-loop
 slice-aggregate-copy c = search needs
 
--- src/lib.rt:84:5
 copy-requires : tie.Need-copy-requires Inv-loop μ-loop
-copy-requires c κs = let h = c .before .before .before .before .before .before .before .before .before .before .before .pre .1 .0 in omega arith
+copy-requires c κs = let h = c .before .before .before .before .before .before .before .before .before .before .before .before .pre .1 .0 in omega arith
 
--- src/lib.rt:88:5
 loop-holds : tie.Need-loop-holds Inv-loop μ-loop
-loop-holds c = let a = c .before .before .before .before .before .before .before .before .before .before .before .before .before .args in let pre = c .before .before .before .before .before .before .before .before .before .before .before .before .before .pre in let h = pre .1 .0 in start (a .job .now) (a .rule) (a .pairs .now) (a .globals .now) (propositionOf (a .q)) (a .marking) (pre .0) (pre .1 .1 .0) (omega arith) (omega arith) (search needs) (copied-at _ (a .bound .now) _ (omega arith) (c .before .copy .ensures))
+loop-holds c = let a = c .before .before .before .before .before .before .before .before .before .before .before .before .before .before .args in let pre = c .before .before .before .before .before .before .before .before .before .before .before .before .before .before .pre in let h = pre .1 .0 in start (a .job .now) (a .rule) (a .pairs .now) (a .globals .now) (propositionOf (a .q)) (a .marking) (pre .0) (pre .1 .1 .0) (omega arith) (omega arith) (search needs) (copied-at _ (a .bound .now) _ (omega arith) (c .before .copy .ensures))
 
--- src/lib.rt:89:54
 mul-process-action : tie.Need-mul-process-action Inv-loop μ-loop
 mul-process-action c = search needs
 
--- src/lib.rt:89:54
 sub-process-action : tie.Need-sub-process-action Inv-loop μ-loop
 sub-process-action c = let l = c .before .loop .inv .low in omega arith
 
--- src/lib.rt:89:54
 part-process-action-start : tie.Need-part-process-action-start Inv-loop μ-loop
 part-process-action-start c = let l = c .before .before .loop .inv .low in omega arith
 
--- src/lib.rt:89:54
 part-process-action-end : tie.Need-part-process-action-end Inv-loop μ-loop
 part-process-action-end c = search needs
 
--- src/lib.rt:89:140
 mul-process-action-2 : tie.Need-mul-process-action-2 Inv-loop μ-loop
-mul-process-action-2 c = let x = c .before .before .before .before .before .before .before .loop-test .taken in let y = c .before .before .before .before .before .before .before .before .before .before .before .before .before .before .before .before .before .before .before .before .before .before .pre .1 .1 .0 in omega arith
+mul-process-action-2 c = let x = c .before .before .before .before .before .before .before .before .loop-test .taken in let y = c .before .before .before .before .before .before .before .before .before .before .before .before .before .before .before .before .before .before .before .before .before .before .before .before .pre .1 .1 .0 in omega arith
 
--- src/lib.rt:89:140
 shared-slice-read-process-action : tie.Need-shared-slice-read-process-action Inv-loop μ-loop
 shared-slice-read-process-action c = search needs
 
--- src/lib.rt:89:13
 process-action-requires : tie.Need-process-action-requires Inv-loop μ-loop
-process-action-requires c κs = let a = c .before .before .before .before .before .before .before .before .before .before .before .before .before .before .before .before .before .before .before .before .before .before .before .args in let pre = c .before .before .before .before .before .before .before .before .before .before .before .before .before .before .before .before .before .before .before .before .before .before .before .pre in let t = c .before .before .before .before .before .before .before .before .before .loop .inv in (standing-part (a .pairs .now) (a .globals .now) (part-is (c .before .before .before .before .before .before .before .before .before .loop .table) (c .before .before .before .before .before .before .before .before .before .loop .at) (t .full)) (t .stand), pre .1 .1 .1 (c .before .before .before .before .before .before .before .before .before .loop .i) (search needs))
+process-action-requires c κs = let a = c .before .before .before .before .before .before .before .before .before .before .before .before .before .before .before .before .before .before .before .before .before .before .before .before .before .args in let pre = c .before .before .before .before .before .before .before .before .before .before .before .before .before .before .before .before .before .before .before .before .before .before .before .before .before .pre in let t = c .before .before .before .before .before .before .before .before .before .before .loop .inv in (standing-part (a .pairs .now) (a .globals .now) (part-is (c .before .before .before .before .before .before .before .before .before .before .loop .table) (c .before .before .before .before .before .before .before .before .before .before .loop .at) (t .full)) (t .stand), pre .1 .1 .1 (c .before .before .before .before .before .before .before .before .before .before .loop .i) (search needs))
 
--- src/lib.rt:93:13
 same-length : tie.Need-same-length Inv-loop μ-loop
-same-length c = c .before .before .before .before .before .before .before .before .before .before .before .before .before .before .process-action .ensures .does [] .grown .lenK ∙ c .before .before .before .before .before .before .before .before .before .before .before .before .before .before .before .before .before .before .before .before .before .before .before .before .loop .inv .grown .lenK
+same-length c = c .before .before .before .before .before .before .before .before .before .before .before .before .before .before .before .before .process-action .ensures .does [] .grown .lenK ∙ c .before .before .before .before .before .before .before .before .before .before .before .before .before .before .before .before .before .before .before .before .before .before .before .before .before .before .before .loop .inv .grown .lenK
 
--- src/lib.rt:93:13
 same-length-2 : tie.Need-same-length-2 Inv-loop μ-loop
-same-length-2 c = c .before .before .before .before .before .before .before .before .before .before .before .before .before .before .process-action .ensures .does [] .grown .lenE ∙ c .before .before .before .before .before .before .before .before .before .before .before .before .before .before .before .before .before .before .before .before .before .before .before .before .loop .inv .grown .lenE
+same-length-2 c = c .before .before .before .before .before .before .before .before .before .before .before .before .before .before .before .before .process-action .ensures .does [] .grown .lenE ∙ c .before .before .before .before .before .before .before .before .before .before .before .before .before .before .before .before .before .before .before .before .before .before .before .before .before .before .before .loop .inv .grown .lenE
 
--- src/lib.rt:93:13
 same-length-3 : tie.Need-same-length-3 Inv-loop μ-loop
-same-length-3 c = c .before .before .before .before .before .before .before .before .before .before .before .before .before .before .process-action .ensures .does [] .grown .lenP ∙ c .before .before .before .before .before .before .before .before .before .before .before .before .before .before .before .before .before .before .before .before .before .before .before .before .loop .inv .grown .lenP
+same-length-3 c = c .before .before .before .before .before .before .before .before .before .before .before .before .before .before .before .before .process-action .ensures .does [] .grown .lenP ∙ c .before .before .before .before .before .before .before .before .before .before .before .before .before .before .before .before .before .before .before .before .before .before .before .before .before .before .before .loop .inv .grown .lenP
 
--- src/lib.rt:93:13
 same-length-4 : tie.Need-same-length-4 Inv-loop μ-loop
-same-length-4 c = c .before .before .before .before .before .before .before .before .before .before .before .before .before .before .process-action .kept .1 .1 .1 .1 .1 .1 .1 .1 .1 .0 ∙ c .before .before .before .before .before .before .before .before .before .before .before .before .before .before .before .before .before .before .before .before .before .before .before .before .loop .inv .lenMemo
+same-length-4 c = c .before .before .before .before .before .before .before .before .before .before .before .before .before .before .before .before .process-action .ensures .does [] .grown .lenI ∙ c .before .before .before .before .before .before .before .before .before .before .before .before .before .before .before .before .before .before .before .before .before .before .before .before .before .before .before .loop .inv .grown .lenI
 
--- src/lib.rt:93:13
 same-length-5 : tie.Need-same-length-5 Inv-loop μ-loop
-same-length-5 c = c .before .before .before .before .before .before .before .before .before .before .before .before .before .before .process-action .kept .1 .1 .1 .1 .1 .1 .1 .1 .1 .1 .1 .0 ∙ c .before .before .before .before .before .before .before .before .before .before .before .before .before .before .before .before .before .before .before .before .before .before .before .before .loop .inv .lenM
+same-length-5 c = c .before .before .before .before .before .before .before .before .before .before .before .before .before .before .before .before .process-action .kept .1 .1 .1 .1 .1 .1 .1 .1 .1 .1 .0 ∙ c .before .before .before .before .before .before .before .before .before .before .before .before .before .before .before .before .before .before .before .before .before .before .before .before .before .before .before .loop .inv .lenMemo
 
--- src/lib.rt:93:13
+same-length-6 : tie.Need-same-length-6 Inv-loop μ-loop
+same-length-6 c = c .before .before .before .before .before .before .before .before .before .before .before .before .before .before .before .before .process-action .kept .1 .1 .1 .1 .1 .1 .1 .1 .1 .1 .1 .1 .0 ∙ c .before .before .before .before .before .before .before .before .before .before .before .before .before .before .before .before .before .before .before .before .before .before .before .before .before .before .before .loop .inv .lenM
+
 returns : tie.Need-returns Inv-loop μ-loop
-returns c = let a = c .before .before .before .before .before .before .before .before .before .before .before .before .before .before .before .before .before .before .before .before .before .before .before .before .before .before .before .before .before .before .before .before .before .before .before .before .before .before .args in let t = c .before .before .before .before .before .before .before .before .before .before .before .before .before .before .before .before .before .before .before .before .before .before .before .before .loop .inv in stops (a .job .now) (a .rule) (a .pairs .now) (a .globals .now) (propositionOf (a .q)) (a .marking) t (c .before .before .before .before .before .before .before .before .before .before .before .before .before .before .before .before .before .before .before .before .before .before .before .loop-test .taken) (acts-part (a .pairs .now) (a .globals .now) (part-is (c .before .before .before .before .before .before .before .before .before .before .before .before .before .before .before .before .before .before .before .before .before .before .before .before .loop .table) (c .before .before .before .before .before .before .before .before .before .before .before .before .before .before .before .before .before .before .before .before .before .before .before .before .loop .at) (t .full)) (c .before .before .before .before .before .before .before .before .before .before .before .before .before .before .process-action .ensures)) (c .before .if1 .taken) refl
+returns c = let a = c .before .before .before .before .before .before .before .before .before .before .before .before .before .before .before .before .before .before .before .before .before .before .before .before .before .before .before .before .before .before .before .before .before .before .before .before .before .before .before .before .before .before .args in let t = c .before .before .before .before .before .before .before .before .before .before .before .before .before .before .before .before .before .before .before .before .before .before .before .before .before .before .before .loop .inv in stops (a .job .now) (a .rule) (a .pairs .now) (a .globals .now) (propositionOf (a .q)) (a .marking) t (c .before .before .before .before .before .before .before .before .before .before .before .before .before .before .before .before .before .before .before .before .before .before .before .before .before .before .loop-test .taken) (acts-part (a .pairs .now) (a .globals .now) (part-is (c .before .before .before .before .before .before .before .before .before .before .before .before .before .before .before .before .before .before .before .before .before .before .before .before .before .before .before .loop .table) (c .before .before .before .before .before .before .before .before .before .before .before .before .before .before .before .before .before .before .before .before .before .before .before .before .before .before .before .loop .at) (t .full)) (c .before .before .before .before .before .before .before .before .before .before .before .before .before .before .before .before .process-action .ensures)) (c .before .if1 .taken) refl
 
--- src/lib.rt:96:25
 has-pair-requires : tie.Need-has-pair-requires Inv-loop μ-loop
 has-pair-requires c κs = search needs
 
--- src/lib.rt:97:27
 slice-aggregate-push-binding : tie.Need-slice-aggregate-push-binding Inv-loop μ-loop
-slice-aggregate-push-binding c = sym (c .before .before .before .before .before .before .before .before .before .before .before .before .before .before .before .before .before .before .before .before .before .before .before .before .before .loop .inv .full)
+slice-aggregate-push-binding c = sym (c .before .before .before .before .before .before .before .before .before .before .before .before .before .before .before .before .before .before .before .before .before .before .before .before .before .before .before .before .loop .inv .full)
 
--- src/lib.rt:97:9
 push-binding-requires : tie.Need-push-binding-requires Inv-loop μ-loop
-push-binding-requires c κs = let t = c .before .before .before .before .before .before .before .before .before .before .before .before .before .before .before .before .before .before .before .before .before .before .before .before .before .loop .inv in let f = t .free in let l = t .low in let h = t .full in let i = c .before .before .before .before .before .before .before .before .before .before .before .before .before .before .before .before .before .before .before .before .before .before .before .before .loop-test .taken in (omega arith, omega arith)
+push-binding-requires c κs = let t = c .before .before .before .before .before .before .before .before .before .before .before .before .before .before .before .before .before .before .before .before .before .before .before .before .before .before .before .before .loop .inv in let f = t .free in let l = t .low in let h = t .full in let i = c .before .before .before .before .before .before .before .before .before .before .before .before .before .before .before .before .before .before .before .before .before .before .before .before .before .before .before .loop-test .taken in (omega arith, omega arith)
 
--- src/lib.rt:98:9
 add-i : tie.Need-add-i Inv-loop μ-loop
-add-i c = let x = c .before .before .before .before .before .before .before .before .before .before .before .before .before .before .before .before .before .before .before .before .before .before .before .before .before .before .loop-test .taken in let y = c .before .before .before .before .before .before .before .before .before .before .before .before .before .before .before .before .before .before .before .before .before .before .before .before .before .before .before .before .before .before .before .before .before .before .before .before .before .before .before .before .before .pre .1 .1 .0 in omega arith
+add-i c = let x = c .before .before .before .before .before .before .before .before .before .before .before .before .before .before .before .before .before .before .before .before .before .before .before .before .before .before .before .before .before .loop-test .taken in let y = c .before .before .before .before .before .before .before .before .before .before .before .before .before .before .before .before .before .before .before .before .before .before .before .before .before .before .before .before .before .before .before .before .before .before .before .before .before .before .before .before .before .before .before .before .before .pre .1 .1 .0 in omega arith
 
--- src/lib.rt:88:5
 loop-less : tie.Need-loop-less Inv-loop μ-loop
-loop-less c = let x = c .before .before .before .before .before .before .before .before .before .before .before .before .before .before .before .before .before .before .before .before .before .before .before .before .before .before .loop-test .taken in let y = c .before .before .before .before .before .before .before .before .before .before .before .before .before .before .before .before .before .before .before .before .before .before .before .before .before .before .before .before .before .before .before .before .before .before .before .before .before .before .before .before .before .pre .1 .1 .0 in omega arith
+loop-less c = let x = c .before .before .before .before .before .before .before .before .before .before .before .before .before .before .before .before .before .before .before .before .before .before .before .before .before .before .before .before .before .loop-test .taken in let y = c .before .before .before .before .before .before .before .before .before .before .before .before .before .before .before .before .before .before .before .before .before .before .before .before .before .before .before .before .before .before .before .before .before .before .before .before .before .before .before .before .before .before .before .before .before .pre .1 .1 .0 in omega arith
 
--- src/lib.rt:88:5
 loop-again : tie.Need-loop-again Inv-loop μ-loop
-loop-again c = let a = c .before .before .before .before .before .before .before .before .before .before .before .before .before .before .before .before .before .before .before .before .before .before .before .before .before .before .before .before .before .before .before .before .before .before .before .before .before .before .before .before .before .args in let t = c .before .before .before .before .before .before .before .before .before .before .before .before .before .before .before .before .before .before .before .before .before .before .before .before .before .before .before .loop .inv in turns (a .job .now) (a .rule) (a .pairs .now) (a .globals .now) (propositionOf (a .q)) (a .marking) t (c .before .before .before .before .before .before .before .before .before .before .before .before .before .before .before .before .before .before .before .before .before .before .before .before .before .before .loop-test .taken) (acts-part (a .pairs .now) (a .globals .now) (part-is (c .before .before .before .before .before .before .before .before .before .before .before .before .before .before .before .before .before .before .before .before .before .before .before .before .before .before .before .loop .table) (c .before .before .before .before .before .before .before .before .before .before .before .before .before .before .before .before .before .before .before .before .before .before .before .before .before .before .before .loop .at) (t .full)) (c .before .before .before .before .before .before .before .before .before .before .before .before .before .before .before .before .before .process-action .ensures)) (c .before .before .before .before .if1 .left) (c .before .before .before .has-pair .ensures) refl (c .before .push-binding .ensures) (c .before .push-binding .kept .0) (c .before .before .before .before .before .before .before .before .before .before .before .before .before .before .before .before .before .process-action .kept .1 .1 .1 .1 .1 .1 .1 .1 .1 .0) (c .before .before .before .before .before .before .before .before .before .before .before .before .before .before .before .before .before .process-action .kept .1 .1 .1 .1 .1 .1 .1 .1 .1 .1 .1 .0)
+loop-again c = let a = c .before .before .before .before .before .before .before .before .before .before .before .before .before .before .before .before .before .before .before .before .before .before .before .before .before .before .before .before .before .before .before .before .before .before .before .before .before .before .before .before .before .before .before .before .before .args in let t = c .before .before .before .before .before .before .before .before .before .before .before .before .before .before .before .before .before .before .before .before .before .before .before .before .before .before .before .before .before .before .loop .inv in turns (a .job .now) (a .rule) (a .pairs .now) (a .globals .now) (propositionOf (a .q)) (a .marking) t (c .before .before .before .before .before .before .before .before .before .before .before .before .before .before .before .before .before .before .before .before .before .before .before .before .before .before .before .before .before .loop-test .taken) (acts-part (a .pairs .now) (a .globals .now) (part-is (c .before .before .before .before .before .before .before .before .before .before .before .before .before .before .before .before .before .before .before .before .before .before .before .before .before .before .before .before .before .before .loop .table) (c .before .before .before .before .before .before .before .before .before .before .before .before .before .before .before .before .before .before .before .before .before .before .before .before .before .before .before .before .before .before .loop .at) (t .full)) (c .before .before .before .before .before .before .before .before .before .before .before .before .before .before .before .before .before .before .before .process-action .ensures)) (c .before .before .before .before .if1 .left) (c .before .before .before .has-pair .ensures) refl (c .before .push-binding .ensures) (c .before .push-binding .kept .0) (c .before .before .before .before .before .before .before .before .before .before .before .before .before .before .before .before .before .before .before .process-action .kept .1 .1 .1 .1 .1 .1 .1 .1 .1 .1 .0) (c .before .before .before .before .before .before .before .before .before .before .before .before .before .before .before .before .before .before .before .process-action .kept .1 .1 .1 .1 .1 .1 .1 .1 .1 .1 .1 .1 .0)
 
--- src/lib.rt:57:1
-same-length-6 : tie.Need-same-length-6 Inv-loop μ-loop
-same-length-6 c = c .before .loop .inv .grown .lenK
-
--- src/lib.rt:57:1
 same-length-7 : tie.Need-same-length-7 Inv-loop μ-loop
-same-length-7 c = c .before .loop .inv .grown .lenE
+same-length-7 c = c .before .loop .inv .grown .lenK
 
--- src/lib.rt:57:1
 same-length-8 : tie.Need-same-length-8 Inv-loop μ-loop
-same-length-8 c = c .before .loop .inv .grown .lenP
+same-length-8 c = c .before .loop .inv .grown .lenE
 
--- src/lib.rt:57:1
 same-length-9 : tie.Need-same-length-9 Inv-loop μ-loop
-same-length-9 c = c .before .loop .inv .lenMemo
+same-length-9 c = c .before .loop .inv .grown .lenP
 
--- src/lib.rt:57:1
 same-length-10 : tie.Need-same-length-10 Inv-loop μ-loop
-same-length-10 c = c .before .loop .inv .lenM
+same-length-10 c = c .before .loop .inv .grown .lenI
 
--- src/lib.rt:57:1
+same-length-11 : tie.Need-same-length-11 Inv-loop μ-loop
+same-length-11 c = c .before .loop .inv .lenMemo
+
+same-length-12 : tie.Need-same-length-12 Inv-loop μ-loop
+same-length-12 c = c .before .loop .inv .lenM
+
 returns-2 : tie.Need-returns-2 Inv-loop μ-loop
-returns-2 c = let a = c .before .before .before .before .before .before .before .before .before .before .before .before .before .before .before .args in let pre = c .before .before .before .before .before .before .before .before .before .before .before .before .before .before .before .pre in finishes (a .job .now) (a .rule) (a .pairs .now) (a .globals .now) (propositionOf (a .q)) (a .marking) (c .before .loop .inv) (search needs) refl
+returns-2 c = let a = c .before .before .before .before .before .before .before .before .before .before .before .before .before .before .before .before .args in let pre = c .before .before .before .before .before .before .before .before .before .before .before .before .before .before .before .before .pre in finishes (a .job .now) (a .rule) (a .pairs .now) (a .globals .now) (propositionOf (a .q)) (a .marking) (c .before .loop .inv) (search needs) refl
 
 pub head-actions-spec : {M : Type 1} → statement M
 head-actions-spec =
@@ -162,6 +133,7 @@ head-actions-spec =
     same-length-3
     same-length-4
     same-length-5
+    same-length-6
     returns
     has-pair-requires
     slice-aggregate-push-binding
@@ -169,9 +141,10 @@ head-actions-spec =
     add-i
     loop-less
     loop-again
-    same-length-6
     same-length-7
     same-length-8
     same-length-9
     same-length-10
+    same-length-11
+    same-length-12
     returns-2)

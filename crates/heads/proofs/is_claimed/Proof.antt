@@ -9,25 +9,24 @@ use mathlib.Core.Path.{sym, ap, _∙_}
 use borrow.Author.Needs.{needs}
 use Rattle.heads.proofs.is_claimed.Statement.{statement}
 use Rattle.heads.proofs.is_claimed.Tie as tie
-use Rattle.heads.proofs.is_claimed.Reads as reads
-use Rattle.heads.proofs.is_claimed.Lts as lts
-use Rattle.heads.proofs.is_covered.Reads as is-covered-reads
 
--- src/lib.rt:132:9
 returns : tie.Need-returns
 returns c = let a = c .before .before .before .before .before .args in ap (λ (b : Bool). claimedBy b (a .found) (ltb 0 (getD (close (termsIn (a .kinds .now) (a .ends .now) (a .pool .now) (a .fill)) (a .fill .cells) (a .marks .now)) (a .t) 0))) (sym (not-true (c .before .before .before .before .before .args .marking) (c .if1 .taken)))
 
--- src/lib.rt:134:5
 is-covered-requires : tie.Need-is-covered-requires
 is-covered-requires c κs = search needs
 
--- src/lib.rt:127:1
 same-length : tie.Need-same-length
 same-length c = search needs
 
--- src/lib.rt:127:1
 returns-2 : tie.Need-returns-2
 returns-2 c = let a = c .before .before .before .before .before .before .before .before .before .args in c .before .before .is-covered .ensures ∙ ap (λ (b : Bool). claimedBy b (a .found) (ltb 0 (getD (close (termsIn (a .kinds .now) (a .ends .now) (a .pool .now) (a .fill)) (a .fill .cells) (a .marks .now)) (a .t) 0))) (sym (not-false (c .before .before .before .before .before .before .before .before .before .args .marking) (c .before .before .before .before .if1 .left)))
 
 pub is-claimed-spec : {M : Type 1} → statement M
-is-claimed-spec = tie.close (tie.spec returns is-covered-requires same-length returns-2)
+is-claimed-spec =
+    tie.close
+    (tie.spec
+    returns
+    is-covered-requires
+    same-length
+    returns-2)

@@ -6,71 +6,54 @@ use mathlib.Core.Path.{sym, ap, _∙_}
 use borrow.Author.Needs.{needs}
 use Rattle.heads.proofs.run_merge.Statement.{statement}
 use Rattle.heads.proofs.run_merge.Tie as tie
-use Rattle.heads.proofs.run_merge.Reads as reads
-use Rattle.heads.proofs.run_merge.Lts as lts
-use Rattle.actions.proofs.yield_value.Reads as yield-value-reads
-use Rattle.outcome.proofs.refuse1.Reads as refuse1-reads
-use Rattle.program.proofs.merge_of.Reads as merge-of-reads
 
--- src/lib.rt:213:9
 merge-of-requires : tie.Need-merge-of-requires
 merge-of-requires c κs = search needs
 
--- src/lib.rt:217:27
 enum-told : tie.Need-enum-told
 enum-told c = search needs
 
--- src/lib.rt:217:27
 refuse1-requires : tie.Need-refuse1-requires
 refuse1-requires c κs = search needs
 
--- src/lib.rt:218:21
 enum-known-merge : tie.Need-enum-known-merge
 enum-known-merge c = search needs
 
--- src/lib.rt:218:61
 slice-aggregate-yield-value : tie.Need-slice-aggregate-yield-value
 slice-aggregate-yield-value c = search needs
 
--- src/lib.rt:218:69
 slice-aggregate-yield-value-2 : tie.Need-slice-aggregate-yield-value-2
 slice-aggregate-yield-value-2 c = search needs
 
--- src/lib.rt:218:76
 slice-aggregate-yield-value-3 : tie.Need-slice-aggregate-yield-value-3
 slice-aggregate-yield-value-3 c = search needs
 
--- src/lib.rt:218:27
 yield-value-requires : tie.Need-yield-value-requires
-yield-value-requires c κs = (c .before .before .before .before .before .before .before .before .before .before .before .before .before .before .before .before .before .before .pre, c .before .before .before .before .before .before .before .before .before .before .before .merge-of .ensures .within _ (c .before .before .before .before .before .before .before .before .before .merge .given .1))
+yield-value-requires c κs = (c .before .before .before .before .before .before .before .before .before .before .before .before .before .before .before .before .before .before .before .before .pre, c .before .before .before .before .before .before .before .before .before .before .before .before .merge-of .ensures .within _ (c .before .before .before .before .before .before .before .before .before .before .merge .given .1))
 
--- src/lib.rt:194:1
 returns : tie.Need-returns
-returns c = let a = c .before .before .before .before .before .before .before .before .before .before .args in merged-none (programFor (a .job .now)) (a .function) (a .old) (a .new) (c .before .before .before .before .before .before .before .before .before .before .pre .stored) (ap (view.mergeOf (exprFor (a .job .now))) (sym (c .before .enum-told .given .1)) ∙ c .before .before .before .merge-of .ensures .is) (c .refuse1 .ensures)
+returns c = let a = c .before .before .before .before .before .before .before .before .before .before .before .args in merged-none (programFor (a .job .now)) (a .function) (a .old) (a .new) (c .before .before .before .before .before .before .before .before .before .before .before .pre .indexed) (ap (view.mergeOf (exprFor (a .job .now))) (sym (c .before .enum-told .given .1)) ∙ c .before .before .before .merge-of .ensures .is) (c .refuse1 .ensures)
 
--- src/lib.rt:194:1
 same-length : tie.Need-same-length
 same-length c = search needs
 
--- src/lib.rt:194:1
 same-length-2 : tie.Need-same-length-2
 same-length-2 c = search needs
 
--- src/lib.rt:194:1
 same-length-3 : tie.Need-same-length-3
 same-length-3 c = search needs
 
--- src/lib.rt:194:1
 same-length-4 : tie.Need-same-length-4
 same-length-4 c = search needs
 
--- src/lib.rt:194:1
 same-length-5 : tie.Need-same-length-5
 same-length-5 c = search needs
 
--- src/lib.rt:194:1
+same-length-6 : tie.Need-same-length-6
+same-length-6 c = search needs
+
 returns-2 : tie.Need-returns-2
-returns-2 c = let a = c .before .before .before .before .before .before .before .before .before .before .before .before .before .before .before .before .before .before .before .before .before .before .before .before .before .before .before .before .before .args in merged-by (programFor (a .job .now)) (a .function) (a .old) (a .new) _ (ap (view.mergeOf (exprFor (a .job .now))) (sym (c .before .before .before .before .before .before .before .before .before .before .before .before .before .before .before .before .before .before .before .before .merge .given .1)) ∙ c .before .before .before .before .before .before .before .before .before .before .before .before .before .before .before .before .before .before .before .before .before .before .merge-of .ensures .is) (c .before .before .before .before .before .before .before .before .before .before .yield-value .ensures)
+returns-2 c = let a = c .before .before .before .before .before .before .before .before .before .before .before .before .before .before .before .before .before .before .before .before .before .before .before .before .before .before .before .before .before .before .before .before .before .args in merged-by (programFor (a .job .now)) (a .function) (a .old) (a .new) _ (ap (view.mergeOf (exprFor (a .job .now))) (sym (c .before .before .before .before .before .before .before .before .before .before .before .before .before .before .before .before .before .before .before .before .before .before .before .merge .given .1)) ∙ c .before .before .before .before .before .before .before .before .before .before .before .before .before .before .before .before .before .before .before .before .before .before .before .before .before .merge-of .ensures .is) (c .before .before .before .before .before .before .before .before .before .before .before .before .yield-value .ensures)
 
 pub run-merge-spec : {M : Type 1} → statement M
 run-merge-spec =
@@ -90,4 +73,5 @@ run-merge-spec =
     same-length-3
     same-length-4
     same-length-5
+    same-length-6
     returns-2)

@@ -1,5 +1,5 @@
 use mathlib.Core.Path.{_≡_, ap, _∙_}
-use Prim.Native.Nat.{ℕ, _+_, _*_, _%_, _^_}
+use Prim.Native.Nat.{ℕ, _*_, _%_, _^_}
 use Rattle.index.specs.Mixing.{stirred, upper}
 use borrow.Author.Needs.{needs}
 use Rattle.index.proofs.stir.Statement.{statement}
@@ -8,23 +8,16 @@ use Rattle.index.proofs.stir.Tie as tie
 wrapping-add-u32-requires : tie.Need-wrapping-add-u32-requires
 wrapping-add-u32-requires c κs = search needs
 
-wrapping-mul32-requires : tie.Need-wrapping-mul32-requires
-wrapping-mul32-requires c κs = search needs
+times-requires : tie.Need-times-requires
+times-requires c κs = search needs
 
-wrapping-add-u32-requires-2 : tie.Need-wrapping-add-u32-requires-2
-wrapping-add-u32-requires-2 c κs = search needs
+times-requires-2 : tie.Need-times-requires-2
+times-requires-2 c κs = search needs
 
 returns : tie.Need-returns
-unfolding stirred upper
-returns c = let a = c .before .before .before .args in
-    let e : c .before .wrapping-mul32 .result ≡ (a .h + a .w) % 2 ^ 32 * a .x % 2 ^ 32 = c .before .wrapping-mul32 .ensures ∙ ap (λ (y : ℕ). y * a .x % 2 ^ 32) (c .before .before .wrapping-add-u32 .ensures) in
-    c .wrapping-add-u322 .ensures ∙ ap upper e
+unfolding stirred
+returns c = let x = c .before .before .before .args .x in
+    c .times2 .ensures ∙ ap (λ (y : ℕ). upper (y * x % 2 ^ 32)) (c .before .times .ensures ∙ ap (λ (y : ℕ). upper (y * x % 2 ^ 32)) (c .before .before .wrapping-add-u32 .ensures))
 
 pub stir-spec : {M : Type 1} → statement M
-stir-spec =
-    tie.close
-    (tie.spec
-    wrapping-add-u32-requires
-    wrapping-mul32-requires
-    wrapping-add-u32-requires-2
-    returns)
+stir-spec = tie.close (tie.spec wrapping-add-u32-requires times-requires times-requires-2 returns)

@@ -11,10 +11,10 @@ use Rattle.load.proofs.writer_refusal.Statement.{statement}
 use Rattle.load.proofs.writer_refusal.Tie as tie
 
 abbrev Inv-loop : tie.InvT-loop
-Inv-loop kinds ends pool z round₀ round = (round ≤ 4) × (firstRefusal (writerTests (sizesIn z) (tablesFor kinds ends pool z)) ≡ firstRefusal (drop round (writerTests (sizesIn z) (tablesFor kinds ends pool z))))
+Inv-loop kinds ends pool z distinct round₀ round = (round ≤ 4) × (firstRefusal (writerTests (sizesIn z) (tablesFor kinds ends pool z)) ≡ firstRefusal (drop round (writerTests (sizesIn z) (tablesFor kinds ends pool z))))
 
 abbrev μ-loop : tie.MeasureT-loop
-μ-loop kinds ends pool z round₀ round = 4 - round
+μ-loop kinds ends pool z distinct round₀ round = 4 - round
 
 loop-holds : tie.Need-loop-holds Inv-loop μ-loop
 loop-holds c = (omega arith, refl)
@@ -28,8 +28,8 @@ first-marked-requires c κs = c .before .before .before .before .before .before 
 enum-known-f : tie.Need-enum-known-f Inv-loop μ-loop
 enum-known-f c = search needs
 
-add-t10 : tie.Need-add-t10 Inv-loop μ-loop
-add-t10 c = omega arith
+add-t11 : tie.Need-add-t11 Inv-loop μ-loop
+add-t11 c = omega arith
 
 returns : tie.Need-returns Inv-loop μ-loop
 returns c = let a = c .before .before .before .before .before .before .before .before .before .before .args in
@@ -74,7 +74,7 @@ writer-refusal-spec =
     wide-requires
     first-marked-requires
     enum-known-f
-    add-t10
+    add-t11
     returns
     enum-told
     add-round

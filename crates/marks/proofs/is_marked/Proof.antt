@@ -27,4 +27,10 @@ returns-2 c = let a = c .before .before .before .before .args in
 
 pub is-marked-spec : {M : Type 1} → statement M
 is-marked-spec =
-    tie.close (tie.spec wide-requires returns mul-result shared-slice-read-result returns-2)
+    tie.close
+    (tie.spec
+    wide-requires
+    returns
+    mul-result
+    shared-slice-read-result
+    returns-2)

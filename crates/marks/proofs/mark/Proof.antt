@@ -29,4 +29,11 @@ returns-2 c = let a = c .before .before .before .args in
 
 pub mark-spec : {M : Type 1} → statement M
 mark-spec =
-    tie.close (tie.spec wide-requires returns mul-marks slice-write-marks same-length returns-2)
+    tie.close
+    (tie.spec
+    wide-requires
+    returns
+    mul-marks
+    slice-write-marks
+    same-length
+    returns-2)

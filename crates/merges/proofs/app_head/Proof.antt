@@ -10,35 +10,27 @@ use borrow.Author.Needs.{needs}
 use Rattle.merges.proofs.app_head.Statement.{statement}
 use Rattle.merges.proofs.app_head.Tie as tie
 
--- src/lib.rt:66:54
 wide-requires : tie.Need-wide-requires
 wide-requires c κs = search needs
 
--- src/lib.rt:66:9
 get-requires : tie.Need-get-requires
 get-requires c κs = search needs
 
--- src/lib.rt:68:25
 enum-told : tie.Need-enum-told
 enum-told c = search needs
 
--- src/lib.rt:69:25
 enum-told-2 : tie.Need-enum-told-2
 enum-told-2 c = search needs
 
--- src/lib.rt:70:19
 enum-known-term : tie.Need-enum-known-term
 enum-known-term c = search needs
 
--- src/lib.rt:61:1
 returns : tie.Need-returns
 returns c = let a = c .before .before .before .before .before .before .before .args in app-by _ _ _ (subst (λ (n : ℕ). getTerm (termsIn (a .kinds .now) (a .ends .now) (a .pool .now) (a .fill)) n ≡ some (termOf (c .before .before .get .result) (children (getTerm (termsIn (a .kinds .now) (a .ends .now) (a .pool .now) (a .fill)) n)))) (c .before .before .before .wide .ensures) (c .before .before .get .ensures)) _ _ (c .enum-told .given .1) refl
 
--- src/lib.rt:61:1
 returns-2 : tie.Need-returns-2
 returns-2 c = let a = c .before .before .before .before .before .before .before .args in app-by _ _ _ (subst (λ (n : ℕ). getTerm (termsIn (a .kinds .now) (a .ends .now) (a .pool .now) (a .fill)) n ≡ some (termOf (c .before .before .get .result) (children (getTerm (termsIn (a .kinds .now) (a .ends .now) (a .pool .now) (a .fill)) n)))) (c .before .before .before .wide .ensures) (c .before .before .get .ensures)) _ _ (c .enum-told2 .given .1) refl
 
--- src/lib.rt:61:1
 returns-3 : tie.Need-returns-3
 returns-3 c = let a = c .before .before .before .before .before .before .before .before .args in app-by _ _ _ (subst (λ (n : ℕ). getTerm (termsIn (a .kinds .now) (a .ends .now) (a .pool .now) (a .fill)) n ≡ some (termOf (c .before .before .before .get .result) (children (getTerm (termsIn (a .kinds .now) (a .ends .now) (a .pool .now) (a .fill)) n)))) (c .before .before .before .before .wide .ensures) (c .before .before .before .get .ensures)) _ _ (c .before .term .given .1) refl
 

@@ -5,71 +5,54 @@ use borrow.Author.Needs.{needs}
 use Rattle.merges.proofs.compare_views.Statement.{statement}
 use Rattle.merges.proofs.compare_views.Tie as tie
 
--- src/lib.rt:143:9
 refused-views-requires : tie.Need-refused-views-requires
 refused-views-requires c κs = search needs
 
--- src/lib.rt:143:9
 returns : tie.Need-returns
 returns c = let a = c .before .before .before .before .args in λ s. heads-differ (a .p) (a .f) (a .g) (a .xs .now) (a .ys .now) s (c .before .if1 .taken) (c .refused-views .ensures)
 
--- src/lib.rt:150:9
 refused-views-requires-2 : tie.Need-refused-views-requires-2
 refused-views-requires-2 c κs = search needs
 
--- src/lib.rt:150:9
 returns-2 : tie.Need-returns-2
 returns-2 c = let a = c .before .before .before .before .before .args in λ s. old-empty (a .p) (a .f) (a .g) (a .xs .now) (a .ys .now) s (c .before .before .if1 .left) (c .before .if2 .taken) (c .refused-views2 .ensures)
 
--- src/lib.rt:157:9
 refused-views-requires-3 : tie.Need-refused-views-requires-3
 refused-views-requires-3 c κs = search needs
 
--- src/lib.rt:157:9
 returns-3 : tie.Need-returns-3
 returns-3 c = let a = c .before .before .before .before .before .before .args in λ s. new-empty (a .p) (a .f) (a .g) (a .xs .now) (a .ys .now) s (c .before .before .before .if1 .left) (c .before .before .if2 .left) (c .before .if3 .taken) (c .refused-views3 .ensures)
 
--- src/lib.rt:163:13
 sub-i : tie.Need-sub-i
 sub-i c = search needs
 
--- src/lib.rt:164:13
 sub-j : tie.Need-sub-j
 sub-j c = search needs
 
--- src/lib.rt:166:27
 slice-aggregate-same-words : tie.Need-slice-aggregate-same-words
 slice-aggregate-same-words c = simp length-take (omega arith)
 
--- src/lib.rt:166:37
 slice-aggregate-same-words-2 : tie.Need-slice-aggregate-same-words-2
 slice-aggregate-same-words-2 c = simp length-take (omega arith)
 
--- src/lib.rt:166:9
 same-words-requires : tie.Need-same-words-requires
 same-words-requires c κs = search needs
 
--- src/lib.rt:165:9
 check-that-requires : tie.Need-check-that-requires
 check-that-requires c κs = search needs
 
--- src/lib.rt:176:14
 mul-t24 : tie.Need-mul-t24
 mul-t24 c = search needs
 
--- src/lib.rt:176:14
 shared-slice-read-t26 : tie.Need-shared-slice-read-t26
 shared-slice-read-t26 c = search needs
 
--- src/lib.rt:177:14
 mul-t27 : tie.Need-mul-t27
 mul-t27 c = search needs
 
--- src/lib.rt:177:14
 shared-slice-read-t29 : tie.Need-shared-slice-read-t29
 shared-slice-read-t29 c = search needs
 
--- src/lib.rt:137:1
 returns-4 : tie.Need-returns-4
 returns-4 c = let a = c .before .before .before .before .before .before .before .before .before .before .before .args in λ s. views-compared (a .p) (a .f) (a .g) (a .xs .now) (a .ys .now) s (c .before .before .check-that .result) (c .before .before .before .before .before .before .before .before .if1 .left) (c .before .before .before .before .before .before .before .if2 .left) (c .before .before .before .before .before .before .if3 .left) (c .before .before .before .same-words .ensures) (c .before .before .check-that .ensures)
 

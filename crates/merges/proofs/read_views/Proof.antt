@@ -7,79 +7,60 @@ use borrow.Author.Needs.{needs}
 use Rattle.merges.proofs.read_views.Statement.{statement}
 use Rattle.merges.proofs.read_views.Tie as tie
 
--- src/lib.rt:196:9
 both-reflexive-requires : tie.Need-both-reflexive-requires
 both-reflexive-requires c κs = search needs
 
--- src/lib.rt:198:9
 refused-views-requires : tie.Need-refused-views-requires
 refused-views-requires c κs = search needs
 
--- src/lib.rt:198:9
 returns : tie.Need-returns
 returns c = let a = c .before .before .before .before .before .before .before .args in let pre = c .before .before .before .before .before .before .before .pre in not-reflexive (a .p) (propositionOf (a .a)) (propositionOf (a .b)) (termsIn (a .kinds .now) (a .ends .now) (a .pool .now) (a .fill)) (c .before .before .before .both-reflexive .result) (c .before .before .before .both-reflexive .ensures) (c .before .if1 .taken) (c .refused-views .ensures)
 
--- src/lib.rt:200:9
 app-head-requires : tie.Need-app-head-requires
 app-head-requires c κs = search needs
 
--- src/lib.rt:201:9
 app-head-requires-2 : tie.Need-app-head-requires-2
 app-head-requires-2 c κs = search needs
 
--- src/lib.rt:207:22
 enum-known-x : tie.Need-enum-known-x
 enum-known-x c = search needs
 
--- src/lib.rt:208:9
 enum-told : tie.Need-enum-told
 enum-told c = search needs
 
--- src/lib.rt:208:9
 refused-views-requires-2 : tie.Need-refused-views-requires-2
 refused-views-requires-2 c κs = search needs
 
--- src/lib.rt:208:9
 returns-2 : tie.Need-returns-2
 returns-2 c = let a = c .before .before .before .before .before .before .before .before .before .before .before .args in let pre = c .before .before .before .before .before .before .before .before .before .before .before .pre in old-no-app (a .p) (propositionOf (a .a)) (propositionOf (a .b)) (termsIn (a .kinds .now) (a .ends .now) (a .pool .now) (a .fill)) (c .before .before .before .before .before .before .before .both-reflexive .result) (c .before .before .before .before .before .before .before .both-reflexive .ensures) (c .before .before .before .before .before .if1 .left) _ (c .before .before .before .app-head2 .result) (c .before .before .before .before .app-head .ensures) (c .before .before .before .app-head2 .ensures) (c .before .enum-told .given .1) (c .refused-views2 .ensures)
 
--- src/lib.rt:210:22
 enum-known-y : tie.Need-enum-known-y
 enum-known-y c = search needs
 
--- src/lib.rt:211:9
 enum-told-2 : tie.Need-enum-told-2
 enum-told-2 c = search needs
 
--- src/lib.rt:211:9
 refused-views-requires-3 : tie.Need-refused-views-requires-3
 refused-views-requires-3 c κs = search needs
 
--- src/lib.rt:211:9
 returns-3 : tie.Need-returns-3
 returns-3 c = let a = c .before .before .before .before .before .before .before .before .before .before .before .before .before .before .args in let pre = c .before .before .before .before .before .before .before .before .before .before .before .before .before .before .pre in new-no-app (a .p) (propositionOf (a .a)) (propositionOf (a .b)) (termsIn (a .kinds .now) (a .ends .now) (a .pool .now) (a .fill)) (c .before .before .before .before .before .before .before .before .before .before .both-reflexive .result) (c .before .before .before .before .before .before .before .before .before .before .both-reflexive .ensures) (c .before .before .before .before .before .before .before .before .if1 .left) _ _ (c .before .before .before .before .before .before .before .app-head .ensures) (c .before .before .before .before .before .before .app-head2 .ensures) (c .before .before .before .before .x .given .1) (c .before .enum-told2 .given .1) (c .refused-views3 .ensures)
 
--- src/lib.rt:213:48
 wide-requires : tie.Need-wide-requires
 wide-requires c κs = search needs
 
--- src/lib.rt:213:9
 children-requires : tie.Need-children-requires
 children-requires c κs = search needs
 
--- src/lib.rt:214:48
 wide-requires-2 : tie.Need-wide-requires-2
 wide-requires-2 c κs = search needs
 
--- src/lib.rt:214:9
 children-requires-2 : tie.Need-children-requires-2
 children-requires-2 c κs = let a = c .before .before .before .before .before .before .before .before .before .before .before .before .before .before .before .before .before .args in let pre = c .before .before .before .before .before .before .before .before .before .before .before .before .before .before .before .before .before .pre in let w = c .wide2 .ensures in let h = pre .1 .1 in (pre .0, omega arith)
 
--- src/lib.rt:215:5
 compare-views-requires : tie.Need-compare-views-requires
 compare-views-requires c κs = search needs
 
--- src/lib.rt:182:1
 returns-4 : tie.Need-returns-4
 returns-4 c = let a = c .before .before .before .before .before .before .before .before .before .before .before .before .before .before .before .before .before .before .before .args in let pre = c .before .before .before .before .before .before .before .before .before .before .before .before .before .before .before .before .before .before .before .pre in views-read (a .p) (propositionOf (a .a)) (propositionOf (a .b)) (termsIn (a .kinds .now) (a .ends .now) (a .pool .now) (a .fill)) (c .before .before .before .before .before .before .before .before .before .before .before .before .before .before .before .both-reflexive .result) (c .before .before .before .before .before .before .before .before .before .before .before .before .before .before .before .both-reflexive .ensures) (c .before .before .before .before .before .before .before .before .before .before .before .before .before .if1 .left) _ _ (c .before .before .before .before .before .before .before .before .before .before .before .before .app-head .ensures) (c .before .before .before .before .before .before .before .before .before .before .before .app-head2 .ensures) (c .compare-views .result) (c .before .before .before .before .before .before .before .before .before .x .given .1) (c .before .before .before .before .before .before .y .given .1) (children-at (termsIn (a .kinds .now) (a .ends .now) (a .pool .now) (a .fill)) (c .before .before .before .before .wide .ensures) (c .before .before .before .children .ensures)) (children-at (termsIn (a .kinds .now) (a .ends .now) (a .pool .now) (a .fill)) (c .before .before .wide2 .ensures) (c .before .children2 .ensures)) (c .compare-views .ensures)
 

@@ -5,22 +5,23 @@ use borrow.Author.Needs.{needs}
 use Rattle.merges.proofs.view_claimed.Statement.{statement}
 use Rattle.merges.proofs.view_claimed.Tie as tie
 
--- src/lib.rt:233:9
 is-claimed-requires : tie.Need-is-claimed-requires
 is-claimed-requires c κs = search needs
 
--- src/lib.rt:234:5
 check-that-requires : tie.Need-check-that-requires
 check-that-requires c κs = search needs
 
--- src/lib.rt:219:1
 same-length : tie.Need-same-length
 same-length c = search needs
 
--- src/lib.rt:219:1
 returns : tie.Need-returns
 returns c = let a = c .before .before .before .before .before .before .before .before .before .before .before .before .args in λ s. view-tested (termsIn (a .kinds .now) (a .ends .now) (a .pool .now) (a .fill)) (a .fill .cells) (a .marks .now) (a .p) (propositionOf (a .q)) (a .view) s (c .before .before .before .before .before .is-claimed .ensures) (c .check-that .ensures)
 
 pub view-claimed-spec : {M : Type 1} → statement M
 view-claimed-spec =
-    tie.close (tie.spec is-claimed-requires check-that-requires same-length returns)
+    tie.close
+    (tie.spec
+    is-claimed-requires
+    check-that-requires
+    same-length
+    returns)

@@ -10,4 +10,8 @@ returns-2 : tie.Need-returns-2
 returns-2 c = let a = c .before .args in word-first (a .a) (offenceIn (a .b)) (c .if1 .left)
 
 pub first-of-spec : {M : Type 1} → statement M
-first-of-spec = tie.close (tie.spec returns returns-2)
+first-of-spec =
+    tie.close
+    (tie.spec
+    returns
+    returns-2)

@@ -18,4 +18,10 @@ returns-3 : tie.Need-returns-3
 returns-3 c = word-even (c .before .before .args .w) (c .before .if1 .left) (c .if2 .left)
 
 pub read-offence-spec : {M : Type 1} → statement M
-read-offence-spec = tie.close (tie.spec returns returns-2 sub-t5 returns-3)
+read-offence-spec =
+    tie.close
+    (tie.spec
+    returns
+    returns-2
+    sub-t5
+    returns-3)

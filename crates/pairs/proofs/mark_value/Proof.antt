@@ -26,4 +26,10 @@ returns-2 c = let a = c .before .before .before .before .before .before .before 
 pub mark-value-spec : {M : Type 1} → statement M
 mark-value-spec =
     tie.close
-    (tie.spec is-noted-requires returns value-of-requires mark-requires same-length returns-2)
+    (tie.spec
+    is-noted-requires
+    returns
+    value-of-requires
+    mark-requires
+    same-length
+    returns-2)

@@ -1,6 +1,6 @@
 use mathlib.Core.Path.{refl}
 use borrow.Author.Needs.{needs}
-use Rattle.prepare.proofs.Jobs.{start-ready, start-loadable, starts}
+use Rattle.prepare.proofs.Jobs.{start-ready, start-loadable}
 use Rattle.prepare.proofs.start.Statement.{statement}
 use Rattle.prepare.proofs.start.Tie as tie
 
@@ -17,7 +17,7 @@ same-length-3 : tie.Need-same-length-3
 same-length-3 c = search needs
 
 returns : tie.Need-returns
-returns c = (refl, starts (c .before .before .before .before .before .before .before .before .before .before .before .before .before .before .pre) (c .before .before .before .before .before .before .load-terms .ensures))
+returns c = (refl, c .before .before .before .before .before .before .load-terms .ensures)
 
 pub start-spec : {M : Type 1} → statement M
 start-spec = tie.close (tie.spec load-terms-requires same-length same-length-2 same-length-3 returns)

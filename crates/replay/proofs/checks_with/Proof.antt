@@ -88,6 +88,9 @@ same-length-3 c = search needs
 same-length-4 : tie.Need-same-length-4
 same-length-4 c = search needs
 
+same-length-5 : tie.Need-same-length-5
+same-length-5 c = search needs
+
 returns-6 : tie.Need-returns-6
 returns-6 c = search needs
 
@@ -123,4 +126,5 @@ checks-with-spec =
     same-length-2
     same-length-3
     same-length-4
+    same-length-5
     returns-6)

@@ -85,6 +85,15 @@ shared-slice-read-fill-with-4 c = search needs
 fill-with-requires-4 : tie.Need-fill-with-requires-4
 fill-with-requires-4 c κs = search needs
 
+slice-aggregate-fill-with-5 : tie.Need-slice-aggregate-fill-with-5
+slice-aggregate-fill-with-5 c = search needs
+
+shared-slice-read-fill-with-5 : tie.Need-shared-slice-read-fill-with-5
+shared-slice-read-fill-with-5 c = search needs
+
+fill-with-requires-5 : tie.Need-fill-with-requires-5
+fill-with-requires-5 c κs = search needs
+
 slice-aggregate-checks-with : tie.Need-slice-aggregate-checks-with
 slice-aggregate-checks-with c = simp length-take (omega arith)
 
@@ -108,6 +117,9 @@ slice-aggregate-checks-with-4 c = search needs
 
 slice-aggregate-checks-with-5 : tie.Need-slice-aggregate-checks-with-5
 slice-aggregate-checks-with-5 c = search needs
+
+slice-aggregate-checks-with-6 : tie.Need-slice-aggregate-checks-with-6
+slice-aggregate-checks-with-6 c = search needs
 
 mul-checks-with : tie.Need-mul-checks-with
 mul-checks-with c = search needs
@@ -200,6 +212,9 @@ replay-entry-spec =
     slice-aggregate-fill-with-4
     shared-slice-read-fill-with-4
     fill-with-requires-4
+    slice-aggregate-fill-with-5
+    shared-slice-read-fill-with-5
+    fill-with-requires-5
     slice-aggregate-checks-with
     sub-checks-with
     part-checks-with-start
@@ -208,6 +223,7 @@ replay-entry-spec =
     slice-aggregate-checks-with-3
     slice-aggregate-checks-with-4
     slice-aggregate-checks-with-5
+    slice-aggregate-checks-with-6
     mul-checks-with
     sub-checks-with-2
     part-checks-with-start-2

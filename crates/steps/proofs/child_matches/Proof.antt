@@ -11,31 +11,24 @@ use borrow.Author.Needs.{needs}
 use Rattle.steps.proofs.child_matches.Statement.{statement}
 use Rattle.steps.proofs.child_matches.Tie as tie
 
--- src/lib.rt:169:9
 wide-requires : tie.Need-wide-requires
 wide-requires c κs = search needs
 
--- src/lib.rt:174:28
 cast-t9 : tie.Need-cast-t9
 cast-t9 c = search needs
 
--- src/lib.rt:171:9
 returns : tie.Need-returns
 returns c = let a = c .before .before .before .args in let w = c .before .wide .ensures in (λ s. child-none (a .p) (a .i) (a .lhs) (a .args .now) s (omega arith), λ e. absurd (omega arith))
 
--- src/lib.rt:177:17
 mul-child : tie.Need-mul-child
 mul-child c = search needs
 
--- src/lib.rt:177:17
 shared-slice-read-child : tie.Need-shared-slice-read-child
 shared-slice-read-child c = search needs
 
--- src/lib.rt:178:5
 check-that-requires : tie.Need-check-that-requires
 check-that-requires c κs = search needs
 
--- src/lib.rt:163:1
 returns-2 : tie.Need-returns-2
 returns-2 c = let a = c .before .before .before .before .before .args in let w = c .before .before .before .wide .ensures in let h = c .before .before .if1 .left in (λ s. child-tested (a .p) (a .i) (a .lhs) (a .args .now) s (omega arith) (subst (λ (n : ℕ). c .check-that .result ≡ refusedUnless (eqb (getD (a .args .now) n 0) (a .lhs)) (refusal 24 4 (a .p ∷ a .lhs ∷ getD (a .args .now) n 0 ∷ a .i ∷ 0 ∷ 0 ∷ []))) w (c .check-that .ensures)), λ e. omega arith)
 

@@ -8,105 +8,86 @@ use borrow.Author.Needs.{needs}
 use Rattle.steps.proofs.conclude.Statement.{statement}
 use Rattle.steps.proofs.conclude.Tie as tie
 
--- src/lib.rt:397:9
 wide-requires : tie.Need-wide-requires
 wide-requires c κs = search needs
 
--- src/lib.rt:398:9
 claim-at-requires : tie.Need-claim-at-requires
 claim-at-requires c κs = search needs
 
--- src/lib.rt:399:9
 justification-at-requires : tie.Need-justification-at-requires
 justification-at-requires c κs = search needs
 
--- src/lib.rt:401:32
 enum-known-j : tie.Need-enum-known-j
 enum-known-j c = search needs
 
--- src/lib.rt:401:38
 merge-at-requires : tie.Need-merge-at-requires
-merge-at-requires c κs = let a = c .before .before .before .before .before .before .before .before .before .before .before .before .before .before .before .before .before .before .args in let pre = c .before .before .before .before .before .before .before .before .before .before .before .before .before .before .before .before .before .before .pre in let J = justified-here (a .job .now) (a .unions .now) (a .skinds .now) (a .sends .now) (a .spool .now) (a .fill) (a .memo .now) (a .scratch .now) (a .p) (pre .0) (c .before .before .before .before .before .before .before .before .before .before .wide .ensures) (c .before .before .before .before .before .before .before .before .before .claim-at .result) (c .before .before .before .before .before .before .before .before .justification-at .result) (c .before .before .before .before .before .before .before .before .before .claim-at .ensures) (c .before .before .before .before .before .before .before .before .justification-at .ensures) in (pre .0, (reference-inside J (pre .1) (c .before .before .before .before .before .before .j .given .1) (List·Memᴰ·head refl) refl, reference-inside J (pre .1) (c .before .before .before .before .before .before .j .given .1) (List·Memᴰ·tail (List·Memᴰ·head refl)) refl))
+merge-at-requires c κs = let a = c .before .before .before .before .before .before .before .before .before .before .before .before .before .before .before .before .before .before .before .before .args in let pre = c .before .before .before .before .before .before .before .before .before .before .before .before .before .before .before .before .before .before .before .before .pre in let J = justified-here (a .job .now) (a .unions .now) (a .skinds .now) (a .sends .now) (a .spool .now) (a .index .now) (a .fill) (a .memo .now) (a .scratch .now) (a .p) (pre .0) (c .before .before .before .before .before .before .before .before .before .before .before .wide .ensures) (c .before .before .before .before .before .before .before .before .before .before .claim-at .result) (c .before .before .before .before .before .before .before .before .before .justification-at .result) (c .before .before .before .before .before .before .before .before .before .before .claim-at .ensures) (c .before .before .before .before .before .before .before .before .before .justification-at .ensures) in (pre .0, (reference-inside J (pre .1) (c .before .before .before .before .before .before .before .j .given .1) (List·Memᴰ·head refl) refl, reference-inside J (pre .1) (c .before .before .before .before .before .before .before .j .given .1) (List·Memᴰ·tail (List·Memᴰ·head refl)) refl))
 
--- src/lib.rt:418:30
 enum-known-j-2 : tie.Need-enum-known-j-2
 enum-known-j-2 c = search needs
 
--- src/lib.rt:418:36
 congr-at-requires : tie.Need-congr-at-requires
-congr-at-requires c κs = let a = c .before .before .before .before .before .before .before .before .before .before .before .before .before .before .before .before .args in let pre = c .before .before .before .before .before .before .before .before .before .before .before .before .before .before .before .before .pre in let J = justified-here (a .job .now) (a .unions .now) (a .skinds .now) (a .sends .now) (a .spool .now) (a .fill) (a .memo .now) (a .scratch .now) (a .p) (pre .0) (c .before .before .before .before .before .before .before .before .wide .ensures) (c .before .before .before .before .before .before .before .claim-at .result) (c .before .before .before .before .before .before .justification-at .result) (c .before .before .before .before .before .before .before .claim-at .ensures) (c .before .before .before .before .before .before .justification-at .ensures) in (pre .0 .ready, (pre .0 .stored, (pre .0 .terms, (reference-inside J (pre .1) (c .before .before .before .before .j2 .given .1) (List·Memᴰ·head refl) refl, reference-inside J (pre .1) (c .before .before .before .before .j2 .given .1) (List·Memᴰ·tail (List·Memᴰ·head refl)) refl))))
+congr-at-requires c κs = let a = c .before .before .before .before .before .before .before .before .before .before .before .before .before .before .before .before .before .before .args in let pre = c .before .before .before .before .before .before .before .before .before .before .before .before .before .before .before .before .before .before .pre in let J = justified-here (a .job .now) (a .unions .now) (a .skinds .now) (a .sends .now) (a .spool .now) (a .index .now) (a .fill) (a .memo .now) (a .scratch .now) (a .p) (pre .0) (c .before .before .before .before .before .before .before .before .before .wide .ensures) (c .before .before .before .before .before .before .before .before .claim-at .result) (c .before .before .before .before .before .before .before .justification-at .result) (c .before .before .before .before .before .before .before .before .claim-at .ensures) (c .before .before .before .before .before .before .before .justification-at .ensures) in (pre .0 .ready, (pre .0 .indexed, (pre .0 .terms, (reference-inside J (pre .1) (c .before .before .before .before .before .j2 .given .1) (List·Memᴰ·head refl) refl, reference-inside J (pre .1) (c .before .before .before .before .before .j2 .given .1) (List·Memᴰ·tail (List·Memᴰ·head refl)) refl))))
 
--- src/lib.rt:441:17
 slice-reshare-prefix-plain-step : tie.Need-slice-reshare-prefix-plain-step
 slice-reshare-prefix-plain-step c = search needs
 
--- src/lib.rt:441:17
 slice-aggregate-plain-step : tie.Need-slice-aggregate-plain-step
-slice-aggregate-plain-step c = let a = c .before .before .before .before .before .before .before .before .before .before .before .before .args in let pre = c .before .before .before .before .before .before .before .before .before .before .before .before .pre in let h = pre .0 .long in simp length-take (omega arith)
+slice-aggregate-plain-step c = let a = c .before .before .before .before .before .before .before .before .before .before .before .before .before .args in let pre = c .before .before .before .before .before .before .before .before .before .before .before .before .before .pre in let h = pre .0 .long in simp length-take (omega arith)
 
--- src/lib.rt:435:17
 plain-step-requires : tie.Need-plain-step-requires
-plain-step-requires c κs = let a = c .before .before .before .before .before .before .before .before .before .before .before .before .before .before .before .args in let pre = c .before .before .before .before .before .before .before .before .before .before .before .before .before .before .before .pre in (pre .0 .ready, (pre .0 .stored, (first-cells (pre .0 .ready) (a .skinds .now) (a .sends .now) (a .spool .now) (a .fill) (pre .0 .terms), (pre .1, (claim-here (a .job .now) (a .unions .now) (a .skinds .now) (a .sends .now) (a .spool .now) (a .fill) (a .memo .now) (a .scratch .now) (a .p) (pre .0) (c .before .before .before .before .before .before .before .wide .ensures) (c .before .before .before .before .before .before .claim-at .result) (c .before .before .before .before .before .justification-at .result) (c .before .before .before .before .before .before .claim-at .ensures) (c .before .before .before .before .before .justification-at .ensures), justified-here (a .job .now) (a .unions .now) (a .skinds .now) (a .sends .now) (a .spool .now) (a .fill) (a .memo .now) (a .scratch .now) (a .p) (pre .0) (c .before .before .before .before .before .before .before .wide .ensures) (c .before .before .before .before .before .before .claim-at .result) (c .before .before .before .before .before .justification-at .result) (c .before .before .before .before .before .before .claim-at .ensures) (c .before .before .before .before .before .justification-at .ensures))))))
+plain-step-requires c κs = let a = c .before .before .before .before .before .before .before .before .before .before .before .before .before .before .before .before .args in let pre = c .before .before .before .before .before .before .before .before .before .before .before .before .before .before .before .before .pre in (pre .0 .ready, (pre .0 .indexed .stored, (first-cells (pre .0 .ready) (a .skinds .now) (a .sends .now) (a .spool .now) (a .fill) (pre .0 .terms), (pre .1, (claim-here (a .job .now) (a .unions .now) (a .skinds .now) (a .sends .now) (a .spool .now) (a .index .now) (a .fill) (a .memo .now) (a .scratch .now) (a .p) (pre .0) (c .before .before .before .before .before .before .before .wide .ensures) (c .before .before .before .before .before .before .claim-at .result) (c .before .before .before .before .before .justification-at .result) (c .before .before .before .before .before .before .claim-at .ensures) (c .before .before .before .before .before .justification-at .ensures), justified-here (a .job .now) (a .unions .now) (a .skinds .now) (a .sends .now) (a .spool .now) (a .index .now) (a .fill) (a .memo .now) (a .scratch .now) (a .p) (pre .0) (c .before .before .before .before .before .before .before .wide .ensures) (c .before .before .before .before .before .before .claim-at .result) (c .before .before .before .before .before .justification-at .result) (c .before .before .before .before .before .before .claim-at .ensures) (c .before .before .before .before .before .justification-at .ensures))))))
 
--- src/lib.rt:379:1
 same-length : tie.Need-same-length
 same-length c = search needs
 
--- src/lib.rt:379:1
 same-length-2 : tie.Need-same-length-2
 same-length-2 c = search needs
 
--- src/lib.rt:379:1
 same-length-3 : tie.Need-same-length-3
 same-length-3 c = search needs
 
--- src/lib.rt:379:1
 same-length-4 : tie.Need-same-length-4
 same-length-4 c = search needs
 
--- src/lib.rt:379:1
 same-length-5 : tie.Need-same-length-5
 same-length-5 c = search needs
 
--- src/lib.rt:379:1
-returns : tie.Need-returns
-returns c = let a = c .before .before .before .before .before .before .before .before .before .before .before .before .before .before .before .before .before .before .before .before .before .before .before .before .before .before .before .before .before .args in let pre = c .before .before .before .before .before .before .before .before .before .before .before .before .before .before .before .before .before .before .before .before .before .before .before .before .before .before .before .before .before .pre in concludes-merge (a .job .now) (a .unions .now) (a .skinds .now) (a .sends .now) (a .spool .now) (a .fill) (a .memo .now) (a .scratch .now) (a .p) (pre .0) (c .before .before .before .before .before .before .before .before .before .before .before .before .before .before .before .before .before .before .before .before .before .wide .ensures) (c .before .before .before .before .before .before .before .before .before .before .before .before .before .before .before .before .before .before .before .before .claim-at .result) (c .before .before .before .before .before .before .before .before .before .before .before .before .before .before .before .before .before .before .before .justification-at .result) (c .before .before .before .before .before .before .before .before .before .before .before .before .before .before .before .before .before .before .before .before .claim-at .ensures) (c .before .before .before .before .before .before .before .before .before .before .before .before .before .before .before .before .before .before .before .justification-at .ensures) (c .before .before .before .before .before .before .before .before .before .before .merge-at .result) {k₁ = c .before .before .before .before .before .before .before .before .before .before .merge-at .last .1 .0} {e₁ = c .before .before .before .before .before .before .before .before .before .before .merge-at .last .1 .1 .0} {l₁ = c .before .before .before .before .before .before .before .before .before .before .merge-at .last .1 .1 .1 .0} {memo₁ = c .before .before .before .before .before .before .before .before .before .before .merge-at .last .1 .1 .1 .1 .1 .0} {W₁ = c .before .before .before .before .before .before .before .before .before .before .merge-at .last .1 .1 .1 .1 .1 .1 .0} (c .before .before .before .before .before .before .before .before .before .before .before .before .before .before .before .before .before .j .given .1) (c .before .before .before .before .before .before .before .before .before .before .merge-at .ensures .0) (c .before .before .before .before .before .before .before .before .before .before .merge-at .ensures .1)
-
--- src/lib.rt:379:1
 same-length-6 : tie.Need-same-length-6
 same-length-6 c = search needs
 
--- src/lib.rt:379:1
+returns : tie.Need-returns
+returns c = let a = c .before .before .before .before .before .before .before .before .before .before .before .before .before .before .before .before .before .before .before .before .before .before .before .before .before .before .before .before .before .before .before .before .before .args in let pre = c .before .before .before .before .before .before .before .before .before .before .before .before .before .before .before .before .before .before .before .before .before .before .before .before .before .before .before .before .before .before .before .before .before .pre in concludes-merge (a .job .now) (a .unions .now) (a .skinds .now) (a .sends .now) (a .spool .now) (a .index .now) (a .fill) (a .memo .now) (a .scratch .now) (a .p) (pre .0) (c .before .before .before .before .before .before .before .before .before .before .before .before .before .before .before .before .before .before .before .before .before .before .before .before .wide .ensures) (c .before .before .before .before .before .before .before .before .before .before .before .before .before .before .before .before .before .before .before .before .before .before .before .claim-at .result) (c .before .before .before .before .before .before .before .before .before .before .before .before .before .before .before .before .before .before .before .before .before .before .justification-at .result) (c .before .before .before .before .before .before .before .before .before .before .before .before .before .before .before .before .before .before .before .before .before .before .before .claim-at .ensures) (c .before .before .before .before .before .before .before .before .before .before .before .before .before .before .before .before .before .before .before .before .before .before .justification-at .ensures) (c .before .before .before .before .before .before .before .before .before .before .before .before .merge-at .result) {k₁ = c .before .before .before .before .before .before .before .before .before .before .before .before .merge-at .last .1 .0} {e₁ = c .before .before .before .before .before .before .before .before .before .before .before .before .merge-at .last .1 .1 .0} {l₁ = c .before .before .before .before .before .before .before .before .before .before .before .before .merge-at .last .1 .1 .1 .0} {memo₁ = c .before .before .before .before .before .before .before .before .before .before .before .before .merge-at .last .1 .1 .1 .1 .1 .1 .0} {W₁ = c .before .before .before .before .before .before .before .before .before .before .before .before .merge-at .last .1 .1 .1 .1 .1 .1 .1 .0} (c .before .before .before .before .before .before .before .before .before .before .before .before .before .before .before .before .before .before .before .before .j .given .1) (c .before .before .before .before .before .before .before .before .before .before .before .before .merge-at .ensures .0) (c .before .before .before .before .before .before .before .before .before .before .before .before .merge-at .ensures .1)
+
 same-length-7 : tie.Need-same-length-7
 same-length-7 c = search needs
 
--- src/lib.rt:379:1
 same-length-8 : tie.Need-same-length-8
 same-length-8 c = search needs
 
--- src/lib.rt:379:1
-returns-2 : tie.Need-returns-2
-returns-2 c = let a = c .before .before .before .before .before .before .before .before .before .before .before .before .before .before .before .before .before .before .before .before .before .before .before .args in let pre = c .before .before .before .before .before .before .before .before .before .before .before .before .before .before .before .before .before .before .before .before .before .before .before .pre in concludes-congr (a .job .now) (a .unions .now) (a .skinds .now) (a .sends .now) (a .spool .now) (a .fill) (a .memo .now) (a .scratch .now) (a .p) (pre .0) (c .before .before .before .before .before .before .before .before .before .before .before .before .before .before .before .wide .ensures) (c .before .before .before .before .before .before .before .before .before .before .before .before .before .before .claim-at .result) (c .before .before .before .before .before .before .before .before .before .before .before .before .before .justification-at .result) (c .before .before .before .before .before .before .before .before .before .before .before .before .before .before .claim-at .ensures) (c .before .before .before .before .before .before .before .before .before .before .before .before .before .justification-at .ensures) (c .before .before .before .before .before .before .congr-at .result) {k₁ = c .before .before .before .before .before .before .congr-at .last .1 .0} {e₁ = c .before .before .before .before .before .before .congr-at .last .1 .1 .0} {l₁ = c .before .before .before .before .before .before .congr-at .last .1 .1 .1 .0} (c .before .before .before .before .before .before .before .before .before .before .before .j2 .given .1) (reference-inside (justified-here (a .job .now) (a .unions .now) (a .skinds .now) (a .sends .now) (a .spool .now) (a .fill) (a .memo .now) (a .scratch .now) (a .p) (pre .0) (c .before .before .before .before .before .before .before .before .before .before .before .before .before .before .before .wide .ensures) (c .before .before .before .before .before .before .before .before .before .before .before .before .before .before .claim-at .result) (c .before .before .before .before .before .before .before .before .before .before .before .before .before .justification-at .result) (c .before .before .before .before .before .before .before .before .before .before .before .before .before .before .claim-at .ensures) (c .before .before .before .before .before .before .before .before .before .before .before .before .before .justification-at .ensures)) (pre .1) (c .before .before .before .before .before .before .before .before .before .before .before .j2 .given .1) (List·Memᴰ·tail (List·Memᴰ·head refl)) refl) (c .before .before .before .before .before .before .congr-at .ensures)
-
--- src/lib.rt:379:1
 same-length-9 : tie.Need-same-length-9
 same-length-9 c = search needs
 
--- src/lib.rt:379:1
 same-length-10 : tie.Need-same-length-10
 same-length-10 c = search needs
 
--- src/lib.rt:379:1
+returns-2 : tie.Need-returns-2
+returns-2 c = let a = c .before .before .before .before .before .before .before .before .before .before .before .before .before .before .before .before .before .before .before .before .before .before .before .before .before .before .before .args in let pre = c .before .before .before .before .before .before .before .before .before .before .before .before .before .before .before .before .before .before .before .before .before .before .before .before .before .before .before .pre in concludes-congr (a .job .now) (a .unions .now) (a .skinds .now) (a .sends .now) (a .spool .now) (a .index .now) (a .fill) (a .memo .now) (a .scratch .now) (a .p) (pre .0) (c .before .before .before .before .before .before .before .before .before .before .before .before .before .before .before .before .before .before .wide .ensures) (c .before .before .before .before .before .before .before .before .before .before .before .before .before .before .before .before .before .claim-at .result) (c .before .before .before .before .before .before .before .before .before .before .before .before .before .before .before .before .justification-at .result) (c .before .before .before .before .before .before .before .before .before .before .before .before .before .before .before .before .before .claim-at .ensures) (c .before .before .before .before .before .before .before .before .before .before .before .before .before .before .before .before .justification-at .ensures) (c .before .before .before .before .before .before .before .before .congr-at .result) {k₁ = c .before .before .before .before .before .before .before .before .congr-at .last .1 .0} {e₁ = c .before .before .before .before .before .before .before .before .congr-at .last .1 .1 .0} {l₁ = c .before .before .before .before .before .before .before .before .congr-at .last .1 .1 .1 .0} (c .before .before .before .before .before .before .before .before .before .before .before .before .before .before .j2 .given .1) (reference-inside (justified-here (a .job .now) (a .unions .now) (a .skinds .now) (a .sends .now) (a .spool .now) (a .index .now) (a .fill) (a .memo .now) (a .scratch .now) (a .p) (pre .0) (c .before .before .before .before .before .before .before .before .before .before .before .before .before .before .before .before .before .before .wide .ensures) (c .before .before .before .before .before .before .before .before .before .before .before .before .before .before .before .before .before .claim-at .result) (c .before .before .before .before .before .before .before .before .before .before .before .before .before .before .before .before .justification-at .result) (c .before .before .before .before .before .before .before .before .before .before .before .before .before .before .before .before .before .claim-at .ensures) (c .before .before .before .before .before .before .before .before .before .before .before .before .before .before .before .before .justification-at .ensures)) (pre .1) (c .before .before .before .before .before .before .before .before .before .before .before .before .before .before .j2 .given .1) (List·Memᴰ·tail (List·Memᴰ·head refl)) refl) (c .before .before .before .before .before .before .before .before .congr-at .ensures)
+
 same-length-11 : tie.Need-same-length-11
 same-length-11 c = search needs
 
--- src/lib.rt:379:1
 same-length-12 : tie.Need-same-length-12
 same-length-12 c = search needs
 
--- src/lib.rt:379:1
+same-length-13 : tie.Need-same-length-13
+same-length-13 c = search needs
+
+same-length-14 : tie.Need-same-length-14
+same-length-14 c = search needs
+
 returns-3 : tie.Need-returns-3
-returns-3 c = let a = c .before .before .before .before .before .before .before .before .before .before .before .before .before .before .before .before .args in let pre = c .before .before .before .before .before .before .before .before .before .before .before .before .before .before .before .before .pre in concludes-plain (a .job .now) (a .unions .now) (a .skinds .now) (a .sends .now) (a .spool .now) (a .fill) (a .memo .now) (a .scratch .now) (a .p) (pre .0) (c .before .before .before .before .before .before .before .before .wide .ensures) (c .before .before .before .before .before .before .before .claim-at .result) (c .before .before .before .before .before .before .justification-at .result) (c .before .before .before .before .before .before .before .claim-at .ensures) (c .before .before .before .before .before .before .justification-at .ensures) (plain-arm (c .before .before .before .before .before .before .justification-at .result) (c .before .before .before .before .before .match .keys3)) (c .plain-step .ensures)
+returns-3 c = let a = c .before .before .before .before .before .before .before .before .before .before .before .before .before .before .before .before .before .args in let pre = c .before .before .before .before .before .before .before .before .before .before .before .before .before .before .before .before .before .pre in concludes-plain (a .job .now) (a .unions .now) (a .skinds .now) (a .sends .now) (a .spool .now) (a .index .now) (a .fill) (a .memo .now) (a .scratch .now) (a .p) (pre .0) (c .before .before .before .before .before .before .before .before .wide .ensures) (c .before .before .before .before .before .before .before .claim-at .result) (c .before .before .before .before .before .before .justification-at .result) (c .before .before .before .before .before .before .before .claim-at .ensures) (c .before .before .before .before .before .before .justification-at .ensures) (plain-arm (c .before .before .before .before .before .before .justification-at .result) (c .before .before .before .before .before .match .keys3)) (c .plain-step .ensures)
 
 pub conclude-spec : {M : Type 1} → statement M
 conclude-spec =
@@ -127,13 +108,15 @@ conclude-spec =
     same-length-3
     same-length-4
     same-length-5
-    returns
     same-length-6
+    returns
     same-length-7
     same-length-8
-    returns-2
     same-length-9
     same-length-10
+    returns-2
     same-length-11
     same-length-12
+    same-length-13
+    same-length-14
     returns-3)

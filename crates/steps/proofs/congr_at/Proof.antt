@@ -5,41 +5,35 @@ use borrow.Author.Needs.{needs}
 use Rattle.steps.proofs.congr_at.Statement.{statement}
 use Rattle.steps.proofs.congr_at.Tie as tie
 
--- src/lib.rt:326:44
 wide-requires : tie.Need-wide-requires
 wide-requires c κs = search needs
 
--- src/lib.rt:326:9
 claim-at-requires : tie.Need-claim-at-requires
 claim-at-requires c κs = search needs
 
--- src/lib.rt:327:44
 wide-requires-2 : tie.Need-wide-requires-2
 wide-requires-2 c κs = search needs
 
--- src/lib.rt:327:9
 claim-at-requires-2 : tie.Need-claim-at-requires-2
 claim-at-requires-2 c κs = search needs
 
--- src/lib.rt:328:5
 congr-step-requires : tie.Need-congr-step-requires
-congr-step-requires c κs = let a = c .before .before .before .before .before .before .before .before .before .before .before .args in let pre = c .before .before .before .before .before .before .before .before .before .before .before .pre in (pre .1 .0, term-small (pre .0) (pre .1 .1 .0) (c .before .before .before .before .before .claim-at .ensures .rhs))
+congr-step-requires c κs = let a = c .before .before .before .before .before .before .before .before .before .before .before .before .before .args in let pre = c .before .before .before .before .before .before .before .before .before .before .before .before .before .pre in (pre .1 .0, term-small (pre .0) (pre .1 .1 .0) (c .before .before .before .before .before .before .claim-at .ensures .rhs))
 
--- src/lib.rt:304:1
 same-length : tie.Need-same-length
 same-length c = search needs
 
--- src/lib.rt:304:1
 same-length-2 : tie.Need-same-length-2
 same-length-2 c = search needs
 
--- src/lib.rt:304:1
 same-length-3 : tie.Need-same-length-3
 same-length-3 c = search needs
 
--- src/lib.rt:304:1
+same-length-4 : tie.Need-same-length-4
+same-length-4 c = search needs
+
 returns : tie.Need-returns
-returns c = let a = c .before .before .before .before .before .before .before .before .before .before .before .before .before .before .before .before .before .before .args in let pre = c .before .before .before .before .before .before .before .before .before .before .before .before .before .before .before .before .before .before .pre in congr-as (a .p) (propositionOf (a .q)) (a .i) (claim-of (c .before .before .before .before .before .before .before .before .before .before .before .before .claim-at .ensures) (c .before .before .before .before .before .before .before .before .before .before .before .before .before .wide .ensures)) (claim-of (c .before .before .before .before .before .before .before .before .before .before .claim-at2 .ensures) (c .before .before .before .before .before .before .before .before .before .before .before .wide2 .ensures)) (c .before .before .before .before .before .before .congr-step .ensures)
+returns c = let a = c .before .before .before .before .before .before .before .before .before .before .before .before .before .before .before .before .before .before .before .before .before .before .args in let pre = c .before .before .before .before .before .before .before .before .before .before .before .before .before .before .before .before .before .before .before .before .before .before .pre in congr-as (a .p) (propositionOf (a .q)) (a .i) (claim-of (c .before .before .before .before .before .before .before .before .before .before .before .before .before .before .before .claim-at .ensures) (c .before .before .before .before .before .before .before .before .before .before .before .before .before .before .before .before .wide .ensures)) (claim-of (c .before .before .before .before .before .before .before .before .before .before .before .before .before .claim-at2 .ensures) (c .before .before .before .before .before .before .before .before .before .before .before .before .before .before .wide2 .ensures)) (c .before .before .before .before .before .before .before .before .congr-step .ensures)
 
 pub congr-at-spec : {M : Type 1} → statement M
 congr-at-spec =
@@ -53,4 +47,5 @@ congr-at-spec =
     same-length
     same-length-2
     same-length-3
+    same-length-4
     returns)

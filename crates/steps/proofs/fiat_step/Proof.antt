@@ -5,22 +5,23 @@ use borrow.Author.Needs.{needs}
 use Rattle.steps.proofs.fiat_step.Statement.{statement}
 use Rattle.steps.proofs.fiat_step.Tie as tie
 
--- src/lib.rt:109:9
 is-literal-requires : tie.Need-is-literal-requires
 is-literal-requires c κs = search needs
 
--- src/lib.rt:110:9
 is-global-pair-requires : tie.Need-is-global-pair-requires
 is-global-pair-requires c κs = search needs
 
--- src/lib.rt:111:5
 check-that-requires : tie.Need-check-that-requires
 check-that-requires c κs = search needs
 
--- src/lib.rt:95:1
 returns : tie.Need-returns
 returns c = let a = c .before .before .before .before .before .before .before .before .before .args in λ ps g. fiat-tested ps (a .p) (propositionOf (a .q)) (termsIn (a .kinds .now) (a .ends .now) (a .pool .now) (a .fill)) (c .before .before .before .is-literal .ensures) (c .before .before .is-global-pair .ensures ps g) (c .check-that .ensures)
 
 pub fiat-step-spec : {M : Type 1} → statement M
 fiat-step-spec =
-    tie.close (tie.spec is-literal-requires is-global-pair-requires check-that-requires returns)
+    tie.close
+    (tie.spec
+    is-literal-requires
+    is-global-pair-requires
+    check-that-requires
+    returns)

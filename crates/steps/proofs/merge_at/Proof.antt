@@ -8,69 +8,56 @@ use borrow.Author.Needs.{needs}
 use Rattle.steps.proofs.merge_at.Statement.{statement}
 use Rattle.steps.proofs.merge_at.Tie as tie
 
--- src/lib.rt:355:44
 wide-requires : tie.Need-wide-requires
 wide-requires c κs = search needs
 
--- src/lib.rt:355:9
 claim-at-requires : tie.Need-claim-at-requires
 claim-at-requires c κs = search needs
 
--- src/lib.rt:356:44
 wide-requires-2 : tie.Need-wide-requires-2
 wide-requires-2 c κs = search needs
 
--- src/lib.rt:356:9
 claim-at-requires-2 : tie.Need-claim-at-requires-2
 claim-at-requires-2 c κs = search needs
 
--- src/lib.rt:358:13
 add-d : tie.Need-add-d
 add-d c = search needs
 
--- src/lib.rt:369:9
 mul-merge-step : tie.Need-mul-merge-step
-mul-merge-step c = let a = c .before .before .before .before .before .before .before .before .before .before .before .before .before .before .args in let pre = c .before .before .before .before .before .before .before .before .before .before .before .before .before .before .pre in let h = pre .0 .stored .formed .few in omega arith
+mul-merge-step c = let a = c .before .before .before .before .before .before .before .before .before .before .before .before .before .before .before .before .args in let pre = c .before .before .before .before .before .before .before .before .before .before .before .before .before .before .before .before .pre in let h = pre .0 .indexed .stored .formed .few in omega arith
 
--- src/lib.rt:369:9
 sub-merge-step : tie.Need-sub-merge-step
 sub-merge-step c = search needs
 
--- src/lib.rt:369:9
 part-merge-step-start : tie.Need-part-merge-step-start
 part-merge-step-start c = search needs
 
--- src/lib.rt:369:9
 part-merge-step-end : tie.Need-part-merge-step-end
 part-merge-step-end c = search needs
 
--- src/lib.rt:359:5
 merge-step-requires : tie.Need-merge-step-requires
-merge-step-requires c κs = let a = c .before .before .before .before .before .before .before .before .before .before .before .before .before .before .before .args in let pre = c .before .before .before .before .before .before .before .before .before .before .before .before .before .before .before .pre in (merge-stands (pre .0), (term-small (pre .0 .ready) (pre .0 .terms) (c .before .before .before .before .before .before .before .claim-at .ensures .rhs), term-small (pre .0 .ready) (pre .0 .terms) (c .before .before .before .before .before .claim-at2 .ensures .rhs)))
+merge-step-requires c κs = let a = c .before .before .before .before .before .before .before .before .before .before .before .before .before .before .before .before .before .args in let pre = c .before .before .before .before .before .before .before .before .before .before .before .before .before .before .before .before .before .pre in (merge-stands (pre .0), (term-small (pre .0 .ready) (pre .0 .terms) (c .before .before .before .before .before .before .before .before .claim-at .ensures .rhs), term-small (pre .0 .ready) (pre .0 .terms) (c .before .before .before .before .before .before .claim-at2 .ensures .rhs)))
 
--- src/lib.rt:332:1
 same-length : tie.Need-same-length
 same-length c = search needs
 
--- src/lib.rt:332:1
 same-length-2 : tie.Need-same-length-2
 same-length-2 c = search needs
 
--- src/lib.rt:332:1
 same-length-3 : tie.Need-same-length-3
 same-length-3 c = search needs
 
--- src/lib.rt:332:1
 same-length-4 : tie.Need-same-length-4
 same-length-4 c = search needs
 
--- src/lib.rt:332:1
 same-length-5 : tie.Need-same-length-5
 same-length-5 c = search needs
 
--- src/lib.rt:332:1
+same-length-6 : tie.Need-same-length-6
+same-length-6 c = search needs
+
 returns : tie.Need-returns
-returns c = let a = c .before .before .before .before .before .before .before .before .before .before .before .before .before .before .before .before .before .before .before .before .before .before .before .before .before .before .args in let pre = c .before .before .before .before .before .before .before .before .before .before .before .before .before .before .before .before .before .before .before .before .before .before .before .before .before .before .pre in (merge-as (programFor (a .job .now)) (a .p) (propositionOf (a .q)) (a .function) {k = a .skinds .now} {e = a .sends .now} {l = a .spool .now} {f = a .fill} {k₁ = c .before .before .before .before .before .before .before .before .before .before .merge-step .last .1 .0} {e₁ = c .before .before .before .before .before .before .before .before .before .before .merge-step .last .1 .1 .0} {l₁ = c .before .before .before .before .before .before .before .before .before .before .merge-step .last .1 .1 .1 .0} {m = c .before .before .before .before .before .before .before .before .before .before .merge-step .last .1 .1 .1 .1 .1 .0} (claim-of (c .before .before .before .before .before .before .before .before .before .before .before .before .before .before .before .before .before .before .claim-at .ensures) (c .before .before .before .before .before .before .before .before .before .before .before .before .before .before .before .before .before .before .before .wide .ensures)) (claim-of (c .before .before .before .before .before .before .before .before .before .before .before .before .before .before .before .before .claim-at2 .ensures) (c .before .before .before .before .before .before .before .before .before .before .before .before .before .before .before .before .before .wide2 .ensures)) (c .before .before .before .before .before .before .before .before .before .before .merge-step .ensures), second-part (length (a .skinds .now)) (a .scratch .now) (pre .0 .long) (c .before .before .before .before .before .before .before .before .before .before .merge-step .last .1 .1 .1 .1 .1 .1 .0) (c .before .before .before .before .before .before .before .before .before .before .merge-step .kept .1 .1 .1 .1 .1 .1 .0))
+returns c = let a = c .before .before .before .before .before .before .before .before .before .before .before .before .before .before .before .before .before .before .before .before .before .before .before .before .before .before .before .before .before .before .args in let pre = c .before .before .before .before .before .before .before .before .before .before .before .before .before .before .before .before .before .before .before .before .before .before .before .before .before .before .before .before .before .before .pre in (merge-as (programFor (a .job .now)) (a .p) (propositionOf (a .q)) (a .function) {k = a .skinds .now} {e = a .sends .now} {l = a .spool .now} {f = a .fill} {k₁ = c .before .before .before .before .before .before .before .before .before .before .before .before .merge-step .last .1 .0} {e₁ = c .before .before .before .before .before .before .before .before .before .before .before .before .merge-step .last .1 .1 .0} {l₁ = c .before .before .before .before .before .before .before .before .before .before .before .before .merge-step .last .1 .1 .1 .0} {m = c .before .before .before .before .before .before .before .before .before .before .before .before .merge-step .last .1 .1 .1 .1 .1 .1 .0} (claim-of (c .before .before .before .before .before .before .before .before .before .before .before .before .before .before .before .before .before .before .before .before .before .claim-at .ensures) (c .before .before .before .before .before .before .before .before .before .before .before .before .before .before .before .before .before .before .before .before .before .before .wide .ensures)) (claim-of (c .before .before .before .before .before .before .before .before .before .before .before .before .before .before .before .before .before .before .before .claim-at2 .ensures) (c .before .before .before .before .before .before .before .before .before .before .before .before .before .before .before .before .before .before .before .before .wide2 .ensures)) (c .before .before .before .before .before .before .before .before .before .before .before .before .merge-step .ensures), second-part (length (a .skinds .now)) (a .scratch .now) (pre .0 .long) (c .before .before .before .before .before .before .before .before .before .before .before .before .merge-step .last .1 .1 .1 .1 .1 .1 .1 .0) (c .before .before .before .before .before .before .before .before .before .before .before .before .merge-step .kept .1 .1 .1 .1 .1 .1 .1 .0))
 
 pub merge-at-spec : {M : Type 1} → statement M
 merge-at-spec =
@@ -91,4 +78,5 @@ merge-at-spec =
     same-length-3
     same-length-4
     same-length-5
+    same-length-6
     returns)

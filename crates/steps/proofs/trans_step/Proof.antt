@@ -4,21 +4,23 @@ use borrow.Author.Needs.{needs}
 use Rattle.steps.proofs.trans_step.Statement.{statement}
 use Rattle.steps.proofs.trans_step.Tie as tie
 
--- src/lib.rt:45:9
 check-that-requires : tie.Need-check-that-requires
 check-that-requires c κs = search needs
 
--- src/lib.rt:54:9
 returns : tie.Need-returns
 returns c = let a = c .before .before .before .before .before .args in λ s. trans-first (a .p) (propositionOf (a .q)) (propositionOf (a .a)) (propositionOf (a .b)) _ (c .before .before .check-that .ensures) s (c .if1 .taken)
 
--- src/lib.rt:56:5
 check-that-requires-2 : tie.Need-check-that-requires-2
 check-that-requires-2 c κs = search needs
 
--- src/lib.rt:42:1
 returns-2 : tie.Need-returns-2
 returns-2 c = let a = c .before .before .before .before .before .before .before .before .before .before .args in λ s. trans-both (a .p) (propositionOf (a .q)) (propositionOf (a .a)) (propositionOf (a .b)) _ (c .before .before .before .before .before .before .before .check-that .ensures) s _ (c .before .before .before .before .before .if1 .left) (c .check-that2 .ensures)
 
 pub trans-step-spec : {M : Type 1} → statement M
-trans-step-spec = tie.close (tie.spec check-that-requires returns check-that-requires-2 returns-2)
+trans-step-spec =
+    tie.close
+    (tie.spec
+    check-that-requires
+    returns
+    check-that-requires-2
+    returns-2)

@@ -36,9 +36,12 @@ same-length-2 c = search needs
 same-length-3 : tie.Need-same-length-3
 same-length-3 c = search needs
 
+same-length-4 : tie.Need-same-length-4
+same-length-4 c = search needs
+
 returns : tie.Need-returns
-returns c = let s = c .before .before .before .before .before .before .before .before .before .before .before .before .before .before .before .before .before .before in
-    adds (s .pre .0) (model.app (s .args .f) (s .args .args .now)) (rw (c .before .before .before .before .before .before .before .before .before .before .before .before .copy .ensures, put-first) at (c .before .before .before .before .before .before .add .ensures))
+returns c = let s = c .before .before .before .before .before .before .before .before .before .before .before .before .before .before .before .before .before .before .before .before .before .before in
+    adds (s .pre .0) (model.app (s .args .f) (s .args .args .now)) (rw (c .before .before .before .before .before .before .before .before .before .before .before .before .before .before .before .copy .ensures, put-first) at (c .before .before .before .before .before .before .before .before .add .ensures))
 
 pub app-spec : {M : Type 1} → statement M
 app-spec =
@@ -54,4 +57,5 @@ app-spec =
     same-length
     same-length-2
     same-length-3
+    same-length-4
     returns)

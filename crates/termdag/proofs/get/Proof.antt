@@ -23,4 +23,9 @@ returns c = let s = c .before .before .before .before .before .before in
 pub get-spec : {M : Type 1} → statement M
 get-spec =
     tie.close
-    (tie.spec words-requires mul-read-term shared-slice-read-read-term read-term-requires returns)
+    (tie.spec
+    words-requires
+    mul-read-term
+    shared-slice-read-read-term
+    read-term-requires
+    returns)

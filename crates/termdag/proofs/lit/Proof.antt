@@ -20,11 +20,21 @@ same-length-2 c = search needs
 same-length-3 : tie.Need-same-length-3
 same-length-3 c = search needs
 
+same-length-4 : tie.Need-same-length-4
+same-length-4 c = search needs
+
 returns : tie.Need-returns
-returns c = let s = c .before .before .before .before .before .before .before .before .before .before .before .before .before .before in
-    adds (s .pre) (model.lit (literalOf (s .args .l))) (c .before .before .before .before .before .before .add .ensures)
+returns c = let s = c .before .before .before .before .before .before .before .before .before .before .before .before .before .before .before .before .before .before in
+    adds (s .pre) (model.lit (literalOf (s .args .l))) (c .before .before .before .before .before .before .before .before .add .ensures)
 
 pub lit-spec : {M : Type 1} → statement M
 lit-spec =
     tie.close
-    (tie.spec slice-aggregate-add add-requires same-length same-length-2 same-length-3 returns)
+    (tie.spec
+    slice-aggregate-add
+    add-requires
+    same-length
+    same-length-2
+    same-length-3
+    same-length-4
+    returns)

@@ -6,10 +6,10 @@ use Rattle.termdag.proofs.load_terms.Statement.{statement}
 use Rattle.termdag.proofs.load_terms.Tie as tie
 
 abbrev Inv-loop : tie.InvT-loop
-Inv-loop jkinds jends jpool jfill terms kinds₀ ends₀ pool₀ fill₀ i₀ kinds ends pool fill i = (i ≤ terms) × Copied jkinds jends jpool i kinds₀ ends₀ pool₀ kinds ends pool fill
+Inv-loop jkinds jends jpool jfill terms multiplier kinds₀ ends₀ pool₀ fill₀ i₀ kinds ends pool fill i = (i ≤ terms) × Copied jkinds jends jpool i kinds₀ ends₀ pool₀ kinds ends pool fill
 
 abbrev μ-loop : tie.MeasureT-loop
-μ-loop jkinds jends jpool jfill terms kinds₀ ends₀ pool₀ fill₀ i₀ kinds ends pool fill i = terms - i
+μ-loop jkinds jends jpool jfill terms multiplier kinds₀ ends₀ pool₀ fill₀ i₀ kinds ends pool fill i = terms - i
 
 loop-holds : tie.Need-loop-holds Inv-loop μ-loop
 loop-holds c = (omega arith, copied-none (c .before .before .before .before .before .before .pre))
@@ -47,7 +47,7 @@ same-length-3 : tie.Need-same-length-3 Inv-loop μ-loop
 same-length-3 c = search needs
 
 returns : tie.Need-returns Inv-loop μ-loop
-returns c = loaded (c .before .before .before .before .before .before .before .before .pre) (c .before .loop .inv .1) (omega arith)
+returns c = loaded (c .before .before .before .before .before .before .before .before .pre) (c .before .loop .inv .1) (omega arith) (c .before .before .before .before .before .before .before .before .args .multiplier)
 
 pub load-terms-spec : {M : Type 1} → statement M
 load-terms-spec =

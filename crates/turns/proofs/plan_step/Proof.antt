@@ -20,4 +20,10 @@ returns-2 c = plain-plans (c .before .before .operands .ensures) (c .before .if1
 
 pub plan-step-spec : {M : Type 1} → statement M
 plan-step-spec =
-    tie.close (tie.spec operands-requires rule-plan-requires returns plain-plan-requires returns-2)
+    tie.close
+    (tie.spec
+    operands-requires
+    rule-plan-requires
+    returns
+    plain-plan-requires
+    returns-2)

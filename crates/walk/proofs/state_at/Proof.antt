@@ -14,4 +14,9 @@ returns-3 : tie.Need-returns-3
 returns-3 c = record { few = omega arith; walks = λ u. absurd (omega arith); ends = λ u n. let x = c .if2 .left in omega arith }
 
 pub state-at-spec : {M : Type 1} → statement M
-state-at-spec = tie.close (tie.spec returns returns-2 returns-3)
+state-at-spec =
+    tie.close
+    (tie.spec
+    returns
+    returns-2
+    returns-3)

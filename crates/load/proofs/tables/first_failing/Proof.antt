@@ -17,19 +17,19 @@ plus-zero : (n : ℕ) → n ≡ n + 0
 plus-zero n = omega arith
 
 abbrev Inv-loop : tie.InvT-loop
-Inv-loop kinds ends pool z round table first count i₀ i = (i ≤ count) × (firstFound first (failsFrom 0 (getD (testsFor round (sizesIn z) (tablesFor kinds ends pool z)) table passed) (getD (tableList (tablesFor kinds ends pool z)) table [])) ≡ firstFound (first + i) (failsFrom i (getD (testsFor round (sizesIn z) (tablesFor kinds ends pool z)) table passed) (drop i (getD (tableList (tablesFor kinds ends pool z)) table []))))
+Inv-loop kinds ends pool z distinct round table first count i₀ i = (i ≤ count) × (firstFound first (failsFrom 0 (getD (testsFor round (sizesIn z) (tablesFor kinds ends pool z)) table passed) (getD (tableList (tablesFor kinds ends pool z)) table [])) ≡ firstFound (first + i) (failsFrom i (getD (testsFor round (sizesIn z) (tablesFor kinds ends pool z)) table passed) (drop i (getD (tableList (tablesFor kinds ends pool z)) table []))))
 
 abbrev μ-loop : tie.MeasureT-loop
-μ-loop kinds ends pool z round table first count i₀ i = count - i
+μ-loop kinds ends pool z distinct round table first count i₀ i = count - i
 
 loop-holds : tie.Need-loop-holds Inv-loop μ-loop
 loop-holds c = let a = c .before .before .before .args in (omega arith, ap (λ (k : ℕ). firstFound k (failsFrom 0 (getD (testsFor (a .round) (sizesIn (a .z)) (tablesFor (a .kinds .now) (a .ends .now) (a .pool .now) (a .z))) (a .table) passed) (getD (tableList (tablesFor (a .kinds .now) (a .ends .now) (a .pool .now) (a .z))) (a .table) []))) (plus-zero (a .first)))
 
 passes-requires : tie.Need-passes-requires Inv-loop μ-loop
-passes-requires c κs = let s = c .before .before .before .before .before in (s .pre .0, record { table = s .pre .1 .0; first = s .pre .1 .1 .0; inside = omega (arith, s .pre .1 .1 .1) })
+passes-requires c κs = let s = c .before .before .before .before .before in (s .pre .0, (record { table = s .pre .1 .0; first = s .pre .1 .1 .0; inside = omega (arith, s .pre .1 .1 .1 .0) }, s .pre .1 .1 .1 .1))
 
-add-t12 : tie.Need-add-t12 Inv-loop μ-loop
-add-t12 c = let s = c .before .before .before .before .before .before .before in omega (arith, place-inside (sizesIn (s .args .z)) (s .args .table) (c .before .before .before .loop .i) (s .pre .1 .0) (omega (arith, s .pre .1 .1 .1)), s .pre .1 .1 .0)
+add-t13 : tie.Need-add-t13 Inv-loop μ-loop
+add-t13 c = let s = c .before .before .before .before .before .before .before in omega (arith, place-inside (sizesIn (s .args .z)) (s .args .table) (c .before .before .before .loop .i) (s .pre .1 .0) (omega (arith, s .pre .1 .1 .1 .0)), s .pre .1 .1 .0)
 
 returns : tie.Need-returns Inv-loop μ-loop
 returns c = let s = c .before .before .before .before .before .before .before in
@@ -41,8 +41,8 @@ returns c = let s = c .before .before .before .before .before .before .before in
     let f = getD (testsFor (a .round) z (tablesFor (a .kinds .now) (a .ends .now) (a .pool .now) (a .z))) (a .table) passed in
     let l = c .before .before .before .loop in
     let long : length cs ≡ n = cells-length (a .kinds .now) (a .ends .now) (a .pool .now) n in
-    let size : length t ≡ a .count = table-length z cs long (a .table) (s .pre .1 .0) ∙ sym (s .pre .1 .1 .1) in
-    let same : getD t (l .i) noCell ≡ getD cs (a .first + l .i) noCell = table-cell z cs long (a .table) (s .pre .1 .0) (l .i) (omega (arith, s .pre .1 .1 .1)) ∙ ap (λ (k : ℕ). getD cs (k + l .i) noCell) (sym (s .pre .1 .1 .0)) in
+    let size : length t ≡ a .count = table-length z cs long (a .table) (s .pre .1 .0) ∙ sym (s .pre .1 .1 .1 .0) in
+    let same : getD t (l .i) noCell ≡ getD cs (a .first + l .i) noCell = table-cell z cs long (a .table) (s .pre .1 .0) (l .i) (omega (arith, s .pre .1 .1 .1 .0)) ∙ ap (λ (k : ℕ). getD cs (k + l .i) noCell) (sym (s .pre .1 .1 .0)) in
     let e = ap (f (l .i)) same ∙ sym (c .before .passes .ensures) in
     found-yes f t (a .first) (l .i) (omega arith) (e ∙ not-true (c .before .passes .result) (c .if1 .taken)) ∙ sym (l .inv .1)
 
@@ -62,8 +62,8 @@ loop-again c = let s = c .before .before .before .before .before .before .before
     let f = getD (testsFor (a .round) z (tablesFor (a .kinds .now) (a .ends .now) (a .pool .now) (a .z))) (a .table) passed in
     let l = c .before .before .before .loop in
     let long : length cs ≡ n = cells-length (a .kinds .now) (a .ends .now) (a .pool .now) n in
-    let size : length t ≡ a .count = table-length z cs long (a .table) (s .pre .1 .0) ∙ sym (s .pre .1 .1 .1) in
-    let same : getD t (l .i) noCell ≡ getD cs (a .first + l .i) noCell = table-cell z cs long (a .table) (s .pre .1 .0) (l .i) (omega (arith, s .pre .1 .1 .1)) ∙ ap (λ (k : ℕ). getD cs (k + l .i) noCell) (sym (s .pre .1 .1 .0)) in
+    let size : length t ≡ a .count = table-length z cs long (a .table) (s .pre .1 .0) ∙ sym (s .pre .1 .1 .1 .0) in
+    let same : getD t (l .i) noCell ≡ getD cs (a .first + l .i) noCell = table-cell z cs long (a .table) (s .pre .1 .0) (l .i) (omega (arith, s .pre .1 .1 .1 .0)) ∙ ap (λ (k : ℕ). getD cs (k + l .i) noCell) (sym (s .pre .1 .1 .0)) in
     let e = ap (f (l .i)) same ∙ sym (c .before .passes .ensures) in
     (omega arith, l .inv .1 ∙ found-no f t (a .first) (l .i) (omega arith) (e ∙ not-false (c .before .passes .result) (c .if1 .left)))
 
@@ -77,7 +77,7 @@ returns-2 c = let s = c .before .before .before .before .before in
     let f = getD (testsFor (a .round) z (tablesFor (a .kinds .now) (a .ends .now) (a .pool .now) (a .z))) (a .table) passed in
     let l = c .before .loop in
     let long : length cs ≡ n = cells-length (a .kinds .now) (a .ends .now) (a .pool .now) n in
-    let size : length t ≡ a .count = table-length z cs long (a .table) (s .pre .1 .0) ∙ sym (s .pre .1 .1 .1) in
+    let size : length t ≡ a .count = table-length z cs long (a .table) (s .pre .1 .0) ∙ sym (s .pre .1 .1 .1 .0) in
     found-end f t (a .first) (l .i) (omega arith) ∙ sym (l .inv .1)
 
 pub first-failing-spec : {M : Type 1} → statement M
@@ -88,7 +88,7 @@ first-failing-spec =
     μ-loop
     loop-holds
     passes-requires
-    add-t12
+    add-t13
     returns
     add-i
     loop-less
