@@ -14,6 +14,9 @@
 /* Where the number of proofs stands among a job's words. */
 #define PROOFS 10
 
+/* The slots of an index for the host's number of cells: twice as many, which is a power of two. */
+#define INDEX (2 * SIZERCOBALT_CELLS)
+
 /* Scratch for the host's number of cells and the largest number of proofs. */
 #define SCRATCH (2 * (SIZERCOBALT_CELLS + 4096))
 
@@ -62,9 +65,22 @@ static int read_number(const char *text, uint32_t *number) {
   return text[0] >= '0' && text[0] <= '9' && *end == '\0' && read <= UINT32_MAX;
 }
 
-/* Calls sizercobalt_check with a lent store; 0 where there is no memory. What the lent words hold before makes no difference. */
+/* A word that the job's author does not know, or 0 where the system has none: by it terms are spread over the index. */
+static uint32_t random_word(void) {
+  uint32_t word = 0;
+  FILE *file = fopen("/dev/urandom", "rb");
+  if (file != NULL) {
+    if (fread(&word, sizeof word, 1, file) != 1) {
+      word = 0;
+    }
+    fclose(file);
+  }
+  return word;
+}
+
+/* Calls sizercobalt_check with a lent store and index; 0 where there is no memory. What the lent words hold before makes no difference to the answer. */
 static int check_lent(size_t word_count, uint32_t asked, uint32_t mode, uint32_t *answer) {
-  size_t total = 2 * SIZERCOBALT_CELLS + SIZERCOBALT_POOL + SCRATCH;
+  size_t total = 2 * SIZERCOBALT_CELLS + SIZERCOBALT_POOL + INDEX + SCRATCH;
   uint32_t *kinds = malloc(total * sizeof *kinds);
   if (kinds == NULL) {
     return 0;
@@ -72,9 +88,11 @@ static int check_lent(size_t word_count, uint32_t asked, uint32_t mode, uint32_t
   memset(kinds, 0xa5, total * sizeof *kinds);
   uint32_t *ends = kinds + SIZERCOBALT_CELLS;
   uint32_t *pool = ends + SIZERCOBALT_CELLS;
-  uint32_t *scratch = pool + SIZERCOBALT_POOL;
-  sizercobalt_check(words, word_count, asked, mode, kinds, SIZERCOBALT_CELLS, ends, SIZERCOBALT_CELLS, pool, SIZERCOBALT_POOL, scratch, SCRATCH, answer,
-                    SIZERCOBALT_ANSWER);
+  uint32_t *index = pool + SIZERCOBALT_POOL;
+  uint32_t *scratch = index + INDEX;
+  index[0] = random_word();
+  sizercobalt_check(words, word_count, asked, mode, kinds, SIZERCOBALT_CELLS, ends, SIZERCOBALT_CELLS, pool, SIZERCOBALT_POOL, index, INDEX, scratch, SCRATCH,
+                    answer, SIZERCOBALT_ANSWER);
   free(kinds);
   return 1;
 }
@@ -86,13 +104,14 @@ static int fail(const char *message) {
 
 /* Checks with all entries and prints the answer. */
 static int check_job(size_t length, size_t word_count, uint32_t asked, uint32_t mode) {
-  uint32_t answer[SIZERCOBALT_ANSWER], other[SIZERCOBALT_ANSWER];
+  uint32_t answer[SIZERCOBALT_ANSWER] = {random_word()}, other[SIZERCOBALT_ANSWER];
   sizercobalt_check_bytes_mode(bytes, length, asked, mode, answer, SIZERCOBALT_ANSWER);
   if (!check_lent(word_count, asked, mode, other)) {
     return fail("no memory");
   }
   int agree = memcmp(answer, other, sizeof answer) == 0;
   if (mode == SIZERCOBALT_PLAIN) {
+    other[0] = random_word();
     sizercobalt_check_bytes(bytes, length, asked, other, SIZERCOBALT_ANSWER);
     agree = agree && memcmp(answer, other, sizeof answer) == 0;
   }

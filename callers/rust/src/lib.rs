@@ -1,6 +1,12 @@
 //! The proved checker (`include/sizercobalt.h`) as safe functions: a slice is a pointer with its length, two `&mut` do not overlap, and the call runs on a
 //! thread whose stack is enough for every job. `check_bytes_here`, `check_bytes_mode_here` and `check_here` run on the caller's stack.
+//!
+//! Terms are looked up by an index. Which slot a term has in it depends on one word beside the job: the first slot of the lent index or, by bytes, the first word
+//! of the answer's buffer, as they are before the call. Who knows that word can write a job whose terms all have one slot, which takes long. No answer and no
+//! word of the store depends on it. The safe functions write a random word there; those that run on the caller's stack leave it to the caller.
 
+use std::collections::hash_map::RandomState;
+use std::hash::{BuildHasher, Hasher};
 use std::thread;
 
 /// The number of words of an answer.
@@ -12,6 +18,12 @@ pub const POOL: usize = 16_384;
 pub const BYTES: usize = 65_536;
 /// A stack that is enough for every job (README.md has what was measured).
 pub const STACK: usize = 8 << 20;
+
+/// The fewest slots that an index may have beside a store of so many cells: twice as many, or the next power of two. More are taken where they are a power of
+/// two; else the number is 12.
+pub const fn slots(cells: usize) -> usize {
+    (2 * cells).next_power_of_two()
+}
 
 /// How a rule's fact is checked that is a bare call of a primitive whose output is a container.
 #[derive(Clone, Copy, PartialEq, Eq, Debug)]
@@ -61,6 +73,8 @@ unsafe extern "C" {
         ends_length: usize,
         pool: *mut u32,
         pool_length: usize,
+        index: *mut u32,
+        index_length: usize,
         scratch: *mut u32,
         scratch_length: usize,
         answer: *mut u32,
@@ -80,16 +94,29 @@ fn on_own_stack(call: impl FnOnce() -> u32 + Send) -> u32 {
     })
 }
 
-/// Checks proof `asked` of a job given as bytes, in mode `Plain`, with a store of its own; the number, 0 where it is accepted.
+/// A word that nobody knows before, from the randomness of the standard library's hash maps.
+fn any_word() -> u32 {
+    RandomState::new().build_hasher().finish() as u32
+}
+
+/// Puts it first into an answer's buffer that is to be written.
+fn with_any_word(answer: &mut [u32]) {
+    if answer.len() == ANSWER {
+        answer[0] = any_word();
+    }
+}
+
+/// Checks proof `asked` of a job given as bytes, in mode `Plain`, with a store and an index of its own; the number, 0 where it is accepted.
 ///
 /// # Panics
 /// Where no thread can be started.
 pub fn check_bytes(job: &[u8], asked: u32, answer: &mut [u32]) -> u32 {
+    with_any_word(answer);
     // SAFETY: the thread has the stack.
     on_own_stack(|| unsafe { check_bytes_here(job, asked, answer) })
 }
 
-/// `check_bytes` on the caller's stack.
+/// `check_bytes` on the caller's stack. Terms are mixed by the first word of `answer`: put a random one there before a stranger's job.
 ///
 /// # Safety
 /// `STACK` bytes of stack are left.
@@ -112,11 +139,12 @@ pub unsafe fn check_bytes_here(job: &[u8], asked: u32, answer: &mut [u32]) -> u3
 /// Where no thread can be started.
 pub fn check_bytes_mode(job: &[u8], asked: u32, mode: impl Into<u32>, answer: &mut [u32]) -> u32 {
     let mode: u32 = mode.into();
+    with_any_word(answer);
     // SAFETY: the thread has the stack.
     on_own_stack(|| unsafe { check_bytes_mode_here(job, asked, mode, answer) })
 }
 
-/// `check_bytes_mode` on the caller's stack.
+/// `check_bytes_mode` on the caller's stack. Terms are mixed by the first word of `answer`: put a random one there before a stranger's job.
 ///
 /// # Safety
 /// `STACK` bytes of stack are left.
@@ -139,7 +167,8 @@ pub unsafe fn check_bytes_mode_here(
     }
 }
 
-/// Checks proof `asked` of a job given as words in a mode, with a lent store and scratch; the number, 0 where it is accepted.
+/// Checks proof `asked` of a job given as words in a mode, with a lent store, index and scratch; the number, 0 where it is accepted. `slots` says how long the index
+/// is; what it holds makes no difference, before or afterwards.
 ///
 /// # Panics
 /// Where no thread can be started.
@@ -151,15 +180,21 @@ pub fn check(
     kinds: &mut [u32],
     ends: &mut [u32],
     pool: &mut [u32],
+    index: &mut [u32],
     scratch: &mut [u32],
     answer: &mut [u32],
 ) -> u32 {
     let mode: u32 = mode.into();
+    if let Some(first) = index.first_mut() {
+        *first = any_word();
+    }
     // SAFETY: the thread has the stack.
-    on_own_stack(|| unsafe { check_here(job, asked, mode, kinds, ends, pool, scratch, answer) })
+    on_own_stack(|| unsafe {
+        check_here(job, asked, mode, kinds, ends, pool, index, scratch, answer)
+    })
 }
 
-/// `check` on the caller's stack.
+/// `check` on the caller's stack. Terms are mixed by the first slot of `index`: put a random word there before a stranger's job.
 ///
 /// # Safety
 /// `STACK` bytes of stack are left.
@@ -171,6 +206,7 @@ pub unsafe fn check_here(
     kinds: &mut [u32],
     ends: &mut [u32],
     pool: &mut [u32],
+    index: &mut [u32],
     scratch: &mut [u32],
     answer: &mut [u32],
 ) -> u32 {
@@ -187,6 +223,8 @@ pub unsafe fn check_here(
             ends.len(),
             pool.as_mut_ptr(),
             pool.len(),
+            index.as_mut_ptr(),
+            index.len(),
             scratch.as_mut_ptr(),
             scratch.len(),
             answer.as_mut_ptr(),

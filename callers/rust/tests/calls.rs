@@ -1,9 +1,10 @@
 //! All entries, called as a host calls them: jobs A and B of document 01, the tilt counts, the east flank in both modes, and arrays of any length.
 
+use std::collections::BTreeSet;
 use std::fs;
 use std::path::Path;
 
-use sizercobalt::{ANSWER, BYTES, Mode, check, check_bytes, check_bytes_mode};
+use sizercobalt::{ANSWER, BYTES, Mode, check, check_bytes, check_bytes_mode, slots};
 
 /// Job B's terms as a store holds them: 7, 8, name 4 of the first, name 4 of the second.
 const TERMS_B: [&[u32]; 3] = [
@@ -46,11 +47,16 @@ fn dirt(array: usize, place: usize) -> u32 {
     (0xd000_0000 + (array << 24) + place) as u32
 }
 
-/// What is lent for a call: kinds, ends, pool, scratch and the answer's buffer.
-struct Lent([Vec<u32>; 5]);
+/// What is lent for a call: kinds, ends, pool, scratch, the answer's buffer and the index.
+struct Lent([Vec<u32>; 6]);
 
 impl Lent {
-    fn of(lengths: [usize; 5]) -> Lent {
+    /// With as many slots as the index needs.
+    fn of([kinds, ends, pool, scratch, answer]: [usize; 5]) -> Lent {
+        Lent::with_index([kinds, ends, pool, scratch, answer, slots(kinds)])
+    }
+
+    fn with_index(lengths: [usize; 6]) -> Lent {
         let mut array = 0;
         Lent(lengths.map(|length| {
             array += 1;
@@ -63,8 +69,8 @@ impl Lent {
     }
 
     fn check_mode(&mut self, job: &[u32], asked: u32, mode: impl Into<u32>) -> u32 {
-        let [kinds, ends, pool, scratch, answer] = &mut self.0;
-        check(job, asked, mode, kinds, ends, pool, scratch, answer)
+        let [kinds, ends, pool, scratch, answer, index] = &mut self.0;
+        check(job, asked, mode, kinds, ends, pool, index, scratch, answer)
     }
 
     fn answer(&self) -> &[u32] {
@@ -335,4 +341,104 @@ fn empty_arrays() {
     assert_eq!(lent.check(&job, 0), 10);
     assert_eq!(lent.check(&[], 0), 10);
     assert_eq!(check_bytes(&[], 0, &mut []), 10);
+}
+
+#[test]
+fn slots_for_cells() {
+    for (cells, expected) in [
+        (0, 1),
+        (1, 2),
+        (2, 4),
+        (3, 8),
+        (4, 8),
+        (5, 16),
+        (4_096, 8_192),
+    ] {
+        assert_eq!(slots(cells), expected);
+    }
+    assert_eq!(slots(65_535), 131_072);
+    assert_eq!(slots(65_536), 131_072);
+    assert_eq!(slots(65_537), 262_144);
+}
+
+/// Job B's ninth proof with arrays of these lengths and an index of so many slots.
+#[track_caller]
+fn index_gives(lengths: [usize; 4], index: usize, expected: [u32; ANSWER]) -> Lent {
+    let [kinds, ends, pool, scratch] = lengths;
+    let mut lent = Lent::with_index([kinds, ends, pool, scratch, ANSWER, index]);
+    assert_eq!(lent.check(&words("job_b.bin"), 8), expected[0]);
+    assert_eq!(lent.answer(), expected);
+    lent
+}
+
+/// Too few slots and counts that are no power of two are 12, and the store stays; others make no difference.
+#[test]
+fn slots_of_the_index() {
+    for cells in [4, 5, 8, 9, 100] {
+        let lengths = [cells, cells, 30, 2 * (cells + 13)];
+        let fewest = slots(cells);
+        for index in [
+            0,
+            1,
+            2,
+            2 * cells - 1,
+            2 * cells + 1,
+            3 * cells,
+            fewest / 2,
+            fewest - 1,
+            fewest + 1,
+            3 * fewest,
+        ] {
+            index_gives(lengths, index, refused(12)).holds([&[]; 3]);
+        }
+        for index in [fewest, 2 * fewest, 64 * fewest] {
+            index_gives(lengths, index, ANSWERS_B[8]).holds(TERMS_B);
+        }
+    }
+}
+
+/// 12 comes behind 10 and what is wrong with the job.
+#[test]
+fn order_of_12() {
+    for index in [0, 1, 3, 7] {
+        for short in 0..4 {
+            let mut lengths = [4, 4, 10, 34];
+            lengths[short] -= 1;
+            index_gives(lengths, index, refused(10)).holds([&[]; 3]);
+        }
+        index_gives([4, 4, 10, 34], index, refused(12)).holds([&[]; 3]);
+        for (job, asked, mode, number) in [
+            (&words("job_b.bin")[..], 13, 0u32, 3),
+            (&words("job_b.bin")[1..], 0, 0, 1),
+            (&words("job_b.bin"), 0, 2, 11),
+        ] {
+            let mut lent = Lent::with_index([4, 4, 10, 34, ANSWER, index]);
+            assert_eq!(lent.check_mode(job, asked, mode), number);
+            assert_eq!(lent.answer(), refused(number));
+        }
+    }
+}
+
+/// An index is lent as the last call left it.
+#[test]
+fn an_index_that_was_used() {
+    let mut lent = Lent::of([9, 9, 30, 50, ANSWER]);
+    for (asked, expected) in ANSWERS_B.into_iter().enumerate() {
+        assert_eq!(lent.check(&words("job_b.bin"), asked as u32), expected[0]);
+        assert_eq!(lent.answer(), expected);
+        lent.holds(TERMS_B);
+    }
+}
+
+/// The index's first slot has another word at each call. It is seen where the call does no more than to see that the answer has another length.
+#[test]
+fn a_random_first_slot() {
+    let word = || {
+        let mut lent = Lent::of([9, 9, 30, 50, ANSWER - 1]);
+        assert_eq!(lent.check(&words("job_b.bin"), 0), 10);
+        lent.is_unwritten();
+        lent.0[5][0]
+    };
+    let seen: BTreeSet<u32> = (0..20).map(|_| word()).collect();
+    assert!(seen.len() > 15, "{seen:?}");
 }

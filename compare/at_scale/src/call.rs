@@ -1,6 +1,7 @@
 //! A call of an entry, and what the Rust and the library make of it.
 
-use generator::Case;
+use generator::{Case, dirt};
+use job::limits::ANSWER;
 use job::modes::PLAIN;
 use oracle::TooManySteps;
 
@@ -35,7 +36,7 @@ pub struct Call {
     pub input: Input,
     /// The length of the answer's buffer.
     pub answer: usize,
-    /// Each decides what scratch holds before; the library is called once for each.
+    /// Each decides what scratch and the index hold before; the library is called once for each.
     pub scratches: Vec<u32>,
 }
 
@@ -50,8 +51,30 @@ pub struct Left {
 }
 
 impl Call {
+    /// What the index of a case holds before, as a scratch number and the case decide.
+    pub fn lent_index(case: &Case, scratch: u32) -> Vec<u32> {
+        dirt::slots(case.index_fill.wrapping_add(scratch), case.index)
+    }
+
+    /// What the answer's buffer holds before; where it stays unwritten, the same for each scratch.
+    fn lent_answer(&self, scratch: u32) -> Vec<u32> {
+        match self.answer {
+            ANSWER => dirt::words(scratch, ANSWER),
+            other => dirt::words(self.scratches[0], other),
+        }
+    }
+
+    /// The word by which the library mixes terms: the index's first, or the answer's.
+    pub fn word(&self, scratch: u32) -> u32 {
+        let lent = match &self.input {
+            Input::Words(case) => Call::lent_index(case, scratch),
+            Input::Bytes { .. } => self.lent_answer(scratch),
+        };
+        lent.first().copied().unwrap_or(0)
+    }
+
     /// What is lent, before the call.
-    fn lent(&self) -> Left {
+    fn lent(&self, scratch: u32) -> Left {
         let store = match &self.input {
             Input::Words(case) => [case.lent_kinds(), case.lent_ends(), case.lent_pool()],
             Input::Bytes { .. } => [const { Vec::new() }; 3],
@@ -59,7 +82,7 @@ impl Call {
         let [kinds, ends, pool] = store;
         Left {
             number: 0,
-            answer: dirty(self.scratches[0], self.answer),
+            answer: self.lent_answer(scratch),
             kinds,
             ends,
             pool,
@@ -68,7 +91,7 @@ impl Call {
 
     /// What the Rust says.
     pub fn by_rust(&self) -> Result<Left, TooManySteps> {
-        let mut left = self.lent();
+        let mut left = self.lent(self.scratches[0]);
         left.number = match &self.input {
             Input::Words(case) => oracle::check(
                 &case.job,
@@ -77,6 +100,7 @@ impl Call {
                 &mut left.kinds,
                 &mut left.ends,
                 &mut left.pool,
+                case.index,
                 case.scratch,
                 &mut left.answer,
             )?,
@@ -88,9 +112,9 @@ impl Call {
         Ok(left)
     }
 
-    /// What the proved library says, with scratch as the number decides.
+    /// What the proved library says, with scratch and the index as the number decides.
     pub fn by_library(&self, scratch: u32) -> Left {
-        let mut left = self.lent();
+        let mut left = self.lent(scratch);
         left.number = match &self.input {
             // SAFETY, here and below: the runs have threads with that stack.
             Input::Words(case) => unsafe {
@@ -101,7 +125,8 @@ impl Call {
                     &mut left.kinds,
                     &mut left.ends,
                     &mut left.pool,
-                    &mut dirty(scratch, case.scratch),
+                    &mut Call::lent_index(case, scratch),
+                    &mut dirt::words(scratch, case.scratch),
                     &mut left.answer,
                 )
             },
@@ -132,19 +157,5 @@ impl Call {
             Input::Bytes { mode, .. } => *mode = Some(other),
         }
         call
-    }
-}
-
-/// Words to begin with, as the number decides, the next number otherwise: all alike, small ones that
-/// could pass for numbers of cells, or any.
-fn dirty(number: u32, length: usize) -> Vec<u32> {
-    let word = |place: u32| number.wrapping_add(place).wrapping_mul(0x9e37_79b1);
-    let words = 0..length as u32;
-    match number % 5 {
-        0 => vec![0; length],
-        1 => vec![u32::MAX; length],
-        2 => words.map(|place| word(place) >> 29).collect(),
-        3 => words.map(|place| word(place) >> 22).collect(),
-        _ => words.map(word).collect(),
     }
 }

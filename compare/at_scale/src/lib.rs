@@ -2,6 +2,7 @@
 
 mod call;
 mod difference;
+mod index_calls;
 mod mode_calls;
 mod progress;
 mod run;

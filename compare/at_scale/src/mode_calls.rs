@@ -58,14 +58,14 @@ fn may_differ(words: &[u32]) -> bool {
     })
 }
 
-/// Six calls, one of them with scratch of two contents.
+/// Six calls, two of them with scratch of two contents.
 fn with_conditions(case: &Case, random: &mut Random) -> Vec<Call> {
     vec![
         with_other_scratch(lent(Variant::AsMade, case.clone(), random)),
         tight(case, random),
         other_mode(case, random),
         refused_mode(case.clone(), random),
-        host_mode(case, random),
+        with_other_scratch(host_mode(case, random)),
         host_refused_mode(case, random),
     ]
 }

@@ -1,12 +1,12 @@
 //! The calls that are made for a seed: for each of the generator's first two cases, the case itself and
-//! variants that the seed chooses; then those of `mode_calls`.
+//! variants that the seed chooses; then those of `mode_calls` and of `index_calls`.
 
 use generator::{Case, Random, room};
 use job::limits::ANSWER;
 use tools::to_bytes;
 
 use crate::call::{Call, Input, Judge};
-use crate::mode_calls;
+use crate::{index_calls, mode_calls};
 
 /// Lengths of an answer's buffer that are 10 at once.
 pub const OTHER_LENGTHS: [usize; 5] = [0, 1, 7, 9, 16];
@@ -55,10 +55,16 @@ pub enum Variant {
     RefusedMode,
     HostMode,
     HostRefusedMode,
+    /// Another index that is taken.
+    OtherIndex,
+    /// An index that is refused, sometimes with something else that is.
+    IndexLength,
+    /// Names by which terms have one slot.
+    Colliding,
 }
 
 impl Variant {
-    pub const ALL: [Variant; 18] = [
+    pub const ALL: [Variant; 21] = [
         Variant::AsMade,
         Variant::AnswerLength,
         Variant::Tight,
@@ -77,6 +83,9 @@ impl Variant {
         Variant::RefusedMode,
         Variant::HostMode,
         Variant::HostRefusedMode,
+        Variant::OtherIndex,
+        Variant::IndexLength,
+        Variant::Colliding,
     ];
 }
 
@@ -89,10 +98,11 @@ pub fn calls(seed: u64) -> Vec<Call> {
         calls.extend(calls_of(*source, case, &mut random));
     }
     calls.extend(mode_calls::calls(seed, &cases));
+    calls.extend(index_calls::calls(seed, &cases));
     calls
 }
 
-/// Seven calls, two of them with scratch of two contents.
+/// Seven calls, three of them with scratch of two contents.
 fn calls_of(source: Source, case: &Case, random: &mut Random) -> Vec<Call> {
     let mut calls = vec![
         with_other_scratch(lent(Variant::AsMade, case.clone(), random)),
@@ -103,7 +113,7 @@ fn calls_of(source: Source, case: &Case, random: &mut Random) -> Vec<Call> {
             false => scratch_length(case.clone(), random),
         },
         other_proof(case.clone(), random),
-        host(case, random),
+        with_other_scratch(host(case, random)),
         host_damaged(case, random),
     ];
     for call in &mut calls {
@@ -124,7 +134,8 @@ pub fn lent(variant: Variant, case: Case, random: &mut Random) -> Call {
     }
 }
 
-/// The call once more, with scratch of other contents.
+/// The call once more, with scratch and index of other contents; at a host entry, with another answer's
+/// buffer.
 pub fn with_other_scratch(mut call: Call) -> Call {
     call.scratches.push(call.scratches[0].wrapping_add(1));
     call
@@ -141,6 +152,7 @@ fn answer_length(case: Case, random: &mut Random) -> Call {
 pub fn tight(case: &Case, random: &mut Random) -> Call {
     let mut tight = room::chosen(case.job.clone(), case.asked, case.mode, random);
     tight.fill = case.fill;
+    tight.index_fill = case.index_fill;
     lent(Variant::Tight, tight, random)
 }
 

@@ -9,7 +9,7 @@ static const uint32_t job[] = {1, 0, 0, 0, 0, 0, 0, 0, 0, 0, 2, 8, 0, 0, 4, 3, 5
 static const size_t job_length = sizeof job / sizeof *job;
 
 static uint32_t check(const uint32_t *words, size_t length, uint32_t mode, uint32_t *answer, size_t answer_length) {
-  return sizercobalt_check(words, length, 0, mode, NULL, 0, NULL, 0, NULL, 0, NULL, 0, answer, answer_length);
+  return sizercobalt_check(words, length, 0, mode, NULL, 0, NULL, 0, NULL, 0, NULL, 0, NULL, 0, answer, answer_length);
 }
 
 int main(void) {

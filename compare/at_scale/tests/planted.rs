@@ -1,7 +1,7 @@
 //! A library with a planted mistake: each is found, in a call and a part where it shows.
 
 use at_scale::{Call, Input, Left, Part, Source, Variant, compare_range};
-use job::limits::SIZES;
+use job::limits::{SIZES, index_fits};
 use job::{Job, Table, primitives};
 
 const SEEDS: u64 = 400;
@@ -147,7 +147,10 @@ fn left_over_bytes_that_are_dropped() {
 fn room_for_one_more_than_was_lent() {
     for (cells, words) in [(1, 0), (0, 1)] {
         let (variant, part) = found(|call, scratch| wider(call, scratch, cells, words));
-        assert!(matches!(variant, Variant::Tight | Variant::AsMade));
+        assert!(matches!(
+            variant,
+            Variant::Tight | Variant::AsMade | Variant::Colliding
+        ));
         assert_eq!(part, Part::Number);
     }
 }
@@ -189,6 +192,9 @@ fn wider(call: &Call, scratch: u32, cells: usize, pool: usize) -> Left {
     case.ends += cells;
     case.pool += pool;
     case.scratch += 2 * cells;
+    if index_fits(case.index, lengths.0) {
+        case.index *= 2;
+    }
     let mut left = wide.by_library(scratch);
     left.kinds.truncate(lengths.0);
     left.ends.truncate(lengths.1);

@@ -3,12 +3,13 @@
 use std::fs;
 use std::path::{Path, PathBuf};
 use std::process::{Command, Output};
+use std::time::{Duration, Instant};
 
 use generator::{condition_job, counting_job, holding_job, job};
 use job::Tables;
 use job::limits::PROGRAM_BYTES;
 use job::modes::PLAIN;
-use tools::{print, program, to_bytes};
+use tools::{colliding, print, program, to_bytes};
 
 fn root() -> PathBuf {
     Path::new(env!("CARGO_MANIFEST_DIR")).join("../..")
@@ -97,6 +98,9 @@ fn behaves(program: &Path, name: &str) {
         fs::write(&file, bytes).expect("a file");
         prints(program, &[file.to_str().expect("a name")], line);
     }
+    let file = temporary(&format!("{name}_one_slot.bin"));
+    fs::write(&file, one_slot()).expect("a file");
+    quick(|| prints(program, &[file.to_str().expect("a name")], ONE_SLOT));
     fails(program, &["missing.bin"]);
     fails(program, &["."]);
     fails(program, &[]);
@@ -178,6 +182,21 @@ fn deepest() -> Vec<u8> {
     to_bytes(&tables.words())
 }
 
+/// A job whose calls have one slot of the index where the word is 0, and its answer.
+fn one_slot() -> Vec<u8> {
+    to_bytes(&colliding::added_calls(2_560, 770).words())
+}
+
+const ONE_SLOT: &str = "0 2732 0 0 771 0 0 0\n";
+
+/// With the word 0 each entry takes longer for that job than all may take here.
+fn quick(run: impl FnOnce()) {
+    let started = Instant::now();
+    run();
+    let took = started.elapsed();
+    assert!(took < Duration::from_secs(5), "{took:?}");
+}
+
 /// What a proved program prints.
 #[track_caller]
 fn printed(program: &str, input: &[u8]) -> String {
@@ -230,6 +249,12 @@ fn the_program_on_long_inputs() {
 #[test]
 fn the_program_on_the_deepest_job() {
     program_agrees(&deepest());
+}
+
+/// It takes a word from the system's source of randomness.
+#[test]
+fn the_program_on_a_job_of_one_slot() {
+    quick(|| assert_eq!(printed("checkproof", &one_slot()), ONE_SLOT));
 }
 
 #[test]

@@ -8,25 +8,35 @@ mod towers;
 
 use generator::{Case, extremes};
 use job::Tables;
-use job::limits::{CELLS, STORE_CELLS, STORE_POOL};
+use job::limits::{CELLS, PROGRAM_CELLS, PROGRAM_POOL, STORE_CELLS, STORE_POOL, TERMS};
 use job::modes::{PLAIN, STRICT};
+use tools::colliding;
 
 use crate::last_proof;
+use crate::lent::{Entry, WORD};
 
 pub use stacks::{Deep, by_bytes, by_words};
 
-/// A job with a number of steps, up to the most, in a mode.
+/// A job with a number of steps, up to the most, in a mode, by an entry.
 pub struct Hostile {
     pub name: &'static str,
     pub most: usize,
     pub mode: u32,
+    pub entry: Entry,
+    /// By which terms are mixed.
+    pub word: u32,
     pub tables: fn(usize) -> Tables,
 }
 
 impl Hostile {
-    /// The job with so many steps, and the largest store lent.
+    /// The job with so many steps, and the largest store lent or that of the entry for bytes.
     pub fn case(&self, steps: usize) -> Case {
-        with_largest_room(&(self.tables)(steps)).in_mode(self.mode)
+        let tables = (self.tables)(steps);
+        let case = match self.entry {
+            Entry::Words => with_largest_room(&tables),
+            Entry::Bytes => with_bytes_room(&tables),
+        };
+        case.in_mode(self.mode)
     }
 }
 
@@ -34,6 +44,12 @@ impl Hostile {
 fn with_largest_room(tables: &Tables) -> Case {
     let asked = last_proof(tables);
     Case::new(tables.words(), asked, STORE_CELLS, STORE_POOL)
+}
+
+/// The last proof is asked, with the store of the entry for bytes.
+fn with_bytes_room(tables: &Tables) -> Case {
+    let asked = last_proof(tables);
+    Case::new(tables.words(), asked, PROGRAM_CELLS, PROGRAM_POOL)
 }
 
 /// One proof of all that there may be is the fiat below the steps.
@@ -44,6 +60,8 @@ const fn hostile(name: &'static str, most: usize, tables: fn(usize) -> Tables) -
         name,
         most,
         mode: PLAIN,
+        entry: Entry::Words,
+        word: WORD,
         tables,
     }
 }
@@ -53,6 +71,18 @@ const fn strict(name: &'static str, most: usize, tables: fn(usize) -> Tables) ->
         mode: STRICT,
         ..hostile(name, most, tables)
     }
+}
+
+/// With the word that a job is aimed at.
+const fn aimed(name: &'static str, most: usize, tables: fn(usize) -> Tables) -> Hostile {
+    Hostile {
+        word: 0,
+        ..hostile(name, most, tables)
+    }
+}
+
+const fn by_entry(entry: Entry, hostile: Hostile) -> Hostile {
+    Hostile { entry, ..hostile }
 }
 
 const TOWERS: &[Hostile] = &[
@@ -162,7 +192,64 @@ const LISTS: &[Hostile] = &[
         lists::shared_premises,
     ),
 ];
+/// Steps that 65,536 bytes have room for beside the calls.
+const BYTES_STEPS: usize = 770;
+
+/// Terms that have one slot where the word is 0, with this word and with another.
+const COLLIDING: &[Hostile] = &[
+    aimed("16,384 terms of one slot, word 0", 1, one_slot),
+    hostile("16,384 terms of one slot, other word", 1, one_slot),
+    by_entry(
+        Entry::Bytes,
+        aimed("4,096 terms of one slot, bytes, word 0", 1, one_slot_bytes),
+    ),
+    by_entry(
+        Entry::Bytes,
+        hostile(
+            "4,096 terms of one slot, bytes, other word",
+            1,
+            one_slot_bytes,
+        ),
+    ),
+    aimed("3,824 calls of one slot, word 0", STEPS, last_calls),
+    hostile("3,824 calls of one slot, other word", STEPS, last_calls),
+    by_entry(
+        Entry::Bytes,
+        aimed(
+            "2,560 calls of one slot, bytes, word 0",
+            BYTES_STEPS,
+            added_calls,
+        ),
+    ),
+    by_entry(
+        Entry::Bytes,
+        hostile(
+            "2,560 calls of one slot, bytes, other word",
+            BYTES_STEPS,
+            added_calls,
+        ),
+    ),
+];
+
+fn one_slot(_: usize) -> Tables {
+    colliding::terms(TERMS)
+}
+
+fn one_slot_bytes(_: usize) -> Tables {
+    colliding::terms(PROGRAM_CELLS as u32)
+}
+
+/// The calls stand last among as many terms of that slot as there may be.
+fn last_calls(steps: usize) -> Tables {
+    colliding::last_calls(TERMS as usize, 3_824, steps)
+}
+
+fn added_calls(steps: usize) -> Tables {
+    colliding::added_calls(2_560, steps)
+}
+
 /// All jobs, in the order in which they are run.
 pub fn all() -> Vec<&'static Hostile> {
-    [TOWERS, STORES, LISTS].into_iter().flatten().collect()
+    let lists = [TOWERS, STORES, LISTS, COLLIDING];
+    lists.into_iter().flatten().collect()
 }

@@ -14,25 +14,37 @@ pub enum Entry {
     Bytes,
 }
 
+/// By which terms are mixed where nothing is said of it.
+pub const WORD: u32 = 0x5a17_c0ba;
+
 /// A case's arrays, lent to one check after another, and the answer.
 pub struct Lent<'a> {
     case: &'a Case,
     bytes: Vec<u8>,
+    /// Stands first in the index, or in the answer's buffer, before each check by ours.
+    word: u32,
     kinds: Vec<u32>,
     ends: Vec<u32>,
     pool: Vec<u32>,
+    index: Vec<u32>,
     scratch: Vec<u32>,
     pub answer: [u32; ANSWER],
 }
 
 impl<'a> Lent<'a> {
     pub fn new(case: &'a Case) -> Lent<'a> {
+        Lent::with_word(case, WORD)
+    }
+
+    pub fn with_word(case: &'a Case, word: u32) -> Lent<'a> {
         Lent {
             case,
             bytes: tools::to_bytes(&case.job),
+            word,
             kinds: case.lent_kinds(),
             ends: case.lent_ends(),
             pool: case.lent_pool(),
+            index: case.lent_index(),
             scratch: vec![0; case.scratch],
             answer: [0; ANSWER],
         }
@@ -40,6 +52,10 @@ impl<'a> Lent<'a> {
 
     /// From the words to the answer, by ours.
     pub fn ours(&mut self, entry: Entry) {
+        match entry {
+            Entry::Words => self.index[0] = self.word,
+            Entry::Bytes => self.answer[0] = self.word,
+        }
         match entry {
             // SAFETY, here and below: the main thread and those of the tests have 8 MiB; with less, as `hostile --stacks` tries, the process ends.
             Entry::Words => unsafe {
@@ -50,6 +66,7 @@ impl<'a> Lent<'a> {
                     &mut self.kinds,
                     &mut self.ends,
                     &mut self.pool,
+                    &mut self.index,
                     &mut self.scratch,
                     &mut self.answer,
                 )
@@ -84,6 +101,7 @@ impl<'a> Lent<'a> {
             &mut self.kinds,
             &mut self.ends,
             &mut self.pool,
+            self.case.index,
             self.case.scratch,
             &mut self.answer,
         );

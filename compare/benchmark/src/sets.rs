@@ -52,7 +52,7 @@ fn strict(name: &'static str, tables: Tables) -> Set {
     Set { name, entry, cases }
 }
 
-/// All sets, in the order in which they are printed. Those of terms wait for the index of request Q-4.
+/// All sets, in the order in which they are printed. Those of terms show the index of request Q-4.
 pub fn all() -> Vec<Set> {
     vec![
         small("small: 10 to 60 proofs", Entry::Words),

@@ -1,8 +1,10 @@
 //! A job together with what is lent for its check.
 
-use job::limits::{ANSWER, scratch_words};
+use job::limits::{ANSWER, index_slots, scratch_words};
 use job::modes::PLAIN;
 use oracle::{TooManySteps, check};
+
+use crate::dirt;
 
 #[derive(Clone, PartialEq, Eq, Debug)]
 pub struct Case {
@@ -13,9 +15,13 @@ pub struct Case {
     pub kinds: usize,
     pub ends: usize,
     pub pool: usize,
+    /// The slots of the lent index.
+    pub index: usize,
     pub scratch: usize,
-    /// Decides what the lent words hold before.
+    /// Decides what the words of the lent store hold before.
     pub fill: u32,
+    /// Decides what the slots of the index hold before.
+    pub index_fill: u32,
 }
 
 /// The answer and every word of the lent store after the check.
@@ -28,7 +34,7 @@ pub struct Outcome {
 }
 
 impl Case {
-    /// A case in mode 0, with equal arrays and as much scratch as the check needs.
+    /// A case in mode 0, with equal arrays, and as many slots and as much scratch as the check needs.
     pub fn new(job: Vec<u32>, asked: u32, cells: usize, pool: usize) -> Case {
         let proofs = job.get(10).copied().unwrap_or(0) as usize;
         Case {
@@ -38,14 +44,22 @@ impl Case {
             kinds: cells,
             ends: cells,
             pool,
+            index: index_slots(cells),
             scratch: scratch_words(cells, proofs.min(1 << 16)),
             fill: 0,
+            index_fill: 0,
         }
     }
 
     /// The same in another mode.
     pub fn in_mode(self, mode: u32) -> Case {
         Case { mode, ..self }
+    }
+
+    /// The same with the fewest slots that an index may have.
+    pub fn with_fewest_slots(self) -> Case {
+        let index = index_slots(self.kinds);
+        Case { index, ..self }
     }
 
     fn lent(&self, array: u32, length: usize) -> Vec<u32> {
@@ -67,6 +81,10 @@ impl Case {
         self.lent(3, self.pool)
     }
 
+    pub fn lent_index(&self) -> Vec<u32> {
+        dirt::slots(self.index_fill, self.index)
+    }
+
     /// What the Rust says.
     pub fn judge(&self) -> Result<Outcome, TooManySteps> {
         let mut outcome = Outcome {
@@ -82,6 +100,7 @@ impl Case {
             &mut outcome.kinds,
             &mut outcome.ends,
             &mut outcome.pool,
+            self.index,
             self.scratch,
             &mut outcome.answer,
         )?;

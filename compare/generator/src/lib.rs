@@ -7,6 +7,7 @@ mod count_facts;
 mod counting;
 mod counts;
 mod damage;
+pub mod dirt;
 mod evaluate;
 pub mod extremes;
 mod flaws;
@@ -20,6 +21,7 @@ mod roles;
 pub mod room;
 mod rules;
 mod setting;
+pub mod slots;
 mod steps;
 mod world;
 
@@ -38,6 +40,8 @@ use world::World;
 /// first one.
 const COUNTING: u64 = 0x636f_756e_7469_6e67;
 const CONDITIONS: u64 = 0x636f_6e64_6974_696f;
+/// Tells the random numbers of a case's index from those of its job.
+const INDEX: u64 = 0x696e_6465_785f_3031;
 
 /// The case of a seed; the same on every machine.
 pub fn job(seed: u64) -> Case {
@@ -48,7 +52,7 @@ pub fn job(seed: u64) -> Case {
         3..=5 => extreme(extremes::deep_or_wide(random), PLAIN, random),
         chance => in_a_world(chance, random.clone(), Setting::default()),
     };
-    filled(case, random)
+    filled(case, random, seed)
 }
 
 /// A case of a seed with primitives that compute with integers, of kinds 4 to 8; the same on every
@@ -60,7 +64,7 @@ pub fn counting_job(seed: u64) -> Case {
         0..=5 => extreme(extremes::deep_counts(random), PLAIN, random),
         chance => in_a_world(chance, random.clone(), Setting::counting()),
     };
-    filled(case, random)
+    filled(case, random, seed ^ COUNTING)
 }
 
 /// A case of a seed whose rules have bare container conditions, mostly in strict mode; the same on every
@@ -73,13 +77,13 @@ pub fn condition_job(seed: u64) -> Case {
         0..=5 => extreme(extremes::deep_conditions(random), setting.mode, random),
         chance => in_a_world(chance, random.clone(), setting),
     };
-    filled(case, random)
+    filled(case, random, seed ^ CONDITIONS)
 }
 
-/// The case with what its lent words hold before.
-fn filled(mut case: Case, random: &mut Random) -> Case {
+/// The case with what its lent words hold before, and with an index.
+fn filled(mut case: Case, random: &mut Random, seed: u64) -> Case {
     case.fill = random.word() as u32;
-    case
+    slots::with_index(case, &mut Random::new(seed ^ INDEX))
 }
 
 /// A case by one of the ways, as the chance says; of 1,000 chances the first six are left out.

@@ -36,11 +36,7 @@ pub fn check(
     scratch: usize,
     answer: &mut [u32],
 ) -> Result<u32, TooManySteps> {
-    let mut run = || {
-        check_here(
-            job, asked, mode, kinds, ends, pool, index, scratch, answer,
-        )
-    };
+    let mut run = || check_here(job, asked, mode, kinds, ends, pool, index, scratch, answer);
     let (number, _) = match is_shallow(job) {
         true => run()?,
         false => on_deep_stack(run)?,

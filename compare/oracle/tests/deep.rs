@@ -134,6 +134,7 @@ fn shared_expressions_have_no_answer() {
         &mut [0; 100],
         &mut [0; 100],
         &mut [0; 300],
+        256,
         300,
         &mut words,
     );

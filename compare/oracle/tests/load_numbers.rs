@@ -425,8 +425,9 @@ fn with_lengths(kinds: usize, ends: usize, scratch: usize, answer: &mut [u32]) -
     let (mut kinds, mut ends) = (vec![7; kinds], vec![7; ends]);
     let mut pool = [7; 3];
     let words = small().words();
+    let index = limits::index_slots(kinds.len());
     check(
-        &words, 0, PLAIN, &mut kinds, &mut ends, &mut pool, scratch, answer,
+        &words, 0, PLAIN, &mut kinds, &mut ends, &mut pool, index, scratch, answer,
     )
     .expect("few steps")
 }

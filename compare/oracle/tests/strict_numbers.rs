@@ -97,6 +97,7 @@ fn number_10_of_the_answer_comes_before_11() {
             &mut kinds,
             &mut ends,
             &mut pool,
+            2,
             4,
             &mut answer,
         );

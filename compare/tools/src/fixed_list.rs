@@ -95,7 +95,7 @@ impl List {
     /// Takes a seed that tells, whatever its length.
     fn push_seed(&mut self, seed: u64) {
         if self.seeds.insert(seed) {
-            let case = generator::job(seed);
+            let case = case_of(seed);
             assert!(fits_program(&case), "seed {seed}");
             self.push(case);
         }
@@ -106,7 +106,7 @@ impl List {
         if self.seeds.contains(&seed) {
             return;
         }
-        let case = generator::job(seed);
+        let case = case_of(seed);
         if !fits(&case, self.large) {
             return;
         }
@@ -117,6 +117,11 @@ impl List {
             self.push_entry(Entry { case, outcome });
         }
     }
+}
+
+/// The case of a seed. The list says nothing of an index: who replays it lends one that is taken.
+fn case_of(seed: u64) -> Case {
+    generator::job(seed).with_fewest_slots()
 }
 
 /// Of the usual length, or one of some large ones.
@@ -202,17 +207,20 @@ fn read_entry<'a>(take: &mut impl FnMut(usize) -> &'a [u32]) -> Read {
     let job = take(head[0] as usize).to_vec();
     let answer: [u32; 8] = take(8).try_into().expect("eight words");
     let terms = answer[1] as usize;
+    let case = Case {
+        job,
+        asked: head[1],
+        mode: PLAIN,
+        kinds: head[2] as usize,
+        ends: head[3] as usize,
+        pool: head[4] as usize,
+        index: 0,
+        scratch: head[5] as usize,
+        fill: head[6],
+        index_fill: head[6],
+    };
     Read {
-        case: Case {
-            job,
-            asked: head[1],
-            mode: PLAIN,
-            kinds: head[2] as usize,
-            ends: head[3] as usize,
-            pool: head[4] as usize,
-            scratch: head[5] as usize,
-            fill: head[6],
-        },
+        case: case.with_fewest_slots(),
         answer,
         kinds: take(terms).to_vec(),
         ends: take(terms).to_vec(),

@@ -1,8 +1,10 @@
 //! What the commands share: the bench jobs, the fixed list, the program, and printing.
 
 pub mod bench_jobs;
+pub mod colliding;
 pub mod doubling;
 pub mod fixed_list;
+pub mod index_model;
 pub mod print;
 pub mod program;
 

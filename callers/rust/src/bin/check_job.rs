@@ -7,7 +7,7 @@
 use std::process::ExitCode;
 use std::{env, fs};
 
-use sizercobalt::{ANSWER, BYTES, CELLS, Mode, POOL, check, check_bytes, check_bytes_mode};
+use sizercobalt::{ANSWER, BYTES, CELLS, Mode, POOL, check, check_bytes, check_bytes_mode, slots};
 
 /// Where the number of proofs stands among a job's words.
 const PROOFS: usize = 10;
@@ -90,6 +90,7 @@ fn check_lent(words: &[u32], asked: u32, mode: u32) -> [u32; ANSWER] {
         &mut lent(CELLS),
         &mut lent(CELLS),
         &mut lent(POOL),
+        &mut lent(slots(CELLS)),
         &mut lent(SCRATCH),
         &mut answer,
     );

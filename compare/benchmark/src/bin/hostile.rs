@@ -7,7 +7,7 @@ use std::thread;
 use std::time::{Duration, Instant};
 
 use benchmark::hostile::{self, Deep, Hostile};
-use benchmark::lent::{Entry, Lent};
+use benchmark::lent::{Entry, Lent, WORD};
 use generator::Case;
 use tools::print;
 
@@ -93,8 +93,8 @@ fn ends_within(child: &mut Child, longest: Duration) -> bool {
 }
 
 /// In the child: checks a case on a stack of so many bytes, and prints the seconds and the answer.
-fn check_on_stack(case: &Case, entry: Entry, stack: usize) {
-    let mut lent = Lent::new(case);
+fn check_on_stack(case: &Case, entry: Entry, word: u32, stack: usize) {
+    let mut lent = Lent::with_word(case, word);
     let seconds = thread::scope(|scope| {
         let check = || {
             let started = Instant::now();
@@ -216,16 +216,17 @@ fn main() {
         ["--only", part] => load(part),
         ["--stacks"] => stacks(),
         ["--load", stack, place, steps] => {
-            let case = hostile::all()[number(place)].case(number(steps));
-            check_on_stack(&case, Entry::Words, number(stack));
+            let hostile = hostile::all()[number(place)];
+            let case = hostile.case(number(steps));
+            check_on_stack(&case, hostile.entry, hostile.word, number(stack));
         }
         ["--deep-words", stack, place] => {
             let deep = &deep_jobs(Entry::Words)[number(place)];
-            check_on_stack(&deep.case, Entry::Words, number(stack));
+            check_on_stack(&deep.case, Entry::Words, WORD, number(stack));
         }
         ["--deep-bytes", stack, place] => {
             let deep = &deep_jobs(Entry::Bytes)[number(place)];
-            check_on_stack(&deep.case, Entry::Bytes, number(stack));
+            check_on_stack(&deep.case, Entry::Bytes, WORD, number(stack));
         }
         _ => panic!("hostile [--only NAME | --stacks]"),
     }

@@ -3,11 +3,11 @@
 use generator::Case;
 use generator::extremes::{F, RULE, X, Y, deep_symmetry};
 use job::Tables;
-use job::limits::{CELLS, PROGRAM_CELLS, PROGRAM_POOL};
+use job::limits::CELLS;
 use job::modes::STRICT;
 
 use super::ground::{ONE, literal};
-use super::with_largest_room;
+use super::{with_bytes_room, with_largest_room};
 use crate::last_proof;
 
 const VIEW: u32 = 10;
@@ -159,10 +159,7 @@ pub fn by_bytes() -> Vec<Deep> {
         "rule steps over a bare condition, strict",
         condition(2_000, 1_188, true),
     );
-    deep_jobs(all, strict, |tables| {
-        let asked = last_proof(tables);
-        Case::new(tables.words(), asked, PROGRAM_CELLS, PROGRAM_POOL)
-    })
+    deep_jobs(all, strict, with_bytes_room)
 }
 
 /// Jobs in mode 0, and one in strict mode behind them.

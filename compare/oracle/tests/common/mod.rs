@@ -1,7 +1,7 @@
 //! Runs a hand-made job and looks at everything it leaves.
 #![allow(dead_code)]
 
-use job::limits::scratch_words;
+use job::limits::{index_slots, scratch_words};
 use job::modes::{PLAIN, STRICT};
 use job::{Job, Table, Tables};
 use oracle::check;
@@ -60,6 +60,11 @@ pub fn run_words(words: &[u32], asked: u32, room: &Room) -> Ran {
 }
 
 pub fn run_words_mode(words: &[u32], asked: u32, mode: u32, room: &Room) -> Ran {
+    run_with_index(words, asked, mode, room, index_slots(room.cells))
+}
+
+/// The same with an index of so many slots.
+pub fn run_with_index(words: &[u32], asked: u32, mode: u32, room: &Room, index: usize) -> Ran {
     let proofs = words.get(10).copied().unwrap_or(0).min(4_096) as usize;
     let scratch = scratch_words(room.cells, proofs);
     let mut kinds = lent(1, room.cells);
@@ -73,6 +78,7 @@ pub fn run_words_mode(words: &[u32], asked: u32, mode: u32, room: &Room) -> Ran 
         &mut kinds,
         &mut ends,
         &mut pool,
+        index,
         scratch,
         &mut answer,
     )

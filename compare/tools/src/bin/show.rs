@@ -51,8 +51,8 @@ fn from_file(file: &str, asked: Option<u32>) -> Case {
 fn show(case: &Case) {
     print!("{}", print::job(&case.job));
     println!(
-        "asked {} mode {} kinds {} ends {} pool {} scratch {}",
-        case.asked, case.mode, case.kinds, case.ends, case.pool, case.scratch
+        "asked {} mode {} kinds {} ends {} pool {} index {} scratch {}",
+        case.asked, case.mode, case.kinds, case.ends, case.pool, case.index, case.scratch
     );
     match case.judge() {
         Ok(outcome) => {

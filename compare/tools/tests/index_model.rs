@@ -1,0 +1,247 @@
+//! The index by its model: how many comparisons it takes to load the request's terms, and jobs whose terms
+//! have one slot.
+
+use std::collections::BTreeSet;
+
+use generator::{Random, job};
+use job::build::integer_words;
+use job::limits::{PROGRAM_BYTES, PROGRAM_CELLS, PROGRAM_INDEX, TERMS};
+use job::{Job, Table, Tables};
+use tools::colliding::{self, added_calls, last_calls};
+use tools::index_model::{Index, Mix};
+
+/// Of request Q-4: the integers 0 to 4,999 and name 4 of each, into so many slots.
+const INTEGERS: u32 = 5_000;
+const SLOTS: usize = 32_768;
+/// The request's bound.
+const FEW: u64 = 20_000;
+/// What loading takes where the lent word is 0; the proved program counts the same.
+const COMPARISONS: u64 = 2_189;
+/// The same where each integer is followed by its application.
+const IN_TURN: u64 = 2_219;
+/// The most for 1,000 random words.
+const MOST: u64 = 2_419;
+/// For the largest store.
+const MOST_SLOTS: usize = 131_072;
+
+/// All integers, then all applications.
+fn request_terms() -> Vec<u32> {
+    let mut tables = Tables::default();
+    for value in 0..INTEGERS {
+        tables.term_integer(i64::from(value));
+    }
+    for integer in 0..INTEGERS {
+        tables.term_application(4, &[integer]);
+    }
+    tables.words()
+}
+
+/// Words that a host may lend.
+fn random_words(count: usize) -> Vec<u32> {
+    let mut random = Random::new(4);
+    (0..count).map(|_| random.word() as u32).collect()
+}
+
+fn comparisons(word: u32, slots: usize, job: &[u32]) -> u64 {
+    Index::of_job(word, slots, job).comparisons
+}
+
+#[test]
+fn the_request_s_terms() {
+    assert_eq!(comparisons(0, SLOTS, &request_terms()), COMPARISONS);
+}
+
+/// Each integer is followed by its application: the terms have other numbers.
+#[test]
+fn the_request_s_terms_in_turn() {
+    let load = |word: u32| {
+        let mut index = Index::new(word, SLOTS);
+        for value in 0..INTEGERS {
+            let integer = index.add(0, &integer_words(i64::from(value)));
+            index.add(2, &[4, integer as u32]);
+        }
+        assert_eq!(index.len(), 2 * INTEGERS as usize);
+        index.comparisons
+    };
+    assert_eq!(load(0), IN_TURN);
+    for word in random_words(100) {
+        assert!((1..FEW).contains(&load(word)), "{word}");
+    }
+}
+
+/// Other words lead to other counts, and none to many more.
+#[test]
+fn the_request_s_terms_for_random_words() {
+    let job = request_terms();
+    let counts = random_words(1_000).into_iter();
+    let counts: BTreeSet<u64> = counts.map(|word| comparisons(word, SLOTS, &job)).collect();
+    let most = *counts.last().expect("a count");
+    assert!(counts.len() > 100 && most < FEW);
+    assert_eq!(most, MOST);
+}
+
+/// By hand, in wider numbers: name 4 of term 3.
+#[test]
+fn a_mix_by_hand() {
+    let modulus = 1u64 << 32;
+    for word in [0, 1, 0x8000_0000, u32::MAX] {
+        let multiplier = (2_654_435_761 + 2 * u64::from(word)) % modulus;
+        let times = |mixed: u64| {
+            let product = mixed * multiplier % modulus;
+            (product + product / 65_536) % modulus
+        };
+        let first = times(times(2 + 4));
+        let second = times(times((first + 3) % modulus));
+        let squared = second * ((2 * second + 1) % modulus) % modulus;
+        let mixed = squared * 2_654_435_761 % modulus;
+        let mix = Mix::new(word);
+        assert_eq!(u64::from(mix.of(2, &[4, 3])), mixed);
+        for slots in [1, 2, 8_192, MOST_SLOTS] {
+            let slot = mix.slot(2, &[4, 3], slots);
+            assert_eq!(slot as u64, mixed / (modulus / slots as u64));
+        }
+    }
+}
+
+/// A word that gives a wanted mix does, wherever it stands; hardly ever there is none.
+#[test]
+fn words_for_a_mix() {
+    let mut none = 0;
+    for word in random_words(50) {
+        let mix = Mix::new(word);
+        for wanted in random_words(200) {
+            let found = [
+                (mix.word_for(1, &[], &[], wanted), 1, vec![], vec![]),
+                (mix.word_for(0, &[2, 7], &[], wanted), 0, vec![2, 7], vec![]),
+                (mix.word_for(2, &[], &[7, 9], wanted), 2, vec![], vec![7, 9]),
+            ];
+            for (free, kind, before, behind) in found {
+                match free {
+                    Some(free) => {
+                        let words = [before, vec![free], behind].concat();
+                        assert_eq!(mix.of(kind, &words), wanted);
+                    }
+                    None => none += 1,
+                }
+            }
+        }
+    }
+    assert!(none < 10, "{none}");
+}
+
+/// A term is found where it was listed, round the end too, and listed once.
+#[test]
+fn look_ups_in_a_small_index() {
+    for word in random_words(200) {
+        let mut index = Index::new(word, 16);
+        for _ in 0..2 {
+            for name in 0..8 {
+                assert_eq!(index.add(1, &[name]), name as usize);
+            }
+        }
+        assert_eq!(index.len(), 8);
+        assert!(index.comparisons >= 8);
+    }
+}
+
+/// Counts by the model for the word 0, and the most for 100 others.
+fn for_0_and_others(count: impl Fn(u32) -> u64) -> (u64, u64) {
+    let others = random_words(100).into_iter().map(&count);
+    (count(0), others.max().expect("a count"))
+}
+
+/// Loading compares each term with all before it where the word is 0, and with hardly any for others.
+#[test]
+fn terms_of_one_slot() {
+    for (terms, slots) in [
+        (PROGRAM_CELLS as u32, PROGRAM_INDEX),
+        (TERMS, SLOTS),
+        (TERMS, MOST_SLOTS),
+    ] {
+        let job = colliding::terms(terms).words();
+        let (aimed, others) = for_0_and_others(|word| comparisons(word, slots, &job));
+        let all = u64::from(terms);
+        assert_eq!(aimed, all * (all - 1) / 2);
+        assert!(aimed > 1_000_000 && others < FEW);
+    }
+}
+
+/// What some evaluations of all of a job's calls take, behind loading its terms.
+fn evaluations(word: u32, slots: usize, job: &[u32], times: usize) -> u64 {
+    let mut index = Index::of_job(word, slots, job);
+    let loaded = index.comparisons;
+    let job = Job::read(job).expect("a job");
+    for _ in 0..times {
+        let mut terms: Vec<u32> = Vec::new();
+        for cell in job.cells(Table::Expressions) {
+            let mut words = cell.words.to_vec();
+            if cell.kind == 2 {
+                let children = words[1..].iter_mut();
+                children.for_each(|child| *child = terms[*child as usize]);
+            }
+            terms.push(index.add(cell.kind, &words) as u32);
+        }
+    }
+    index.comparisons - loaded
+}
+
+/// A rule that looks its calls up again and again does so in one slot where the word is 0.
+#[test]
+fn calls_of_one_slot() {
+    let added = added_calls(2_560, 770).words();
+    assert!(4 * added.len() <= PROGRAM_BYTES);
+    let (aimed, others) = for_0_and_others(|word| evaluations(word, PROGRAM_INDEX, &added, 1));
+    assert!(aimed > 2_000_000 && others < FEW);
+    let last = last_calls(TERMS as usize, 3_824, 1).words();
+    let (aimed, others) = for_0_and_others(|word| evaluations(word, MOST_SLOTS, &last, 1));
+    assert!(aimed > 50_000_000 && others < FEW);
+}
+
+/// Other names make a generated job's terms meet in the wanted slot, and change no number.
+#[test]
+fn renamed_jobs() {
+    let (mut met, mut renamed) = (0, 0);
+    for seed in 0..300 {
+        let case = job(seed).with_fewest_slots();
+        let number = case.judge().expect("few steps").number();
+        let word = seed as u32 * 77;
+        let Some(other) = colliding::renamed(&case.job, word, case.index, case.index - 1) else {
+            continue;
+        };
+        let words = Job::read(&other).expect("a job");
+        let mix = Mix::new(word);
+        let aimed = words.cells(Table::Terms).filter(|cell| {
+            matches!(cell.kind, 1 | 2)
+                && mix.slot(cell.kind, cell.words, case.index) == case.index - 1
+        });
+        met += usize::from(aimed.count() > 1);
+        renamed += usize::from(other != case.job);
+        let case = generator::Case { job: other, ..case };
+        assert_eq!(case.judge().expect("few steps").number(), number);
+    }
+    assert!(met > 150 && renamed > 200, "{met} {renamed}");
+}
+
+/// Integers of which the high word takes away what the low word would add to the mix, if a word were multiplied
+/// once and the multiplier's last twelve bits were those of 1.
+fn integers_by_chance() -> Vec<u32> {
+    let mut tables = Tables::default();
+    for upper in 0..PROGRAM_CELLS as u32 {
+        let low = upper << 20;
+        let high = low.wrapping_add(low >> 16).wrapping_neg();
+        tables.term_literal([2, low, high]);
+    }
+    tables.words()
+}
+
+/// Who does not know the word cannot aim: for no word are there many more comparisons than terms.
+#[test]
+fn aiming_without_the_word() {
+    let job = integers_by_chance();
+    let words = random_words(2_000).into_iter();
+    let counts: Vec<u64> = words
+        .map(|word| comparisons(word, PROGRAM_INDEX, &job))
+        .collect();
+    let most = counts.iter().max().expect("a count");
+    assert!(*most < PROGRAM_CELLS as u64, "{most}");
+}
