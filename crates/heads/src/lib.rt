@@ -133,7 +133,7 @@ pub fn clear_if(marking: bool, marks: &mut [u32])
     marks::clear(marks);
 }
 
-// A reflexive pair is among the pairs that the marks stand for: they are closed first.
+// A reflexive pair is among the pairs that the marks stand for: its term is marked, or is once they are closed.
 fn is_covered(
     kinds: &[u32],
     ends: &[u32],
@@ -145,6 +145,9 @@ fn is_covered(
     requires { ⌜ Stored (now kinds) (now ends) (now pool) fill ⌝ }
     ensures { λ r. ⌜ r ≡ ltb 0 (getD (closing.close (termsIn (now (kinds .entry)) (now (ends .entry)) (now (pool .entry)) fill) (fill .cells) (now (marks .entry))) t 0) ⌝ }
 {
+    if marks::is_marked(marks, t) {
+        return true;
+    }
     marks::close(kinds, ends, pool, fill, marks);
     marks::is_marked(marks, t)
 }

@@ -16,7 +16,7 @@ use Rattle.model.proofs.Store.{extends-length}
 use Rattle.marks.specs.Marks.{zeros, close}
 use Rattle.marks.proofs.Subterms.{under-extends, under-back, among-member, member-among}
 use Rattle.marks.specs.Covering.{Marked, Covered, Marks}
-use Rattle.marks.proofs.Closing.{zeros-at, close-is}
+use Rattle.marks.proofs.Closing.{zeros-at, close-keeps, close-is}
 
 -- what a step did to the marks: m′ stands for what m stood for and for the reflexive pairs ps
 pub record AddsMarks (s : List Term) (m m′ : List ℕ) (ps : List Proposition) : Type 0 where
@@ -70,6 +70,10 @@ marks-extends {s} {s′} o e w = let l : length s ≤ length s′ = extends-leng
   sound = λ x c. w .sound x (covered-back o e (w .inside) x c);
   complete = λ x k. covered-extends o e (w .inside) x (w .complete x k);
 }
+
+-- what is marked needs no closing
+pub closed-marked : (s : List Term) (n : ℕ) (m : List ℕ) (x : ℕ) → ltb 0 (getD m x 0) ≡ true → true ≡ ltb 0 (getD (close s n m) x 0)
+closed-marked s n m x e = sym (lt-ltb 0 (getD (close s n m) x 0) (close-keeps s n m x (ltb-true 0 (getD m x 0) e)))
 
 -- the test of the code: once the marks are closed, a reflexive pair is among the pairs just when its term is marked
 pub marks-test : {s : List Term} {m : List ℕ} {ps : List Proposition} → Ordered s → length s ≤ length m → Marks s m ps
