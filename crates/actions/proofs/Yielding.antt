@@ -2,7 +2,7 @@
 use mathlib.Core.Path.{_≡_, refl, sym, ap, _∙_}
 use mathlib.Core.Bool.{Bool, true, false, _||_}
 use mathlib.Core.List.{List, [], _∷_, List·Memᴰ, List·Memᴰ·head, List·Memᴰ·tail}
-use Prim.Native.Nat.{ℕ, _<_, _≤_}
+use Prim.Native.Nat.{ℕ, _*_, _<_, _≤_}
 use native.Mathlib.Omega.{arith}
 use lib.Dec.{eqb}
 use borrow.Author.Tests.{eqb-true}
@@ -109,7 +109,7 @@ module _ (rule : ℕ) {J : List ℕ} {σ : List Binding} {e : ℕ} {k e′ p ix 
         under = Covering.here refl;
       })
 
-      room : length s₁ ≤ length m
+      room : length s₁ ≤ 32 * length m
       room =
           let a = terms-length k₁ e₁ p₁ (r .fill) in
           let b = d .does .grown .indexed .stored .formed .kinds in

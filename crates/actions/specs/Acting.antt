@@ -1,5 +1,5 @@
 -- The contract of actions: the context after, as the definition has it, and what the code keeps of it.
-use Prim.Native.Nat.{ℕ, _+_, _<_, _≤_}
+use Prim.Native.Nat.{ℕ, _+_, _*_, _<_, _≤_}
 use lib.ListN.{length, drop}
 use mathlib.Core.Path.{_≡_}
 use mathlib.Core.List.{List, _∷_, _++_, List·Memᴰ}
@@ -23,14 +23,14 @@ use Rattle.pairs.specs.Marking.{markValues}
 use Rattle.actions.specs.declared.Effect.{Effect}
 use Rattle.actions.specs.declared.Acted.{Acted}
 
--- What an action may be handed: an admitted job, a store that is sane under the bindings σ, a memo, and a mark for each cell of the store.
+-- What an action may be handed: an admitted job, a store that is sane under the bindings σ, a memo, and room for a mark for each cell of the store.
 pub record Standing (J : List ℕ) (σ : List Binding) (k e p ix : List ℕ) (f : Fill) (memo m : List ℕ) : Type 0 where
   pub ready : Ready J
   pub indexed : Indexed k e p ix f
   pub sane : Sane (programFor J) σ (termsIn k e p f)
   pub fits : sizesOf J .expressions + sizesOf J .expressions < length memo
   pub past : Past memo
-  pub cells : length k ≤ length m
+  pub cells : length k ≤ 32 * length m
 
 -- The marks after an evaluation.
 abbrev pub markedIf : Bool → List ℕ → ℕ → List ℕ → List ℕ

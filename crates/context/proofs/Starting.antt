@@ -2,7 +2,7 @@
 use mathlib.Core.Path.{_≡_, refl, sym, ap, subst, _∙_}
 use mathlib.Core.Bool.{Bool, true, _||_}
 use mathlib.Core.List.{List, [], _∷_, _++_, append-nil}
-use Prim.Native.Nat.{ℕ, suc, _+_, _-_, _<_, _≤_}
+use Prim.Native.Nat.{ℕ, suc, _+_, _-_, _*_, _<_, _≤_}
 use native.Mathlib.Omega.{arith}
 use native.Mathlib.Numerals.{add-one}
 use lib.ListN.{length, take, drop, drop-of-length-le}
@@ -300,7 +300,7 @@ module _ {prog : Program} {k e p ix : List ℕ} {f : Fill} {l : Looked} (q : opt
       unions = C .unions;
     }
 
-    pub context-goes : {m₂ : List ℕ} → length k ≤ length m₁ → m₂ ≡ close (termsIn k₁ e₁ p₁ (r .fill)) (r .fill .cells) m₁ → Context prog k e p ix f k₁ e₁ p₁ ix₁ r memo₁ m₂ T₁ U₁
+    pub context-goes : {m₂ : List ℕ} → length k ≤ 32 * length m₁ → m₂ ≡ close (termsIn k₁ e₁ p₁ (r .fill)) (r .fill .cells) m₁ → Context prog k e p ix f k₁ e₁ p₁ ix₁ r memo₁ m₂ T₁ U₁
     context-goes {m₂} l c = record {
       context = C .context;
       does = does-new;

@@ -6,12 +6,12 @@ use Prim.Native.Nat.{ℕ, suc, _+_, _-_, _<_, _≤_}
 use native.Mathlib.Omega.{arith}
 use lib.ListN.{length, getD, set, take, drop, length-set, length-drop}
 use lib.Seq.{drop-cons, take-suc-set, length-take-le}
-use lib.Dec.{ltb}
 use Rattle.model.specs.Program.{Proposition}
 use Rattle.model.specs.Action.{sameProposition, among}
 use Rattle.actions.specs.Acting.{effectHas}
 use Rattle.actions.specs.declared.Effect.{Effect}
 use Rattle.actions.proofs.Acting.{or-no, or-assoc}
+use Rattle.marks.specs.Marks.{isMarked}
 use Rattle.context.specs.Contexts.{unionsHave, Even, Joined, GlobalPairs}
 
 -- a union behind the others
@@ -77,5 +77,5 @@ module _ (ws : List ℕ) (k : ℕ) (p : 1 ≤ k) (q : Proposition) where
       go (x ∷ y ∷ l) e = absurd (omega arith)
 
 -- a pair of one term
-pub pair-same : {ps : List Proposition} {U m : List ℕ} → GlobalPairs ps U m → (q : Proposition) → q .lhs ≡ q .rhs → ltb 0 (getD m (q .lhs) 0) ≡ among q ps
+pub pair-same : {ps : List Proposition} {U m : List ℕ} → GlobalPairs ps U m → (q : Proposition) → q .lhs ≡ q .rhs → isMarked m (q .lhs) ≡ among q ps
 pair-same {ps} g q e = g .reflexive (q .lhs) ∙ ap (λ (y : ℕ). among (record { lhs = q .lhs; rhs = y }) ps) e

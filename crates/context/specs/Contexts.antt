@@ -3,8 +3,7 @@ use Prim.Native.Nat.{ℕ, _+_, _≤_}
 use mathlib.Core.Path.{_≡_}
 use mathlib.Core.List.{List, [], _∷_, _++_}
 use mathlib.Core.Bool.{Bool, false, _||_}
-use lib.Dec.{ltb}
-use lib.ListN.{getD, take, drop}
+use lib.ListN.{take, drop}
 use Rattle.model.specs.Program.{nameGlobalActions, Proposition, Program, Action}
 use Rattle.model.specs.Decode.{readBindings}
 use Rattle.model.specs.Evaluate.{same}
@@ -15,6 +14,7 @@ use Rattle.index.specs.declared.Fill.{Fill}
 use Rattle.termdag.specs.Store.{termsIn, roomOf}
 use Rattle.memo.specs.Memo.{Past}
 use Rattle.outcome.specs.Does.{Does}
+use Rattle.marks.specs.Marks.{isMarked}
 use Rattle.marks.specs.Covering.{Marks}
 use Rattle.evaluate.specs.Evaluation.{Sane}
 use Rattle.actions.specs.Acting.{effectHas}
@@ -41,7 +41,7 @@ pub record Joined (U : List ℕ) (n : ℕ) (e : Effect) (U′ : List ℕ) (r : �
 -- The pairs ps: the unions U stand for those that are not reflexive, the marks for the others.
 pub record GlobalPairs (ps : List Proposition) (U m : List ℕ) : Type 0 where
   pub others : (q : Proposition) → (q .lhs ≡ q .rhs → ⊥) → among q ps ≡ unionsHave U q
-  pub reflexive : (x : ℕ) → ltb 0 (getD m x 0) ≡ among (same x) ps
+  pub reflexive : (x : ℕ) → isMarked m x ≡ among (same x) ps
 
 -- One action a in a context whose bindings the table T has from `at` on, and whose unions are the first n words of U: the context after.
 pub record Turned (prog : Program) (a : Action) (K E P I : List ℕ) (f : Fill) (m T : List ℕ) (at : ℕ) (U : List ℕ) (n : ℕ) (K′ E′ P′ I′ : List ℕ) (r : Globals) (memo′ m′ T′ U′ : List ℕ) : Type 0 where

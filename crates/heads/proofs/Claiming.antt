@@ -2,9 +2,9 @@
 use mathlib.Core.Path.{_≡_, refl, sym, ap, subst, subst⁻¹, _∙_}
 use mathlib.Core.Bool.{Bool, true, false}
 use mathlib.Core.List.{List, [], _∷_, map}
-use Prim.Native.Nat.{ℕ, _≤_}
+use Prim.Native.Nat.{ℕ, _*_, _≤_}
 use native.Mathlib.Omega.{arith}
-use lib.Dec.{eqb, ltb}
+use lib.Dec.{eqb}
 use borrow.Author.Tests.{eqb-true, eqb-false}
 use lib.ListN.{length, getD}
 use Rattle.model.specs.Cell.{noCell}
@@ -18,7 +18,7 @@ use Rattle.termdag.specs.Store.{termsIn, roomOf}
 use Rattle.outcome.specs.Does.{outcomeOf, Does}
 use Rattle.outcome.specs.declared.Checked.{Checked}
 use Rattle.outcome.proofs.Laws.{does-here, does-then, does-stop}
-use Rattle.marks.specs.Marks.{zeros, close}
+use Rattle.marks.specs.Marks.{zeros, isMarked, close}
 use Rattle.marks.proofs.Marking.{marks-cleared, marks-closed}
 use Rattle.termdag.proofs.Laws.{terms-length}
 use Rattle.program.specs.Ready.{tablesFor, programFor, ruleFor}
@@ -60,8 +60,8 @@ module _ (J : List ℕ) (r : ℕ) (σ : List Binding) (q : Proposition) where
       sane = λ u. absurd (n u);
     })
 
-    module _ (n : h .refusal .number ≡ 0) (m₀ : List ℕ) (mq : m ≡ clearedIf marking m₀) (lm : length k₁ ≤ length m₁) where
-      claimed-is : (b : Bool) → eqb (q .lhs) (q .rhs) ≡ b → claimedBy b (h .found) (ltb 0 (getD (close s₁ (h .fill .cells) m₁) (q .lhs) 0)) ≡ among q (H .context .pairs)
+    module _ (n : h .refusal .number ≡ 0) (m₀ : List ℕ) (mq : m ≡ clearedIf marking m₀) (lm : length k₁ ≤ 32 * length m₁) where
+      claimed-is : (b : Bool) → eqb (q .lhs) (q .rhs) ≡ b → claimedBy b (h .found) (isMarked (close s₁ (h .fill .cells) m₁) (q .lhs)) ≡ among q (H .context .pairs)
       claimed-is false u = sym (H .others n (eqb-false (q .lhs) (q .rhs) u))
       claimed-is true u =
           let i : q .lhs ≡ q .rhs = eqb-true (q .lhs) (q .rhs) u in
@@ -72,7 +72,7 @@ module _ (J : List ℕ) (r : ℕ) (σ : List Binding) (q : Proposition) where
           marks-closed (h .fill .cells) l (H .sane n .ordered) (omega arith) w refl (q .lhs)
           ∙ ap (λ (y : ℕ). among (record { lhs = q .lhs; rhs = y }) (H .context .pairs)) i
 
-      pub produce-ends : {claimed : Bool} {c : Checked} → claimed ≡ claimedBy marking (h .found) (ltb 0 (getD (close s₁ (h .fill .cells) m₁) (q .lhs) 0))
+      pub produce-ends : {claimed : Bool} {c : Checked} → claimed ≡ claimedBy marking (h .found) (isMarked (close s₁ (h .fill .cells) m₁) (q .lhs))
           → (c .fill ≡ h .fill) × ((s : List Term) → outcomeOf (c .refusal) tt s ≡ checkThat claimed 31 (name ∷ q .lhs ∷ q .rhs ∷ []) s)
           → Produces prog (ruleFor J r) σ q k e p ix f k₁ e₁ p₁ ix₁ c memo₁
       produce-ends {claimed} {c} cq d = record {

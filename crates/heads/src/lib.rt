@@ -17,7 +17,6 @@ use program::read::rule_name_at;
 ghost use mathlib.Core.Path.{_≡_};
 ghost use mathlib.Core.List.{List, [], _∷_, map};
 ghost use Prim.Native.Nat.{ℕ, _≤_, _<_};
-ghost use lib.Dec.{ltb};
 ghost use lib.ListN.{length, getD};
 ghost use Rattle.model.specs.Layout.{sizesOf};
 ghost use Rattle.model.specs.Term.{Term};
@@ -143,7 +142,7 @@ fn is_covered(
     t: u32,
 ) -> bool
     requires { ⌜ Stored (now kinds) (now ends) (now pool) fill ⌝ }
-    ensures { λ r. ⌜ r ≡ ltb 0 (getD (closing.close (termsIn (now (kinds .entry)) (now (ends .entry)) (now (pool .entry)) fill) (fill .cells) (now (marks .entry))) t 0) ⌝ }
+    ensures { λ r. ⌜ r ≡ closing.isMarked (closing.close (termsIn (now (kinds .entry)) (now (ends .entry)) (now (pool .entry)) fill) (fill .cells) (now (marks .entry))) t ⌝ }
 {
     if marks::is_marked(marks, t) {
         return true;
@@ -164,7 +163,7 @@ pub fn is_claimed(
     t: u32,
 ) -> bool
     requires { ⌜ Stored (now kinds) (now ends) (now pool) fill ⌝ }
-    ensures { λ r. ⌜ r ≡ claimedBy marking found (ltb 0 (getD (closing.close (termsIn (now (kinds .entry)) (now (ends .entry)) (now (pool .entry)) fill) (fill .cells) (now (marks .entry))) t 0)) ⌝ }
+    ensures { λ r. ⌜ r ≡ claimedBy marking found (closing.isMarked (closing.close (termsIn (now (kinds .entry)) (now (ends .entry)) (now (pool .entry)) fill) (fill .cells) (now (marks .entry))) t) ⌝ }
 {
     if !marking {
         return found;

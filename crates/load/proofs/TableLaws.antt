@@ -17,7 +17,7 @@ use Rattle.model.specs.Load.{any, failsFrom, marks, isFirst, sameHead, counts, 
 use Rattle.cells.proofs.Laws.{cell-at, cells-length, cells-fewer, same-cell-eq}
 use Rattle.cells.specs.declared.Found.{Found}
 use Rattle.load.specs.declared.sizes.Sizes.{Sizes as SizesHeld}
-use Rattle.load.specs.Held.{sizesIn, Distinct, countsOf, cellNumber, fixedCounts, alikeBy, firstAmong, testsFor, firstFound}
+use Rattle.load.specs.Held.{sizesIn, Distinct, countsOf, cellNumber, fixedCounts, alikeBy, firstAmong, tablesFor, testsFor, firstFound}
 
 -- a cell of a table is a cell of the job
 pub part-at : (cs : List Cell) (from count i : ℕ) → i < count → getD (part cs from count) i noCell ≡ getD cs (from + i) noCell
@@ -220,11 +220,17 @@ module _ {K E P : List ℕ} {z : SizesHeld} {n : ℕ} (D : Distinct K E P z n) w
           let same : getD (cellsOf K E P n) j noCell ≡ getD (cellsOf K E P n) i noCell = cells-fewer K E P n m j few (omega arith) ∙ sym (getD-take i held j noCell q) ∙ same-cell-eq _ _ e ∙ sym (cells-fewer K E P n m i few h) in
           absurd (omega (arith, D .once .one j i (omega arith) (omega arith) same))
 
-  pub known-first : (table first i : ℕ) → table ≡ 0 → first ≡ cellNumber (sizesIn z) table → i < n → true ≡ firstAmong (alikeBy table) held first i
+  known-first : (table first i : ℕ) → table ≡ 0 → first ≡ cellNumber (sizesIn z) table → i < n → true ≡ firstAmong (alikeBy table) held first i
   known-first table first i t f h =
       let o : first ≡ 0 = f ∙ ap (cellNumber (sizesIn z)) t in
       let y : 0 + i ≡ i = omega arith in
       rw (t, o, y) (ap not (sym (earlier-none (λ x. sameCell x (getD held i noCell)) (take i held) (differ i h))))
+
+  pub known-once : (table first i : ℕ) → table ≡ 0 → first ≡ cellNumber (sizesIn z) table → i < n → true ≡ getD (onceTests (tablesFor K E P z)) table passed i (getD held (first + i) noCell)
+  known-once table first i t f h =
+      let l : i < getD (countsOf (sizesIn z)) table 0 = rw t (omega (arith, D .few)) in
+      let g = known-first table first i t f h ∙ first-in (sizesIn z) held (alikeBy table) table first i (omega arith) f l in
+      rw t (rw t at g)
 
 pub once-other : (t : Tables) (k i : ℕ) (c : Cell) → (k ≡ 9 → ⊥) → (k ≡ 0 → ⊥) → (k ≡ 6 → ⊥) → (k ≡ 7 → ⊥) → true ≡ getD (onceTests t) k passed i c
 once-other t zero i c a b d e = absurd (b refl)
@@ -283,6 +289,17 @@ module _ (f : ℕ → Cell → Bool) (t : List Cell) (first i : ℕ) where
   unfolding firstFound
   found-end h = rw (drop-of-length-le t h)
 
+plus-zero : (n : ℕ) → n ≡ n + 0
+plus-zero n = omega arith
+
+-- past cells that pass
+pub found-past : (f : ℕ → Cell → Bool) (t : List Cell) (first n : ℕ) → n ≤ length t → ((i : ℕ) → i < n → true ≡ f i (getD t i noCell))
+    → firstFound first (failsFrom 0 f t) ≡ firstFound (first + n) (failsFrom n f (drop n t))
+found-past f t first zero h p = ap (λ (i : ℕ). firstFound i (failsFrom 0 f t)) (plus-zero first)
+found-past f t first (suc n) h p =
+    found-past f t first n (omega arith) (λ i l. p i (omega arith)) ∙ found-no f t first n (omega arith) (sym (p n (omega arith)))
+    ∙ ap (λ (i : ℕ). firstFound (first + i) (failsFrom i f (drop i t))) (add-one n)
+
 pub fails-length : (f : ℕ → Cell → Bool) (i : ℕ) (t : List Cell) → length (failsFrom i f t) ≡ length t
 fails-length f i [] = refl
 fails-length f i (c ∷ cs) = ap suc (fails-length f (suc i) cs)
@@ -297,9 +314,6 @@ found-left (false ∷ ms) ns i j e = found-left ms ns (suc i) j e
 pub found-right : (ms ns : List Bool) (i : ℕ) → firstFound i ms ≡ Found.Nothing → firstFound i (ms ++ ns) ≡ firstFound (i + length ms) ns
 unfolding firstFound
 found-right [] ns i e = ap (λ (j : ℕ). firstFound j ns) (plus-zero i)
-  where
-    plus-zero : (i : ℕ) → i ≡ i + 0
-    plus-zero i = omega arith
 found-right (true ∷ ms) ns i e = let z : _≡_ {A = ℕ} 0 1 = cc in absurd (omega arith)
 found-right (false ∷ ms) ns i e = found-right ms ns (suc i) e ∙ ap (λ (j : ℕ). firstFound j ns) (shift i (length ms))
   where

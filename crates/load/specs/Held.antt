@@ -10,7 +10,7 @@ use Rattle.model.specs.Cell.{Cell, noCell, sameCell, cellAt, cellsOf}
 use Rattle.model.specs.Term.{readTerm}
 use Rattle.model.specs.Check.{Refusal}
 use Rattle.model.specs.Layout.{Sizes, cellCount, Tables, tablesIn}
-use Rattle.model.specs.Load.{Lent, any, endsRise, noRoom, wrongSlots, refusedIf, firstRefusal, firstFailing, sameRow, sameHead, fitTests, referTests, validTests, onceTests}
+use Rattle.model.specs.Load.{Lent, any, endsRise, noRoom, wrongSlots, refusedIf, firstRefusal, firstFailing, sameRow, sameHead, passed, fitTests, referTests, validTests, onceTests}
 use Rattle.load.specs.declared.sizes.Sizes.{Sizes as SizesHeld}
 use Rattle.load.specs.declared.Loaded.{Loaded}
 use Rattle.cells.specs.Table.{Formed, Once}
@@ -134,6 +134,11 @@ pub record Place (z : SizesHeld) (k n i : ℕ) : Type 0 where
   pub table : k < 10
   pub first : n ≡ cellNumber (sizesIn z) k
   pub inside : i < getD (countsOf (sizesIn z)) k 0
+
+-- The first n cells of table k pass their test.
+pub record Passing (K E P : List ℕ) (z : SizesHeld) (round k n : ℕ) : Type 0 where
+  pub few : n ≤ getD (countsOf (sizesIn z)) k 0
+  pub pass : (i : ℕ) → i < n → true ≡ getD (testsFor round (sizesIn z) (tablesFor K E P z)) k passed i (cellHeld K E P z (cellNumber (sizesIn z) k + i))
 
 -- The refusal that an answer stands for.
 abbrev pub refusalOf : Loaded → Option Refusal

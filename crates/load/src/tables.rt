@@ -17,13 +17,14 @@ ghost use mathlib.Core.Path.{_≡_};
 ghost use mathlib.Core.Bool.{true, false};
 ghost use Prim.Native.Nat.{ℕ, _+_, _<_};
 ghost use lib.ListN.{getD};
-ghost use mathlib.Core.List.{[]};
+ghost use mathlib.Core.List.{List, []};
 ghost use Rattle.model.specs.Load.{counts as operandCounts, failsFrom, marks, setFits, actionFits, passed, fitTests, referTests, validTests, onceTests, primitiveLooksUp, bindsOnce};
 ghost use Rattle.model.specs.Cell.{cellsOf};
 ghost use Rattle.model.specs.Layout.{cellCount, tableList};
 ghost use Rattle.model.specs.Program.{substitution};
 ghost use Rattle.model.specs.Decode.{readProof};
-ghost use Rattle.load.specs.Held.{sizesIn, fillOf, Limits, Held, Distinct, tablesFor, fixedCounts, alikeBy, firstAmong, cellHeld, Place, testsFor, firstFound, countsOf, cellNumber};
+ghost use Rattle.load.specs.declared.sizes.Sizes.{Sizes as SizesHeld};
+ghost use Rattle.load.specs.Held.{sizesIn, fillOf, Limits, Held, Distinct, tablesFor, fixedCounts, alikeBy, firstAmong, cellHeld, Place, Passing, testsFor, firstFound, countsOf, cellNumber};
 
 // How much the job's arrays hold.
 pub fn fill(z: Sizes) -> Fill
@@ -316,6 +317,28 @@ pub fn passes(
     once(kinds, ends, pool, z, distinct, table, first, i, kind, ws)
 }
 
+// How many cells of a table, from its first on, pass for sure: all where the round has no test for it, and the terms that are known to differ.
+pub fn passed_first(distinct: usize, round: usize, table: usize, count: usize) -> usize
+    ensures { λ r. ⌜ ((K E P : List ℕ) (z : SizesHeld) → count ≡ getD (countsOf (sizesIn z)) table 0 → Distinct K E P z distinct → Passing K E P z round table r) ⌝ }
+{
+    if round < 2 {
+        return 0;
+    }
+    if (table == 6) | (table == 7) {
+        return 0;
+    }
+    if round == 2 {
+        return count;
+    }
+    if table == 9 {
+        return 0;
+    }
+    if table == 0 {
+        return distinct;
+    }
+    count
+}
+
 // The first cell of a table that fails its test.
 pub fn first_failing(
     kinds: &[u32],
@@ -335,7 +358,7 @@ pub fn first_failing(
     requires { ⌜ Distinct (now kinds) (now ends) (now pool) z distinct ⌝ }
     ensures { λ r. ⌜ r ≡ firstFound first (failsFrom 0 (getD (testsFor round (sizesIn z) (tablesFor (now (kinds .entry)) (now (ends .entry)) (now (pool .entry)) z)) table passed) (getD (tableList (tablesFor (now (kinds .entry)) (now (ends .entry)) (now (pool .entry)) z)) table [])) ⌝ }
 {
-    let mut i = 0;
+    let mut i = passed_first(distinct, round, table, count);
     while i < count {
         if !passes(kinds, ends, pool, z, distinct, round, table, first, i) {
             return Found::At(first + i);

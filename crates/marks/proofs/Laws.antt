@@ -6,13 +6,12 @@ use native.Mathlib.Numerals.{add-one}
 use mathlib.Core.Path.{_≡_, refl, sym, ap, _∙_}
 use mathlib.Core.List.{List, _∷_, _++_, append-nil}
 use mathlib.Core.Bool.{Bool, true, false, not}
-use lib.ListN.{length, getD, drop, set, length-replicate, drop-of-length-le, List·getD-eq-default}
+use lib.ListN.{length, getD, drop, set, length-replicate, drop-of-length-le}
 use lib.Seq.{drop-cons, set-at}
-use lib.Dec.{ltb}
 use borrow.Author.Tests.{not-true, not-false}
 use Rattle.model.specs.Term.{Term, getTerm}
 use Rattle.model.specs.Evaluate.{children}
-use Rattle.marks.specs.Marks.{zeros, markAll, closeAt, close}
+use Rattle.marks.specs.Marks.{zeros, isMarked, withMark, markAll, closeAt, close}
 use Rattle.marks.proofs.Closing.{at-length}
 
 -- words set to 0 up to i
@@ -29,12 +28,8 @@ clear-step m m₀ i h e =
 pub clear-end : (m m₀ : List ℕ) (i : ℕ) → i ≡ length m₀ → m ≡ zeros i ++ drop i m₀ → m ≡ zeros (length m₀)
 clear-end m m₀ i q e = e ∙ rw (drop-of-length-le m₀ {i = i} (omega arith)) (append-nil (zeros i)) ∙ ap zeros q
 
--- past the end
-pub none-past : (m : List ℕ) (t : ℕ) → length m ≤ t → false ≡ ltb 0 (getD m t 0)
-none-past m t h = rw (List·getD-eq-default m 0 h)
-
 -- terms marked one by one
-pub all-step : (xs m : List ℕ) (j : ℕ) → j < length xs → markAll (drop j xs) m ≡ markAll (drop (j + 1) xs) (set m (getD xs j 0) 1)
+pub all-step : (xs m : List ℕ) (j : ℕ) → j < length xs → markAll (drop j xs) m ≡ markAll (drop (j + 1) xs) (withMark m (getD xs j 0))
 unfolding markAll
 all-step xs m j h = rw (drop-cons xs j 0 h, markAll, add-one j)
 
@@ -43,11 +38,11 @@ unfolding markAll
 all-end xs m j h = rw (drop-of-length-le xs h, markAll)
 
 -- one number closed, where b is the test of its mark
-module _ (s : List Term) (i : ℕ) (m : List ℕ) (b : Bool) (e : b ≡ ltb 0 (getD m i 0)) where
-  pub at-no : not b ≡ true → m ≡ closeAt s i m (ltb 0 (getD m i 0))
+module _ (s : List Term) (i : ℕ) (m : List ℕ) (b : Bool) (e : b ≡ isMarked m i) where
+  pub at-no : not b ≡ true → m ≡ closeAt s i m (isMarked m i)
   at-no n = rw (← e, not-true b n)
 
-  pub at-yes : (xs : List ℕ) → not b ≡ false → xs ≡ children (getTerm s i) → markAll xs m ≡ closeAt s i m (ltb 0 (getD m i 0))
+  pub at-yes : (xs : List ℕ) → not b ≡ false → xs ≡ children (getTerm s i) → markAll xs m ≡ closeAt s i m (isMarked m i)
   at-yes xs n q = rw (← e, not-false b n, q)
 
 -- numbers closed one by one, from the top down: from n to i the marks went from m₀ to m
@@ -58,18 +53,18 @@ pub record ClosedTo (s : List Term) (n : ℕ) (m₀ : List ℕ) (i : ℕ) (m : L
 pub closed-none : (s : List Term) (n : ℕ) (m : List ℕ) → ClosedTo s n m n m
 closed-none s n m = record { rest = refl; long = refl }
 
-close-suc : (s : List Term) (i : ℕ) (m : List ℕ) → 0 < i → close s i m ≡ close s (i - 1) (closeAt s (i - 1) m (ltb 0 (getD m (i - 1) 0)))
+close-suc : (s : List Term) (i : ℕ) (m : List ℕ) → 0 < i → close s i m ≡ close s (i - 1) (closeAt s (i - 1) m (isMarked m (i - 1)))
 unfolding close
 close-suc s zero m h = absurd (not-suc-le-zero h)
 close-suc s (suc i) m h =
     let e : i ≡ suc i - 1 = omega arith in
-    ap (λ (k : ℕ). close s k (closeAt s k m (ltb 0 (getD m k 0)))) e
+    ap (λ (k : ℕ). close s k (closeAt s k m (isMarked m k))) e
 
 module _ {s : List Term} {n : ℕ} {m₀ : List ℕ} {i : ℕ} {m : List ℕ} (C : ClosedTo s n m₀ i m) where
-  pub closed-step : {m′ : List ℕ} → 0 < i → m′ ≡ closeAt s (i - 1) m (ltb 0 (getD m (i - 1) 0)) → ClosedTo s n m₀ (i - 1) m′
+  pub closed-step : {m′ : List ℕ} → 0 < i → m′ ≡ closeAt s (i - 1) m (isMarked m (i - 1)) → ClosedTo s n m₀ (i - 1) m′
   closed-step h e = record {
     rest = C .rest ∙ close-suc s i m h ∙ ap (close s (i - 1)) (sym e);
-    long = ap length e ∙ at-length s (i - 1) m (ltb 0 (getD m (i - 1) 0)) ∙ C .long;
+    long = ap length e ∙ at-length s (i - 1) m (isMarked m (i - 1)) ∙ C .long;
   }
 
   pub closed-all : i ≡ 0 → m ≡ close s n m₀

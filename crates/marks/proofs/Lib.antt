@@ -1,4 +1,5 @@
 pub mod Subterms
+pub mod Bits
 pub mod Closing
 pub mod Marking
 pub mod Laws

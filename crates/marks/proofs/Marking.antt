@@ -1,22 +1,21 @@
 -- Marks that stand for the reflexive pairs of an evaluation, step by step.
-use Prim.Native.Nat.{ℕ, _<_, _≤_}
+use Prim.Native.Nat.{ℕ, _*_, _<_, _≤_}
 use native.Mathlib.Omega.{arith}
 use mathlib.Core.Path.{_≡_, refl, sym, _∙_}
 use mathlib.Core.Logic.{_⊎_, inl, inr, _↔_}
 use mathlib.Core.List.{List, [], _++_, List·Memᴰ, List·Memᴰ·not-nil, List·Memᴰ·append-cases, Memᴰ·append-left, Memᴰ·append-right}
-use mathlib.Core.Bool.{Bool, true, false}
-use lib.ListN.{length, getD}
-use lib.Dec.{ltb}
-use borrow.Author.Tests.{ltb-true, lt-ltb}
+use mathlib.Core.Bool.{Bool, true, false, true≢false}
+use lib.ListN.{length}
 use Rattle.model.specs.Term.{Term, Extends, Ordered}
 use Rattle.model.specs.Program.{Proposition}
 use Rattle.model.specs.Evaluate.{same}
 use Rattle.model.specs.Action.{among}
 use Rattle.model.proofs.Store.{extends-length}
-use Rattle.marks.specs.Marks.{zeros, close}
+use Rattle.marks.specs.Marks.{zeros, isMarked, close}
 use Rattle.marks.proofs.Subterms.{under-extends, under-back, among-member, member-among}
 use Rattle.marks.specs.Covering.{Marked, Covered, Marks}
-use Rattle.marks.proofs.Closing.{zeros-at, close-keeps, close-is}
+use Rattle.marks.proofs.Bits.{zeros-at}
+use Rattle.marks.proofs.Closing.{close-keeps, close-is}
 
 -- what a step did to the marks: m′ stands for what m stood for and for the reflexive pairs ps
 pub record AddsMarks (s : List Term) (m m′ : List ℕ) (ps : List Proposition) : Type 0 where
@@ -26,10 +25,10 @@ pub record AddsMarks (s : List Term) (m m′ : List ℕ) (ps : List Proposition)
   pub only : (x : ℕ) → Covered s m′ x → Covered s m x ⊎ List·Memᴰ (same x) ps
 
 -- no mark, no pair
-pub marks-none : (s : List Term) (m : List ℕ) → ((t : ℕ) → getD m t 0 ≡ 0) → Marks s m []
+pub marks-none : (s : List Term) (m : List ℕ) → ((t : ℕ) → isMarked m t ≡ false) → Marks s m []
 marks-none s m z = record {
-  inside = λ t h. let e = z t in absurd (omega arith);
-  sound = λ x c. let e = z (c .root) in let h = c .marked in absurd (omega arith);
+  inside = λ t h. absurd (true≢false (sym h ∙ z t));
+  sound = λ x c. absurd (true≢false (sym (c .marked) ∙ z (c .root)));
   complete = λ x k. absurd (List·Memᴰ·not-nil k);
 }
 
@@ -72,23 +71,23 @@ marks-extends {s} {s′} o e w = let l : length s ≤ length s′ = extends-leng
 }
 
 -- what is marked needs no closing
-pub closed-marked : (s : List Term) (n : ℕ) (m : List ℕ) (x : ℕ) → ltb 0 (getD m x 0) ≡ true → true ≡ ltb 0 (getD (close s n m) x 0)
-closed-marked s n m x e = sym (lt-ltb 0 (getD (close s n m) x 0) (close-keeps s n m x (ltb-true 0 (getD m x 0) e)))
+pub closed-marked : (s : List Term) (n : ℕ) (m : List ℕ) (x : ℕ) → Marked m x → true ≡ isMarked (close s n m) x
+closed-marked s n m x h = sym (close-keeps s n m x h)
 
 -- the test of the code: once the marks are closed, a reflexive pair is among the pairs just when its term is marked
-pub marks-test : {s : List Term} {m : List ℕ} {ps : List Proposition} → Ordered s → length s ≤ length m → Marks s m ps
-    → (x : ℕ) → ltb 0 (getD (close s (length s) m) x 0) ≡ among (same x) ps
-marks-test {s} {m} {ps} o l w x = go (ltb 0 (getD (close s (length s) m) x 0)) refl (among (same x) ps) refl
+pub marks-test : {s : List Term} {m : List ℕ} {ps : List Proposition} → Ordered s → length s ≤ 32 * length m → Marks s m ps
+    → (x : ℕ) → isMarked (close s (length s) m) x ≡ among (same x) ps
+marks-test {s} {m} {ps} o l w x = go (isMarked (close s (length s) m) x) refl (among (same x) ps) refl
   where
     is : Marked (close s (length s) m) x ↔ Covered s m x
     is = close-is s o (length s) m l (w .inside) x
 
-    go : (a : Bool) → ltb 0 (getD (close s (length s) m) x 0) ≡ a → (b : Bool) → among (same x) ps ≡ b → a ≡ b
+    go : (a : Bool) → isMarked (close s (length s) m) x ≡ a → (b : Bool) → among (same x) ps ≡ b → a ≡ b
     go true e true f = refl
     go false e false f = refl
-    go true e false f = sym (member-among x ps (w .sound x (is .0 (ltb-true 0 _ e)))) ∙ f
-    go false e true f = sym e ∙ lt-ltb 0 (getD (close s (length s) m) x 0) (is .1 (w .complete x (among-member x ps f)))
+    go true e false f = sym (member-among x ps (w .sound x (is .0 e))) ∙ f
+    go false e true f = sym e ∙ is .1 (w .complete x (among-member x ps f))
 
-pub marks-closed : {s : List Term} {m m′ : List ℕ} {ps : List Proposition} (n : ℕ) → length s ≡ n → Ordered s → n ≤ length m → Marks s m ps → m′ ≡ close s n m
-    → (x : ℕ) → ltb 0 (getD m′ x 0) ≡ among (same x) ps
+pub marks-closed : {s : List Term} {m m′ : List ℕ} {ps : List Proposition} (n : ℕ) → length s ≡ n → Ordered s → n ≤ 32 * length m → Marks s m ps → m′ ≡ close s n m
+    → (x : ℕ) → isMarked m′ x ≡ among (same x) ps
 marks-closed n q o l w e x = rw (e, ← q) (marks-test o (omega arith) w x)

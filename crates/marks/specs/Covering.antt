@@ -2,10 +2,12 @@
 use Prim.Native.Nat.{ℕ, _<_}
 use mathlib.Core.Path.{_≡_}
 use mathlib.Core.List.{List, List·Memᴰ}
-use lib.ListN.{length, getD}
+use mathlib.Core.Bool.{true}
+use lib.ListN.{length}
 use Rattle.model.specs.Term.{Term, getTerm}
 use Rattle.model.specs.Program.{Proposition}
 use Rattle.model.specs.Evaluate.{children, same}
+use Rattle.marks.specs.Marks.{isMarked}
 
 -- x is t or a subterm of it.
 pub data Under (s : List Term) (x : ℕ) : ℕ → Type 0 where
@@ -14,7 +16,7 @@ pub data Under (s : List Term) (x : ℕ) : ℕ → Type 0 where
 
 -- A term is marked.
 abbrev pub Marked : List ℕ → ℕ → Type 0
-Marked m t = 0 < getD m t 0
+Marked m t = isMarked m t ≡ true
 
 -- A term is marked or has a marked term above it.
 pub record Covered (s : List Term) (m : List ℕ) (x : ℕ) : Type 0 where

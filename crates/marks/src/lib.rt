@@ -1,12 +1,19 @@
-// Marks on the terms of a store, for the reflexive pairs of an evaluation: a mark stands for a term and all its subterms.
+// Marks on the terms of a store, a bit for each, for the reflexive pairs of an evaluation: a mark stands for a term and all its subterms.
 use cells::wide;
 use index::Fill;
 ghost use mathlib.Core.Path.{_≡_};
-ghost use Prim.Native.Nat.{_<_};
-ghost use lib.ListN.{length, getD, set};
-ghost use lib.Dec.{ltb};
+ghost use Prim.Native.Nat.{_<_, _^_};
+ghost use lib.ListN.{length};
 ghost use Rattle.termdag.specs.Store.{termsIn, Stored};
-ghost use Rattle.marks.specs.Marks.{zeros, markAll, closeAt, close};
+ghost use Rattle.marks.specs.Marks.{zeros, wordsFor, isMarked, withMark, markAll, closeAt, close};
+
+// The words that hold a mark for each of so many terms.
+pub fn words_for(terms: usize) -> usize
+    requires { ⌜ terms < 2 ^ 32 ⌝ }
+    ensures { λ r. ⌜ r ≡ wordsFor terms ⌝ }
+{
+    (terms + 31) / 32
+}
 
 // Takes every mark away.
 pub fn clear(marks: &mut [u32])
@@ -21,24 +28,24 @@ pub fn clear(marks: &mut [u32])
 
 // A term is marked; past the end none is.
 pub fn is_marked(marks: &[u32], t: u32) -> bool
-    ensures { λ r. ⌜ r ≡ ltb 0 (getD (now (marks .entry)) t 0) ⌝ }
+    ensures { λ r. ⌜ r ≡ isMarked (now (marks .entry)) t ⌝ }
 {
-    let i = wide(t);
+    let i = wide(t) / 32;
     if marks.len() <= i {
         return false;
     }
-    0 < marks[i]
+    0 < (marks[i] >> (t % 32)) % 2
 }
 
 // Marks a term; past the end there is nothing to mark.
 pub fn mark(marks: &mut [u32], t: u32)
-    ensures { λ _. ⌜ now (marks .exit) ≡ set (now (marks .entry)) t 1 ⌝ }
+    ensures { λ _. ⌜ now (marks .exit) ≡ withMark (now (marks .entry)) t ⌝ }
 {
-    let i = wide(t);
+    let i = wide(t) / 32;
     if marks.len() <= i {
         return;
     }
-    marks[i] = 1;
+    marks[i] = marks[i] | (1 << (t % 32));
 }
 
 // Marks each of these terms.
@@ -56,7 +63,7 @@ pub fn mark_all(marks: &mut [u32], xs: &[u32])
 fn close_at(kinds: &[u32], ends: &[u32], pool: &[u32], fill: Fill, i: usize, marks: &mut [u32])
     requires { ⌜ Stored (now kinds) (now ends) (now pool) fill ⌝ }
     requires { ⌜ i < fill .cells ⌝ }
-    ensures { λ _. ⌜ now (marks .exit) ≡ closeAt (termsIn (now (kinds .entry)) (now (ends .entry)) (now (pool .entry)) fill) i (now (marks .entry)) (ltb 0 (getD (now (marks .entry)) i 0)) ⌝ }
+    ensures { λ _. ⌜ now (marks .exit) ≡ closeAt (termsIn (now (kinds .entry)) (now (ends .entry)) (now (pool .entry)) fill) i (now (marks .entry)) (isMarked (now (marks .entry)) i) ⌝ }
 {
     if !is_marked(marks, i as u32) {
         return;

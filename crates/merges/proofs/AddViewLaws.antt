@@ -4,9 +4,9 @@ use mathlib.Core.Logic.{_⊎_, inl, inr}
 use mathlib.Core.Bool.{Bool, true, false, _||_}
 use mathlib.Core.List.{List, [], _∷_, _++_, List·Memᴰ, List·Memᴰ·head, List·Memᴰ·tail, List·Memᴰ·not-nil, List·Memᴰ·cases-cons}
 use mathlib.Core.Option.{some}
-use Prim.Native.Nat.{ℕ, zero, suc, _<_, _≤_}
+use Prim.Native.Nat.{ℕ, zero, suc, _*_, _<_, _≤_}
 use native.Mathlib.Omega.{arith}
-use lib.Dec.{eqb, ltb}
+use lib.Dec.{eqb}
 use lib.ListN.{length, getD, set, take}
 use borrow.Author.Tests.{eqb-true, eqb-false}
 use Rattle.model.specs.Term.{Term, app, getTerm, Below, Ordered}
@@ -24,7 +24,7 @@ use Rattle.outcome.specs.Does.{refusal, outcomeOf, Does}
 use Rattle.outcome.specs.declared.Refusal.{Refusal}
 use Rattle.outcome.specs.declared.Checked.{Checked}
 use Rattle.outcome.proofs.Laws.{ok-of, does-here, does-then, does-stop}
-use Rattle.marks.specs.Marks.{close}
+use Rattle.marks.specs.Marks.{isMarked, close}
 use Rattle.marks.specs.Covering.{Marks}
 use Rattle.marks.proofs.Marking.{marks-extends, marks-closed}
 use Rattle.termdag.proofs.Laws.{terms-length}
@@ -75,7 +75,7 @@ front-within n (y ∷ z ∷ zs) v b h x m = go (List·Memᴰ·cases-cons m) (fro
 
 -- what the marks m say of a claim
 abbrev covers : List Term → ℕ → List ℕ → Proposition → Bool
-covers s n m q = claimedBy (eqb (q .lhs) (q .rhs)) false (ltb 0 (getD (close s n m) (q .lhs) 0))
+covers s n m q = claimedBy (eqb (q .lhs) (q .rhs)) false (isMarked (close s n m) (q .lhs))
 
 -- the view of a merged value
 pub view-tested : (s₁ : List Term) (n : ℕ) (m : List ℕ) (p : ℕ) (q : Proposition) (view : ℕ) {covered : Bool} {r : Refusal} (s : List Term) → covered ≡ covers s₁ n m q
@@ -106,7 +106,7 @@ module _ (p : ℕ) (q : Proposition) (t head value : ℕ) (K E P I : List ℕ) (
     unfolding addView
     view-stops z = record { does = λ ps o v l h w. does-stop tt (claims ps) view z }
 
-    module _ (z : c .refusal .number ≡ 0) (ps : List Proposition) (o : Ordered s) (v : value < length s) (t-in : t < length s) (l : length K ≤ length m)
+    module _ (z : c .refusal .number ≡ 0) (ps : List Proposition) (o : Ordered s) (v : value < length s) (t-in : t < length s) (l : length K ≤ 32 * length m)
         (h : (q .lhs ≡ q .rhs → ⊥) → among q ps ≡ false) (w : eqb (q .lhs) (q .rhs) ≡ true → Marks s m ps) where
       became : Added (roomOf K P) (app head (front xs ++ (value ∷ []))) s (c .value) s₁
       became = post-result (added (roomOf K P) (app head (front xs ++ (value ∷ []))) s) (sym (view .outcome) ∙ ok-of (c .refusal) (c .value) s₁ z) .1
@@ -114,7 +114,7 @@ module _ (p : ℕ) (q : Proposition) (t head value : ℕ) (K E P I : List ℕ) (
       ordered : Ordered s₁
       ordered = became .ordered (front-within (length s) xs value (λ x k. let a = child-lower s o t x k in omega arith) v) o
 
-      claimed-is : (b : Bool) → eqb (q .lhs) (q .rhs) ≡ b → claimedBy b false (ltb 0 (getD (close s₁ (c .fill .cells) m) (q .lhs) 0)) ≡ among q ps
+      claimed-is : (b : Bool) → eqb (q .lhs) (q .rhs) ≡ b → claimedBy b false (isMarked (close s₁ (c .fill .cells) m) (q .lhs)) ≡ among q ps
       claimed-is false u = sym (h (eqb-false (q .lhs) (q .rhs) u))
       claimed-is true u =
           let i : q .lhs ≡ q .rhs = eqb-true (q .lhs) (q .rhs) u in

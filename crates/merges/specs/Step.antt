@@ -1,5 +1,5 @@
 -- The contracts of the merge step and of what it shares with other steps.
-use Prim.Native.Nat.{ℕ, _≤_, _<_}
+use Prim.Native.Nat.{ℕ, _*_, _≤_, _<_}
 use mathlib.Core.Path.{_≡_}
 use mathlib.Core.List.{List}
 use mathlib.Core.Bool.{Bool, true, false}
@@ -42,6 +42,6 @@ mergingOf v xs = record { head = v .head; inputs = xs; old = v .old; new = v .ne
 
 -- What the view of a merged value, added to the store, claims: for all pairs ps of the merge that the marks m stand for.
 pub record AddsView (p : ℕ) (q : Proposition) (t head value : ℕ) (k e pool ix : List ℕ) (f : Fill) (m k′ e′ pool′ ix′ : List ℕ) (r : Checked) : Type 0 where
-  pub does : (ps : List Proposition) → Ordered (termsIn k e pool f) → value < length (termsIn k e pool f) → length k ≤ length m
+  pub does : (ps : List Proposition) → Ordered (termsIn k e pool f) → value < length (termsIn k e pool f) → length k ≤ 32 * length m
       → ((q .lhs ≡ q .rhs → ⊥) → among q ps ≡ false) → (eqb (q .lhs) (q .rhs) ≡ true → Marks (termsIn k e pool f) m ps)
       → Does k e pool ix f k′ e′ pool′ ix′ (r .fill) (r .refusal) tt (addView (roomOf k pool) p q head (front (children (getTerm (termsIn k e pool f) t))) value ps (termsIn k e pool f))

@@ -15,7 +15,7 @@ ghost use mathlib.Core.Path.{_≡_};
 ghost use mathlib.Core.List.{List, [], _∷_};
 ghost use mathlib.Core.Bool.{false, _||_};
 ghost use Prim.Native.Nat.{_<_};
-ghost use lib.Dec.{eqb, ltb};
+ghost use lib.Dec.{eqb};
 ghost use lib.ListN.{length, getD, set};
 ghost use Rattle.model.specs.Term as terms;
 ghost use Rattle.model.specs.Check.{checkThat, addNode};
@@ -226,7 +226,7 @@ fn view_claimed(
     view: u32,
 ) -> Refusal
     requires { ⌜ Stored (now kinds) (now ends) (now pool) fill ⌝ }
-    ensures { λ r. ⌜ ((s : List terms.Term) → outcomeOf r tt s ≡ checkThat (sameProposition (propositionOf q) (evaluate.same view) || claimedBy (eqb (q .lhs) (q .rhs)) false (ltb 0 (getD (closing.close (termsIn (now (kinds .entry)) (now (ends .entry)) (now (pool .entry)) fill) (fill .cells) (now (marks .entry))) (q .lhs) 0))) 38 (p ∷ q .lhs ∷ q .rhs ∷ []) s) ⌝ }
+    ensures { λ r. ⌜ ((s : List terms.Term) → outcomeOf r tt s ≡ checkThat (sameProposition (propositionOf q) (evaluate.same view) || claimedBy (eqb (q .lhs) (q .rhs)) false (closing.isMarked (closing.close (termsIn (now (kinds .entry)) (now (ends .entry)) (now (pool .entry)) fill) (fill .cells) (now (marks .entry))) (q .lhs))) 38 (p ∷ q .lhs ∷ q .rhs ∷ []) s) ⌝ }
 {
     let marking = q.lhs == q.rhs;
     let covered = is_claimed(kinds, ends, pool, fill, marking, marks, false, q.lhs);

@@ -4,9 +4,11 @@ use native.Mathlib.Numerals.{add-one}
 use mathlib.Core.Path.{_≡_, refl, sym, ap, _∙_}
 use mathlib.Core.List.{List}
 use mathlib.Core.Bool.{Bool, true, false, not}
-use lib.ListN.{length, set, length-set}
+use lib.ListN.{length}
 use borrow.Author.Tests.{not-true, not-false}
 use Rattle.memo.specs.Memo.{valueAt, isNoted}
+use Rattle.marks.specs.Marks.{withMark}
+use Rattle.marks.proofs.Bits.{length-with}
 use Rattle.pairs.specs.Marking.{markIf, markValue, markValues}
 
 -- one expression, where b is the test whether it is noted
@@ -14,12 +16,12 @@ module _ (memo : List ℕ) (k : ℕ) (m : List ℕ) {b : Bool} (e : b ≡ isNote
   pub value-no : not b ≡ true → m ≡ markValue memo k m
   value-no n = rw (← e, not-true b n)
 
-  pub value-yes : {m′ : List ℕ} {t : ℕ} → not b ≡ false → t ≡ valueAt memo k → m′ ≡ set m t 1 → m′ ≡ markValue memo k m
+  pub value-yes : {m′ : List ℕ} {t : ℕ} → not b ≡ false → t ≡ valueAt memo k → m′ ≡ withMark m t → m′ ≡ markValue memo k m
   value-yes {m′} {t} n q r = r ∙ rw (← e, not-false b n, q)
 
 -- marks are as many as they were
 pub length-if : (b : Bool) (m : List ℕ) (t : ℕ) → length (markIf b m t) ≡ length m
-length-if true m t = length-set m t 1
+length-if true m t = length-with m t
 length-if false m t = refl
 
 pub length-values : (memo : List ℕ) (n : ℕ) (m : List ℕ) → length (markValues memo n m) ≡ length m

@@ -1,5 +1,5 @@
 -- What the marks of an evaluation's values stand for: its pairs.
-use Prim.Native.Nat.{ℕ, zero, suc, _<_, _≤_}
+use Prim.Native.Nat.{ℕ, zero, suc, _*_, _/_, _<_, _≤_}
 use native.Mathlib.Omega.{arith}
 use native.Mathlib.Nat.{not-suc-le-zero}
 use mathlib.Core.Path.{_≡_, refl, sym, subst, _∙_}
@@ -15,7 +15,7 @@ use Rattle.model.specs.Check.{ok, Check}
 use Rattle.model.specs.Evaluate.{same}
 use Rattle.memo.specs.Memo.{valueAt, isNoted}
 use Rattle.marks.specs.Covering.{Under, Marked, Covered}
-use Rattle.marks.proofs.Closing.{set-marked, set-keeps, set-cases}
+use Rattle.marks.proofs.Bits.{with-marked, with-keeps, with-cases}
 use Rattle.marks.proofs.Marking.{AddsMarks}
 use Rattle.evaluate.specs.Value.{Reaches}
 use Rattle.pairs.specs.Marking.{markIf, markValues}
@@ -30,7 +30,7 @@ pub record NotedValue (memo : List ℕ) (n t : ℕ) : Type 0 where
   pub is : t ≡ valueAt memo at
 
 if-keeps : (b : Bool) (m : List ℕ) (x t : ℕ) → Marked m t → Marked (markIf b m x) t
-if-keeps true m x t h = set-keeps m x t h
+if-keeps true m x t h = with-keeps m x t h
 if-keeps false m x t h = h
 
 module _ (memo m : List ℕ) where
@@ -39,15 +39,15 @@ module _ (memo m : List ℕ) where
   values-keep zero t h = h
   values-keep (suc k) t h = if-keeps (isNoted memo k) (markValues memo k m) (valueAt memo k) t (values-keep k t h)
 
-  pub values-mark : (n k : ℕ) → k < n → isNoted memo k ≡ true → valueAt memo k < length m → Marked (markValues memo n m) (valueAt memo k)
+  pub values-mark : (n k : ℕ) → k < n → isNoted memo k ≡ true → valueAt memo k / 32 < length m → Marked (markValues memo n m) (valueAt memo k)
   unfolding markValues
   values-mark zero k h b l = absurd (not-suc-le-zero h)
   values-mark (suc i) k h b l = go (eqb k i) refl (values-mark i k)
     where
       here : Marked (markIf (isNoted memo k) (markValues memo i m) (valueAt memo k)) (valueAt memo k)
-      here = rw b (set-marked (markValues memo i m) (valueAt memo k) (rw (length-values memo i m) l))
+      here = rw b (with-marked (markValues memo i m) (valueAt memo k) (rw (length-values memo i m) l))
 
-      go : (d : Bool) → eqb k i ≡ d → (k < i → isNoted memo k ≡ true → valueAt memo k < length m → Marked (markValues memo i m) (valueAt memo k))
+      go : (d : Bool) → eqb k i ≡ d → (k < i → isNoted memo k ≡ true → valueAt memo k / 32 < length m → Marked (markValues memo i m) (valueAt memo k))
           → Marked (markIf (isNoted memo i) (markValues memo i m) (valueAt memo i)) (valueAt memo k)
       go true e r = subst (λ (j : ℕ). Marked (markIf (isNoted memo j) (markValues memo i m) (valueAt memo j)) (valueAt memo k)) (eqb-true k i e) here
       go false e r = let ne : k ≡ i → ⊥ = eqb-false k i e in
@@ -69,7 +69,7 @@ module _ (memo m : List ℕ) where
 
       go : (b : Bool) → isNoted memo k ≡ b → Marked (markIf b (markValues memo k m) (valueAt memo k)) t → (Marked (markValues memo k m) t → NotedValue memo k t ⊎ Marked m t)
           → NotedValue memo (suc k) t ⊎ Marked m t
-      go true b h r = last b (set-cases (markValues memo k m) (valueAt memo k) t h) r
+      go true b h r = last b (with-cases (markValues memo k m) (valueAt memo k) t h) r
       go false b h r = more (r h)
 
 -- a memo in which just e and all below it are noted, of the first n expressions, with their values in this store
@@ -81,7 +81,7 @@ pub record NotedBelow (args : ℕ → List ℕ) (eval : ℕ → Check ℕ) (n e 
 
 module _ {args : ℕ → List ℕ} {eval : ℕ → Check ℕ} {n e : ℕ} {s : List Term} {memo : List ℕ} (w : NotedBelow args eval n e s memo) where
   -- once the values are marked, the marks stand for the pairs as well
-  pub values-adds : {m : List ℕ} {ps : List Proposition} → ((t : ℕ) → Marked m t → t < length s) → length s ≤ length m
+  pub values-adds : {m : List ℕ} {ps : List Proposition} → ((t : ℕ) → Marked m t → t < length s) → length s ≤ 32 * length m
       → ((x : ℕ) → List·Memᴰ (same x) ps ↔ Valued args eval s e x) → AddsMarks s m (markValues memo n m) ps
   values-adds {m} {ps} i l p = record {
     inside = λ t h. in-cases t (values-cases memo m n t h);

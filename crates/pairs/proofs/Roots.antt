@@ -1,5 +1,5 @@
 -- What the evaluation of an expression by itself gives its caller: the definition's value, and marks that stand for its pairs.
-use Prim.Native.Nat.{ℕ, _<_, _≤_}
+use Prim.Native.Nat.{ℕ, _*_, _<_, _≤_}
 use native.Mathlib.Omega.{arith}
 use mathlib.Core.Path.{_≡_, sym, ap, _∙_}
 use mathlib.Core.List.{List, List·Memᴰ}
@@ -95,6 +95,6 @@ module _ {J : List ℕ} (R : Ready J) (rule : ℕ) (σ : List Binding) {e : ℕ}
   }
 
   -- what marking the values does
-  pub root-adds : e < sizesOf J .expressions → {m m′ : List ℕ} → ((t : ℕ) → Marked m t → t < length after) → length after ≤ length m → m′ ≡ markValues memo (sizesOf J .expressions) m
+  pub root-adds : e < sizesOf J .expressions → {m m′ : List ℕ} → ((t : ℕ) → Marked m t → t < length after) → length after ≤ 32 * length m → m′ ≡ markValues memo (sizesOf J .expressions) m
       → AddsMarks after m m′ (root-evaluated .value .pairs)
   root-adds h i l q = rw q (values-adds (noted-below h) i l (pairs-values R room rule σ e sane (root-evaluated .is)))

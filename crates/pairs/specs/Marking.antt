@@ -2,12 +2,12 @@
 use Prim.Native.Nat.{ℕ, zero, suc}
 use mathlib.Core.List.{List}
 use mathlib.Core.Bool.{Bool, true, false}
-use lib.ListN.{set}
 use Rattle.memo.specs.Memo.{valueAt, isNoted}
+use Rattle.marks.specs.Marks.{withMark}
 
 -- The marks with term t marked, where the test passes.
 abbrev pub markIf : Bool → List ℕ → ℕ → List ℕ
-markIf true m t = set m t 1
+markIf true m t = withMark m t
 markIf false m t = m
 
 -- The marks with the value of expression k marked, if it is noted in the memo.

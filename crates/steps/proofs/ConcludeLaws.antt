@@ -34,6 +34,8 @@ use Rattle.actions.specs.Acting.{Standing}
 use Rattle.merges.specs.Merge.{mergeStep}
 use Rattle.merges.proofs.Keeping.{merge-keeps}
 use Rattle.steps.specs.Concluding.{congrStep, concludes}
+use Rattle.marks.specs.Marks.{wordsFor}
+use Rattle.marks.proofs.Bits.{words-hold, words-few}
 use Rattle.steps.specs.Step.{isPlain, PlainStep, SecondPart, Prepared, Concludes}
 use Rattle.steps.proofs.JobLaws.{first-long, claim-inside, second-long, part-same}
 use Rattle.steps.proofs.Keeping.{congr-keeps}
@@ -61,15 +63,15 @@ merge-as prog p q function {k = k} {e = e} {l = l} {ix = ix} {f = f} {k₁ = k�
     subst (Checks k e l ix f k₁ e₁ l₁ ix₁ f₁ r tt m) (ap₂ (λ (x y : program.Proposition). mergeStep (roomOf k l) prog p q function x y (termsIn k e l f)) g h) D
 
 -- what a merge may be handed
-pub merge-stands : {job : List ℕ} {k e l ix : List ℕ} {f : Fill} {memo W : List ℕ} → Prepared job k e l ix f memo W
-    → Standing job [] k e l ix f memo (take (length k + length k - length k) (drop (length k) W))
-merge-stands {k = k} {W = W} S = record {
+pub merge-stands : {job : List ℕ} {k e l ix : List ℕ} {f : Fill} {memo W : List ℕ} {n : ℕ} → n ≡ wordsFor (length k) → Prepared job k e l ix f memo W
+    → Standing job [] k e l ix f memo (take (length k + n - length k) (drop (length k) W))
+merge-stands {k = k} {W = W} {n = n} q S = record {
   ready = S .ready;
   indexed = S .indexed;
   sane = S .sane;
   fits = S .fits;
   past = S .past;
-  cells = let h = second-long (length k) W (S .long) in omega arith;
+  cells = rw (second-long (length k) n W (S .long) (words-few (length k) q)) (words-hold (length k) q);
 }
 
 -- the step of proof p

@@ -7,6 +7,7 @@ use Prim.Native.Nat.{ℕ, zero, suc, _+_, _-_, _<_, _≤_}
 use native.Mathlib.Omega.{arith}
 use lib.Dec.{leb, lit<}
 use lib.ListN.{length, getD, take, drop, length-drop, length-map}
+use lib.Seq.{drop-drop}
 use borrow.Rule.Slice.PartMut.{putMid, mid-len, take-put, drop-put}
 use Rattle.model.specs.Layout.{sizesOf}
 use Rattle.model.specs.Cell.{Cell, noCell}
@@ -79,15 +80,18 @@ reference-inside {Ws} {p} {j} {g} {x} J h e m q =
     let l = J .lower x (subst (λ (y : program.Justification). List·Memᴰ x (references y)) (ap (λ (y : Justification). justificationOf y (premisesFor Ws p) (pairsFor Ws p)) (sym e) ∙ J .is) m) in
     omega arith
 
--- the second part of the scratch
-module _ (c : ℕ) (W : List ℕ) (h : c + c ≤ length W) where
-  pub second-long : length (take (c + c - c) (drop c W)) ≡ c
-  second-long = mid-len c (c + c) W h ∙ (omega arith)
+-- the first n words of the second part of the scratch
+module _ (c n : ℕ) (W : List ℕ) (h : c + c ≤ length W) (l : n ≤ c) where
+  pub second-long : length (take (c + n - c) (drop c W)) ≡ n
+  second-long = mid-len c (c + n) W (omega arith) ∙ (omega arith)
 
-  pub second-part : (ys : List ℕ) → length ys ≡ length (take (c + c - c) (drop c W)) → SecondPart c W (putMid c (c + c - c) W ys)
-  second-part ys l = let m = second-long in record {
-    before = take-put c (c + c - c) W ys (omega arith);
-    behind = drop-put c (c + c) W ys (omega arith) h (omega arith);
+  past : (xs : List ℕ) → drop (c + c) xs ≡ drop (c - n) (drop (c + n) xs)
+  past xs = let e : c + c ≡ c + n + (c - n) = omega arith in ap (λ (i : ℕ). drop i xs) e ∙ sym (drop-drop (c - n) (c + n) xs)
+
+  pub second-part : (ys : List ℕ) → length ys ≡ length (take (c + n - c) (drop c W)) → SecondPart c W (putMid c (c + n - c) W ys)
+  second-part ys k = let m = second-long in record {
+    before = take-put c (c + n - c) W ys (omega arith);
+    behind = past (putMid c (c + n - c) W ys) ∙ ap (drop (c - n)) (drop-put c (c + n) W ys (omega arith) (omega arith) (omega arith)) ∙ sym (past W);
   }
 
 pub part-same : (c : ℕ) (W : List ℕ) → SecondPart c W W

@@ -5,6 +5,7 @@ use decode::Justification;
 use decode::Proposition;
 use decode::Term;
 use index::Fill;
+use marks::words_for;
 use merges::app_head;
 use merges::check_that;
 use merges::merge_step;
@@ -347,7 +348,7 @@ fn merge_at(
     let a = claim_at(job, wide(x));
     let b = claim_at(job, wide(y));
     let c = skinds.len();
-    let d = c + c;
+    let d = c + words_for(c);
     merge_step(
         job,
         skinds,

@@ -7,7 +7,7 @@ use native.Mathlib.Omega.{arith}
 use lib.Dec.{lit<}
 use lib.ListN.{length, getD, take, length-map}
 use lib.Seq.{getD-drop}
-use borrow.Rule.Slice.PartMut.{midOf, putMid, same-len-mid, take-put, drop-put, mid-len}
+use borrow.Rule.Slice.PartMut.{midOf, putMid, same-len-mid}
 use Rattle.model.specs.Layout.{sizesOf}
 use Rattle.model.specs.Cell.{noCell}
 use Rattle.model.specs.Term.{readTerm}
@@ -28,6 +28,7 @@ use Rattle.program.proofs.Laws.{table-long}
 use Rattle.program.proofs.Reading.{rule-for}
 use Rattle.evaluate.specs.Evaluation.{Sane}
 use Rattle.steps.specs.Step.{Prepared, Concludes}
+use Rattle.steps.proofs.JobLaws.{second-part}
 use Rattle.turns.specs.Walking.{Ground}
 
 -- the claim of the premise
@@ -65,18 +66,18 @@ sane-substitution S {J} {G = G} {k = k} {e = e} {q = q} {ix = ix} {f = f} g h = 
 pub numbers-of : (J : List ℕ) (r : ℕ) {xs : List ℕ} → xs ≡ ruleFacts (getD (tablesFor J .rules) r noCell) → map (factFor J) xs ≡ ruleFor J r .facts
 numbers-of J r e = ap (map (factFor J)) e ∙ ap (λ (t : Rule). t .facts) (sym (rule-for J r))
 
--- scratch after its second part was lent
-module _ (W X : List ℕ) (c : ℕ) (l : length X ≡ length (midOf c (c + c - c) W)) (h : c + c ≤ length W) where
-  pub part-long : length (putMid c (c + c - c) W X) ≡ length W
-  part-long = same-len-mid c (c + c - c) W X l
+-- scratch after words of its second part were lent
+module _ (W X : List ℕ) (c n : ℕ) (l : length X ≡ length (midOf c (c + n - c) W)) (h : c + c ≤ length W) (w : n ≤ c) where
+  pub part-long : length (putMid c (c + n - c) W X) ≡ length W
+  part-long = same-len-mid c (c + n - c) W X l
 
-  pub part-front : take c (putMid c (c + c - c) W X) ≡ take c W
-  part-front = take-put c (c + c - c) W X (omega arith)
+  pub part-front : take c (putMid c (c + n - c) W X) ≡ take c W
+  part-front = second-part c n W h w X l .before
 
-  pub part-back : (i : ℕ) → getD (putMid c (c + c - c) W X) (c + c + i) 0 ≡ getD W (c + c + i) 0
+  pub part-back : (i : ℕ) → getD (putMid c (c + n - c) W X) (c + c + i) 0 ≡ getD W (c + c + i) 0
   part-back i =
-      sym (getD-drop (c + c) (putMid c (c + c - c) W X) i 0)
-      ∙ ap (λ (xs : List ℕ). getD xs i 0) (drop-put c (c + c) W X (omega arith) h (l ∙ mid-len c (c + c) W h))
+      sym (getD-drop (c + c) (putMid c (c + n - c) W X) i 0)
+      ∙ ap (λ (xs : List ℕ). getD xs i 0) (second-part c n W h w X l .behind)
       ∙ getD-drop (c + c) W i 0
 
 -- what a step is handed

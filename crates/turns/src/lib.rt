@@ -7,6 +7,7 @@ use decode::Justification;
 use facts::check_fact_matches_proposition;
 use heads::check_rule_produces_equality;
 use index::Fill;
+use marks::words_for;
 use normal_form::assert_body_proof_normal_form;
 use normal_form::is_container_side_condition;
 use outcome::Checked;
@@ -362,7 +363,7 @@ fn advance_rule(
     if count <= i {
         let q = claim_at(job, wide(p));
         let c = skinds.len();
-        let d = c + c;
+        let d = c + words_for(c);
         return over(check_rule_produces_equality(
             job,
             bound,

@@ -1,10 +1,9 @@
-use lib.ListN.{getD}
-use lib.Dec.{ltb}
 use Prim.Native.Nat.{ℕ}
 use mathlib.Core.List.{List}
 use mathlib.Core.Path.{sym, ap, _∙_}
 use borrow.Author.Needs.{needs}
 use Rattle.termdag.specs.Store.{termsIn}
+use Rattle.marks.specs.Marks.{isMarked}
 use Rattle.marks.proofs.Marking.{closed-marked}
 use Rattle.heads.proofs.is_covered.Statement.{statement}
 use Rattle.heads.proofs.is_covered.Tie as tie
@@ -28,7 +27,7 @@ same-length-2 : tie.Need-same-length-2
 same-length-2 c = search needs
 
 returns-2 : tie.Need-returns-2
-returns-2 c = c .is-marked2 .ensures ∙ ap (λ (m : List ℕ). ltb 0 (getD m (c .before .before .before .before .before .before .before .before .before .before .before .before .before .args .t) 0)) (c .before .before .before .before .close .ensures)
+returns-2 c = c .is-marked2 .ensures ∙ ap (λ (m : List ℕ). isMarked m (c .before .before .before .before .before .before .before .before .before .before .before .before .before .args .t)) (c .before .before .before .before .close .ensures)
 
 pub is-covered-spec : {M : Type 1} → statement M
 is-covered-spec =

@@ -1,9 +1,7 @@
 use native.Mathlib.Omega.{arith}
+use Prim.Native.Nat.{_/_}
 use mathlib.Core.Path.{ap}
-use Prim.Native.Nat.{ℕ}
-use lib.ListN.{getD}
-use lib.Dec.{ltb}
-use Rattle.marks.proofs.Laws.{none-past}
+use Rattle.marks.proofs.Bits.{shift-lt, none-past, mark-read}
 use borrow.Author.Needs.{needs}
 use Rattle.marks.proofs.is_marked.Statement.{statement}
 use Rattle.marks.proofs.is_marked.Tie as tie
@@ -13,7 +11,7 @@ wide-requires c κs = search needs
 
 returns : tie.Need-returns
 returns c = let a = c .before .before .before .args in
-    none-past (a .marks .now) (a .t) (omega arith)
+    let e = c .before .wide .ensures in none-past (a .marks .now) (a .t) (omega arith)
 
 mul-result : tie.Need-mul-result
 mul-result c = search needs
@@ -21,9 +19,12 @@ mul-result c = search needs
 shared-slice-read-result : tie.Need-shared-slice-read-result
 shared-slice-read-result c = search needs
 
+shr-result : tie.Need-shr-result
+shr-result c = shift-lt (c .before .before .before .before .args .t)
+
 returns-2 : tie.Need-returns-2
 returns-2 c = let a = c .before .before .before .before .args in
-    ap (λ (k : ℕ). ltb 0 (getD (a .marks .now) k 0)) (c .before .before .wide .ensures)
+    mark-read (a .marks .now) (a .t) (c .before .before .wide .ensures)
 
 pub is-marked-spec : {M : Type 1} → statement M
 is-marked-spec =
@@ -33,4 +34,5 @@ is-marked-spec =
     returns
     mul-result
     shared-slice-read-result
+    shr-result
     returns-2)

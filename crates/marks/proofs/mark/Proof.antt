@@ -1,8 +1,5 @@
 use native.Mathlib.Omega.{arith}
-use mathlib.Core.Path.{sym, ap}
-use Prim.Native.Nat.{ℕ}
-use lib.ListN.{set}
-use lib.Seq.{set-out}
+use Rattle.marks.proofs.Bits.{shift-lt, same-past, mark-written}
 use borrow.Author.Needs.{needs}
 use Rattle.marks.proofs.mark.Statement.{statement}
 use Rattle.marks.proofs.mark.Tie as tie
@@ -12,10 +9,19 @@ wide-requires c κs = search needs
 
 returns : tie.Need-returns
 returns c = let a = c .before .before .before .args in
-    sym (set-out (a .marks .now) (a .t) 1 (omega arith))
+    let e = c .before .wide .ensures in same-past (a .marks .now) (a .t) (omega arith)
 
 mul-marks : tie.Need-mul-marks
 mul-marks c = search needs
+
+slice-read-marks : tie.Need-slice-read-marks
+slice-read-marks c = search needs
+
+shl-marks : tie.Need-shl-marks
+shl-marks c = shift-lt (c .before .before .before .before .args .t)
+
+mul-marks-2 : tie.Need-mul-marks-2
+mul-marks-2 c = search needs
 
 slice-write-marks : tie.Need-slice-write-marks
 slice-write-marks c = search needs
@@ -24,8 +30,8 @@ same-length : tie.Need-same-length
 same-length c = search needs
 
 returns-2 : tie.Need-returns-2
-returns-2 c = let a = c .before .before .before .args in
-    ap (λ (k : ℕ). set (a .marks .now) k 1) (c .before .wide .ensures)
+returns-2 c = let a = c .before .before .before .before .args in
+    mark-written (a .marks .now) (a .t) (c .before .before .wide .ensures)
 
 pub mark-spec : {M : Type 1} → statement M
 mark-spec =
@@ -34,6 +40,9 @@ mark-spec =
     wide-requires
     returns
     mul-marks
+    slice-read-marks
+    shl-marks
+    mul-marks-2
     slice-write-marks
     same-length
     returns-2)

@@ -3,8 +3,9 @@ use native.Mathlib.Omega.{arith}
 use mathlib.Core.Path.{_≡_, refl, sym, ap, _∙_}
 use mathlib.Core.List.{List}
 use Prim.Native.Nat.{ℕ, _+_, _-_, _≤_}
-use lib.ListN.{length, drop, length-set}
+use lib.ListN.{length, drop}
 use Rattle.marks.specs.Marks.{markAll}
+use Rattle.marks.proofs.Bits.{length-with}
 use Rattle.marks.proofs.Laws.{all-step, all-end}
 use Rattle.marks.proofs.mark_all.Statement.{statement}
 use Rattle.marks.proofs.mark_all.Tie as tie
@@ -39,7 +40,7 @@ loop-again c = let l = c .before .before .before .before .before .before .loop i
     let e = c .before .before .mark .ensures in (
       omega arith,
       l .inv .1 ∙ all-step xs (l .marks) (l .j) (omega arith) ∙ ap (λ (m : List ℕ). markAll (drop (l .j + 1) xs) m) (sym e),
-      ap length e ∙ simp length-set (l .inv .2),
+      ap length e ∙ length-with (l .marks) _ ∙ l .inv .2,
     )
 
 same-length : tie.Need-same-length Inv-loop μ-loop

@@ -2,10 +2,12 @@ use mathlib.Core.Path.{refl, sym, ap, _∙_}
 use mathlib.Core.List.{List}
 use Rattle.turns.proofs.Stages.{stage-head, stage-before, stage-after, sane-pairs, produces-pairs, fact-turn, facts-count, matches-pairs}
 use Rattle.turns.proofs.Planning.{reference-inside}
+use Rattle.marks.proofs.Bits.{words-hold, words-few}
+use Rattle.steps.proofs.JobLaws.{second-long}
 use Rattle.turns.proofs.Tying.{claim-by, part-long, part-front, part-back}
 use Rattle.program.specs.Read.{proofsFor, proofCell, premisesFor, pairsFor}
 use Rattle.program.specs.Ready.{programFor, ruleFor}
-use lib.ListN.{length, getD, length-take, length-drop}
+use lib.ListN.{length, getD}
 use native.Mathlib.Omega.{arith}
 use Prim.Native.Nat.{ℕ}
 use borrow.Author.Needs.{needs}
@@ -27,11 +29,14 @@ wide-requires-2 c κs = search needs
 claim-at-requires : tie.Need-claim-at-requires
 claim-at-requires c κs = let a = c .before .before .before .before .before .before .before .before .before .before .before .before .before .before .before .before .args in let pre = c .before .before .before .before .before .before .before .before .before .before .before .before .before .before .before .before .pre in let g = pre .0 in let S = pre .1 .1 .0 in let w = c .wide2 .ensures in let h = pre .1 .0 in (g .ready, omega arith)
 
+words-for-requires : tie.Need-words-for-requires
+words-for-requires c κs = c .before .before .before .before .before .before .before .before .before .before .before .before .before .before .before .before .before .pre .0 .indexed .stored .formed .few
+
 add-d : tie.Need-add-d
-add-d c = let k = c .before .before .before .before .before .before .before .before .before .before .before .before .before .before .before .before .before .pre .0 .indexed .stored .formed .few in omega arith
+add-d c = let k = c .before .before .before .before .before .before .before .before .before .before .before .before .before .before .before .before .before .before .pre .0 .indexed .stored .formed .few in omega arith
 
 mul-check-rule-produces-equality : tie.Need-mul-check-rule-produces-equality
-mul-check-rule-produces-equality c = let k = c .before .before .before .before .before .before .before .before .before .before .before .before .before .before .before .before .before .before .before .before .before .before .pre .0 .indexed .stored .formed .few in omega arith
+mul-check-rule-produces-equality c = let k = c .before .before .before .before .before .before .before .before .before .before .before .before .before .before .before .before .before .before .before .before .before .before .before .pre .0 .indexed .stored .formed .few in omega arith
 
 sub-check-rule-produces-equality : tie.Need-sub-check-rule-produces-equality
 sub-check-rule-produces-equality c = search needs
@@ -40,10 +45,10 @@ part-check-rule-produces-equality-start : tie.Need-part-check-rule-produces-equa
 part-check-rule-produces-equality-start c = search needs
 
 part-check-rule-produces-equality-end : tie.Need-part-check-rule-produces-equality-end
-part-check-rule-produces-equality-end c = let k = c .before .before .before .before .before .before .before .before .before .before .before .before .before .before .before .before .before .before .before .before .before .before .pre .0 .long in omega arith
+part-check-rule-produces-equality-end c = let k = c .before .before .before .before .before .before .before .before .before .before .before .before .before .before .before .before .before .before .before .before .before .before .before .pre .0 .long in omega arith
 
 check-rule-produces-equality-requires : tie.Need-check-rule-produces-equality-requires
-check-rule-produces-equality-requires c κs = let a = c .before .before .before .before .before .before .before .before .before .before .before .before .before .before .before .before .before .before .before .before .before .before .before .args in let pre = c .before .before .before .before .before .before .before .before .before .before .before .before .before .before .before .before .before .before .before .before .before .before .before .pre in let g = pre .0 in let S = pre .1 .1 .0 in (record { ready = g .ready; indexed = g .indexed; sane = sane-pairs (programFor (a .job .now)) (a .bound .now) (a .globals .now) (c .before .before .before .before .before .before .before .before .before .substitution-at .ensures .is ∙ ap (pairsFor (a .job .now)) (c .before .before .before .before .before .before .before .before .before .before .wide .ensures)) (pre .1 .1 .1 .0 refl); fits = g .fits; past = g .past; cells = let x = g .long in simp (length-take, length-drop) (omega arith) }, (pre .1 .1 .1 .1 .0, S .inside refl))
+check-rule-produces-equality-requires c κs = let a = c .before .before .before .before .before .before .before .before .before .before .before .before .before .before .before .before .before .before .before .before .before .before .before .before .args in let pre = c .before .before .before .before .before .before .before .before .before .before .before .before .before .before .before .before .before .before .before .before .before .before .before .before .pre in let g = pre .0 in let S = pre .1 .1 .0 in (record { ready = g .ready; indexed = g .indexed; sane = sane-pairs (programFor (a .job .now)) (a .bound .now) (a .globals .now) (c .before .before .before .before .before .before .before .before .before .before .substitution-at .ensures .is ∙ ap (pairsFor (a .job .now)) (c .before .before .before .before .before .before .before .before .before .before .before .wide .ensures)) (pre .1 .1 .1 .0 refl); fits = g .fits; past = g .past; cells = let x = g .long in rw (second-long (length (a .skinds .now)) (c .before .before .before .before .before .before .words-for .result) (a .scratch .now) (omega arith) (words-few (length (a .skinds .now)) (c .before .before .before .before .before .before .words-for .ensures))) (words-hold (length (a .skinds .now)) (c .before .before .before .before .before .before .words-for .ensures)) }, (pre .1 .1 .1 .1 .0, S .inside refl))
 
 over-requires : tie.Need-over-requires
 over-requires c κs = search needs
@@ -64,10 +69,10 @@ same-length-5 : tie.Need-same-length-5
 same-length-5 c = c .before .before .before .before .before .before .before .before .before .before .before .before .before .check-rule-produces-equality .kept .1 .1 .1 .1 .1 .1 .1 .1 .1 .0
 
 same-length-6 : tie.Need-same-length-6
-same-length-6 c = let a = c .before .before .before .before .before .before .before .before .before .before .before .before .before .before .before .before .before .before .before .before .before .before .before .before .before .before .before .before .before .before .before .before .before .before .before .before .before .args in let pre = c .before .before .before .before .before .before .before .before .before .before .before .before .before .before .before .before .before .before .before .before .before .before .before .before .before .before .before .before .before .before .before .before .before .before .before .before .before .pre in let g = pre .0 in let S = pre .1 .1 .0 in part-long (a .scratch .now) (c .before .before .before .before .before .before .before .before .before .before .before .before .before .check-rule-produces-equality .last .1 .1 .1 .1 .1 .1 .1 .1 .1 .1 .0) (length (a .skinds .now)) (c .before .before .before .before .before .before .before .before .before .before .before .before .before .check-rule-produces-equality .kept .1 .1 .1 .1 .1 .1 .1 .1 .1 .1 .0) (let h = g .long in omega arith)
+same-length-6 c = let a = c .before .before .before .before .before .before .before .before .before .before .before .before .before .before .before .before .before .before .before .before .before .before .before .before .before .before .before .before .before .before .before .before .before .before .before .before .before .before .args in let pre = c .before .before .before .before .before .before .before .before .before .before .before .before .before .before .before .before .before .before .before .before .before .before .before .before .before .before .before .before .before .before .before .before .before .before .before .before .before .before .pre in let g = pre .0 in let S = pre .1 .1 .0 in part-long (a .scratch .now) (c .before .before .before .before .before .before .before .before .before .before .before .before .before .check-rule-produces-equality .last .1 .1 .1 .1 .1 .1 .1 .1 .1 .1 .0) (length (a .skinds .now)) (c .before .before .before .before .before .before .before .before .before .before .before .before .before .before .before .before .before .before .before .before .words-for .result) (c .before .before .before .before .before .before .before .before .before .before .before .before .before .check-rule-produces-equality .kept .1 .1 .1 .1 .1 .1 .1 .1 .1 .1 .0) (let h = g .long in omega arith) (words-few (length (a .skinds .now)) (c .before .before .before .before .before .before .before .before .before .before .before .before .before .before .before .before .before .before .before .before .words-for .ensures))
 
 returns : tie.Need-returns
-returns c = let a = c .before .before .before .before .before .before .before .before .before .before .before .before .before .before .before .before .before .before .before .before .before .before .before .before .before .before .before .before .before .before .before .before .before .before .before .before .before .args in let pre = c .before .before .before .before .before .before .before .before .before .before .before .before .before .before .before .before .before .before .before .before .before .before .before .before .before .before .before .before .before .before .before .before .before .before .before .before .before .pre in let g = pre .0 in let S = pre .1 .1 .0 in stage-head (a .job .now) (a .strict) (a .found .now) (a .globals .now) (a .unions .now) (a .p) (a .r) (a .name) (a .second) (a .count) (a .bound .now) g S (pre .1 .1 .1 .0 refl) (c .before .before .before .before .before .before .before .before .before .before .before .before .before .before .before .before .before .before .before .before .before .before .if1 .taken) (c .before .before .before .before .before .before .before .before .before .before .before .before .before .check-rule-produces-equality .result) (produces-pairs (programFor (a .job .now)) (ruleFor (a .job .now) (a .r)) (a .bound .now) (a .globals .now) (c .before .before .before .before .before .before .before .before .before .before .before .before .before .before .before .before .before .before .before .before .before .before .before .substitution-at .ensures .is ∙ ap (pairsFor (a .job .now)) (c .before .before .before .before .before .before .before .before .before .before .before .before .before .before .before .before .before .before .before .before .before .before .before .before .wide .ensures)) (claim-by (proofsFor (a .job .now)) (c .before .before .before .before .before .before .before .before .before .before .before .before .before .before .before .before .before .before .before .before .claim-at .ensures .is) (c .before .before .before .before .before .before .before .before .before .before .before .before .before .before .before .before .before .before .before .before .before .wide2 .ensures)) (c .before .before .before .before .before .before .before .before .before .before .before .before .before .check-rule-produces-equality .ensures)) (c .before .before .before .before .before .before .before .before .before .before .before .before .before .check-rule-produces-equality .kept .1 .1 .1 .1 .1 .1 .1 .1 .1 .0) (part-long (a .scratch .now) (c .before .before .before .before .before .before .before .before .before .before .before .before .before .check-rule-produces-equality .last .1 .1 .1 .1 .1 .1 .1 .1 .1 .1 .0) (length (a .skinds .now)) (c .before .before .before .before .before .before .before .before .before .before .before .before .before .check-rule-produces-equality .kept .1 .1 .1 .1 .1 .1 .1 .1 .1 .1 .0) (let h = g .long in omega arith)) (part-front (a .scratch .now) (c .before .before .before .before .before .before .before .before .before .before .before .before .before .check-rule-produces-equality .last .1 .1 .1 .1 .1 .1 .1 .1 .1 .1 .0) (length (a .skinds .now)) (c .before .before .before .before .before .before .before .before .before .before .before .before .before .check-rule-produces-equality .kept .1 .1 .1 .1 .1 .1 .1 .1 .1 .1 .0) (let h = g .long in omega arith)) (part-back (a .scratch .now) (c .before .before .before .before .before .before .before .before .before .before .before .before .before .check-rule-produces-equality .last .1 .1 .1 .1 .1 .1 .1 .1 .1 .1 .0) (length (a .skinds .now)) (c .before .before .before .before .before .before .before .before .before .before .before .before .before .check-rule-produces-equality .kept .1 .1 .1 .1 .1 .1 .1 .1 .1 .1 .0) (let h = g .long in omega arith)) (c .over .ensures)
+returns c = let a = c .before .before .before .before .before .before .before .before .before .before .before .before .before .before .before .before .before .before .before .before .before .before .before .before .before .before .before .before .before .before .before .before .before .before .before .before .before .before .args in let pre = c .before .before .before .before .before .before .before .before .before .before .before .before .before .before .before .before .before .before .before .before .before .before .before .before .before .before .before .before .before .before .before .before .before .before .before .before .before .before .pre in let g = pre .0 in let S = pre .1 .1 .0 in stage-head (a .job .now) (a .strict) (a .found .now) (a .globals .now) (a .unions .now) (a .p) (a .r) (a .name) (a .second) (a .count) (a .bound .now) g S (pre .1 .1 .1 .0 refl) (c .before .before .before .before .before .before .before .before .before .before .before .before .before .before .before .before .before .before .before .before .before .before .before .if1 .taken) (c .before .before .before .before .before .before .before .before .before .before .before .before .before .check-rule-produces-equality .result) (produces-pairs (programFor (a .job .now)) (ruleFor (a .job .now) (a .r)) (a .bound .now) (a .globals .now) (c .before .before .before .before .before .before .before .before .before .before .before .before .before .before .before .before .before .before .before .before .before .before .before .before .substitution-at .ensures .is ∙ ap (pairsFor (a .job .now)) (c .before .before .before .before .before .before .before .before .before .before .before .before .before .before .before .before .before .before .before .before .before .before .before .before .before .wide .ensures)) (claim-by (proofsFor (a .job .now)) (c .before .before .before .before .before .before .before .before .before .before .before .before .before .before .before .before .before .before .before .before .before .claim-at .ensures .is) (c .before .before .before .before .before .before .before .before .before .before .before .before .before .before .before .before .before .before .before .before .before .before .wide2 .ensures)) (c .before .before .before .before .before .before .before .before .before .before .before .before .before .check-rule-produces-equality .ensures)) (c .before .before .before .before .before .before .before .before .before .before .before .before .before .check-rule-produces-equality .kept .1 .1 .1 .1 .1 .1 .1 .1 .1 .0) (part-long (a .scratch .now) (c .before .before .before .before .before .before .before .before .before .before .before .before .before .check-rule-produces-equality .last .1 .1 .1 .1 .1 .1 .1 .1 .1 .1 .0) (length (a .skinds .now)) (c .before .before .before .before .before .before .before .before .before .before .before .before .before .before .before .before .before .before .before .before .words-for .result) (c .before .before .before .before .before .before .before .before .before .before .before .before .before .check-rule-produces-equality .kept .1 .1 .1 .1 .1 .1 .1 .1 .1 .1 .0) (let h = g .long in omega arith) (words-few (length (a .skinds .now)) (c .before .before .before .before .before .before .before .before .before .before .before .before .before .before .before .before .before .before .before .before .words-for .ensures))) (part-front (a .scratch .now) (c .before .before .before .before .before .before .before .before .before .before .before .before .before .check-rule-produces-equality .last .1 .1 .1 .1 .1 .1 .1 .1 .1 .1 .0) (length (a .skinds .now)) (c .before .before .before .before .before .before .before .before .before .before .before .before .before .before .before .before .before .before .before .before .words-for .result) (c .before .before .before .before .before .before .before .before .before .before .before .before .before .check-rule-produces-equality .kept .1 .1 .1 .1 .1 .1 .1 .1 .1 .1 .0) (let h = g .long in omega arith) (words-few (length (a .skinds .now)) (c .before .before .before .before .before .before .before .before .before .before .before .before .before .before .before .before .before .before .before .before .words-for .ensures))) (part-back (a .scratch .now) (c .before .before .before .before .before .before .before .before .before .before .before .before .before .check-rule-produces-equality .last .1 .1 .1 .1 .1 .1 .1 .1 .1 .1 .0) (length (a .skinds .now)) (c .before .before .before .before .before .before .before .before .before .before .before .before .before .before .before .before .before .before .before .before .words-for .result) (c .before .before .before .before .before .before .before .before .before .before .before .before .before .check-rule-produces-equality .kept .1 .1 .1 .1 .1 .1 .1 .1 .1 .1 .0) (let h = g .long in omega arith) (words-few (length (a .skinds .now)) (c .before .before .before .before .before .before .before .before .before .before .before .before .before .before .before .before .before .before .before .before .words-for .ensures))) (c .over .ensures)
 
 mul-before-premise : tie.Need-mul-before-premise
 mul-before-premise c = let a = c .before .before .before .before .before .before .before .before .before .before .before .before .before .before .before .before .before .before .before .before .before .args in let pre = c .before .before .before .before .before .before .before .before .before .before .before .before .before .before .before .before .before .before .before .before .before .pre in let g = pre .0 in let S = pre .1 .1 .0 in let x = c .before .before .before .before .before .before .if1 .left in let f = S .few in omega arith
@@ -153,6 +158,7 @@ advance-rule-spec =
     substitution-at-requires
     wide-requires-2
     claim-at-requires
+    words-for-requires
     add-d
     mul-check-rule-produces-equality
     sub-check-rule-produces-equality

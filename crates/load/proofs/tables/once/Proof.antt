@@ -1,4 +1,4 @@
-use Rattle.load.proofs.TableLaws.{place-inside, first-in, known-first, once-other}
+use Rattle.load.proofs.TableLaws.{place-inside, first-in, known-once, once-other}
 use native.Mathlib.Omega.{arith}
 use mathlib.Core.Path.{ap, _∙_}
 use Rattle.load.specs.Held.{sizesIn, tablesFor, cellHeld, alikeBy}
@@ -18,11 +18,7 @@ returns : tie.Need-returns
 returns c = rw (c .before .if1 .taken) (c .proof-once .ensures ∙ ap (λ (x : Cell). bindsOnce (substitution (readProof x .justification))) (c .before .before .before .before .before .before .pre .1 .1 .0))
 
 returns-2 : tie.Need-returns-2
-returns-2 c = let s = c .before .before .before .before .before .before .before in
-    let a = s .args in
-    let e = c .before .if2 .taken in
-    let g = known-first (s .pre .1 .1 .1) (a .table) (a .first) (a .i) e (s .pre .1 .0 .first) (c .if3 .taken) ∙ first-in (sizesIn (a .z)) (cellsOf (a .kinds .now) (a .ends .now) (a .pool .now) (cellCount (sizesIn (a .z)))) (alikeBy (a .table)) (a .table) (a .first) (a .i) (s .pre .1 .0 .table) (s .pre .1 .0 .first) (s .pre .1 .0 .inside) in
-    rw e (rw e at g)
+returns-2 c = let s = c .before .before .before .before .before .before .before in known-once (s .pre .1 .1 .1) (s .args .table) (s .args .first) (s .args .i) (c .before .if2 .taken) (s .pre .1 .0 .first) (c .if3 .taken)
 
 is-first-requires : tie.Need-is-first-requires
 is-first-requires c κs = let s = c .before .before .before .before .before .before .before in (s .pre .0, omega (arith, place-inside (sizesIn (s .args .z)) (s .args .table) (s .args .i) (s .pre .1 .0 .table) (s .pre .1 .0 .inside), s .pre .1 .0 .first))
