@@ -25,7 +25,7 @@ use Rattle.outcome.specs.Does.{Does}
 use Rattle.outcome.specs.declared.Refusal.{Refusal}
 use Rattle.outcome.proofs.Laws.{does-then, does-stop, does-map}
 use Rattle.marks.specs.Marks.{zeros}
-use Rattle.marks.proofs.Closing.{zeros-at}
+use Rattle.marks.proofs.Bits.{zeros-word}
 use Rattle.program.specs.Ready.{programFor}
 use Rattle.program.specs.Read.{proofsFor}
 use Rattle.program.proofs.Proving.{proofs-long}
@@ -49,7 +49,7 @@ flags-none W c n m h = record { is = λ p l. ap (ltb 0) (word p) }
         ∙ ap (λ (x : List ℕ). zeros m ++ x) none ∙ append-nil (zeros m)
 
     word : (p : ℕ) → getD (putMid (c + c) (length W - (c + c)) W (zeros m)) (c + c + p) 0 ≡ 0
-    word p = sym (getD-drop (c + c) (putMid (c + c) (length W - (c + c)) W (zeros m)) p 0) ∙ ap (λ (x : List ℕ). getD x p 0) behind ∙ zeros-at m p
+    word p = sym (getD-drop (c + c) (putMid (c + c) (length W - (c + c)) W (zeros m)) p 0) ∙ ap (λ (x : List ℕ). getD x p 0) behind ∙ zeros-word m p
 
 -- so no height is noted
 pub heights-none : {J : List ℕ} {c : ℕ} {W : List ℕ} → Flags c W (sizesOf J .proofs) [] → Heights J c W
@@ -111,7 +111,7 @@ module _ {J : List ℕ} {k e p ix : List ℕ} {f : Fill} {W : List ℕ} (g : Giv
 
 -- a memo that is cleared
 pub past-cleared : (n : ℕ) → Past (zeros n)
-past-cleared n = record { each = λ k. let a = zeros-at n (k + k + 1) in let b = zeros-at n 0 in omega arith }
+past-cleared n = record { each = λ k. let a = zeros-word n (k + k + 1) in let b = zeros-word n 0 in omega arith }
 
 -- scratch at the walk's start: the marks of the global pairs, and no proof checked
 module _ (W M Z : List ℕ) (c l : ℕ) (lM : length M ≡ c) (h : c + c ≤ length (M ++ drop c W)) (q : l ≡ c) where

@@ -7,14 +7,10 @@ use lib.Seq.{getD-drop}
 use Rattle.cells.specs.Table.{put}
 use Rattle.model.specs.Layout.{sizesOf}
 use Rattle.model.specs.Host.{wordsOf, hostAnswer, hostEntry, programAnswer}
+use Rattle.marks.proofs.Bits.{zeros-word}
 use Rattle.host.proofs.Laws.{too-long, entry-answer}
 
 -- zeros behind a list are what is read past it
-zeros-at : (n i : ℕ) → getD (replicate {A = ℕ} n 0) i 0 ≡ 0
-zeros-at zero i = refl
-zeros-at (suc n) zero = refl
-zeros-at (suc n) (suc i) = zeros-at n i
-
 zeros-behind : (ws zs : List ℕ) → ((i : ℕ) → getD zs i 0 ≡ 0) → (i : ℕ) → getD (ws ++ zs) i 0 ≡ getD ws i 0
 zeros-behind [] zs z i = z i
 zeros-behind (w ∷ ws) zs z zero = refl
@@ -26,7 +22,7 @@ unfolding put sizesOf
 proofs-word n bytes q =
     let m = 0 + length (wordsOf bytes) in
     ap (λ (l : List ℕ). getD l 10 0) q
-    ∙ zeros-behind (wordsOf bytes) (drop m (replicate n 0)) (λ i. getD-drop m (replicate n 0) i 0 ∙ zeros-at n (m + i)) 10
+    ∙ zeros-behind (wordsOf bytes) (drop m (replicate n 0)) (λ i. getD-drop m (replicate n 0) i 0 ∙ zeros-word n (m + i)) 10
 
 -- the answer for the last proof, and, where the bytes are too many, for any
 pub last-answer : {x p : ℕ} {A₁ : List ℕ} (bytes A : List ℕ) → length A ≡ 8 → p ≡ sizesOf (wordsOf bytes) .proofs - 1 → record { number = x; answer = A₁ } ≡ hostEntry bytes p A → A₁ ≡ programAnswer bytes

@@ -95,7 +95,7 @@ mark-written m t {w} e =
     ∙ ap (λ (i : ℕ). set m (i / 32) (bitOr (getD m (i / 32) 0) (2 ^ (t % 32)))) e
 
 -- without a mark
-zeros-word : (n i : ℕ) → getD (zeros n) i 0 ≡ 0
+pub zeros-word : (n i : ℕ) → getD (zeros n) i 0 ≡ 0
 zeros-word zero i = refl
 zeros-word (suc n) zero = refl
 zeros-word (suc n) (suc i) = zeros-word n i

@@ -1,22 +1,18 @@
--- Copying the first cells of a table into lent arrays, cell by cell.
-use mathlib.Core.Path.{_≡_, refl, sym, ap, ap₂, subst, _∙_}
+-- Copying the first cells of a table to the front of lent arrays.
+use mathlib.Core.Path.{_≡_, refl, sym, ap, subst, _∙_}
 use mathlib.Core.Logic.{⊎-elim}
-use mathlib.Core.Bool.{true}
-use mathlib.Core.List.{List, [], _∷_, _++_, map}
+use mathlib.Core.List.{List, map}
 use Prim.Native.Nat.{ℕ, zero, suc, _+_, _-_, _≤_, _<_}
 use native.Mathlib.Nat.{le-of-suc-le-suc, not-suc-le-zero, le-trans, eq-or-lt-of-le}
 use native.Mathlib.Omega.{arith}
-use lib.ListN.{length, getD, drop}
-use lib.Seq.{drop-drop}
-use borrow.Author.Tests.{lt-ltb, le-leb}
-use Rattle.model.specs.Cell.{Cell, noCell, tabulate, startOf, cellAt, cellsOf}
+use lib.ListN.{length, getD, take, drop}
+use lib.Seq.{drop-drop, getD-take, take-take, take-at, length-take-le}
+use Rattle.model.specs.Cell.{Cell, startOf, wordsAt, cellAt, cellsOf}
 use Rattle.model.specs.Term.{cellOf, readTerm}
-use Rattle.cells.specs.Table.{Formed, Once, total, tableOf, hasRoom, appendCell, Ran}
+use Rattle.cells.specs.Table.{Formed, Once, put}
 use Rattle.cells.specs.declared.Fill.{Fill}
-use Rattle.cells.specs.declared.Added.{Added}
-use Rattle.cells.proofs.Laws.{cells-length, words-length, tabulate-more, cell-words, rising, within}
-use Rattle.cells.proofs.Appending.{held-total}
-use Rattle.decode.specs.View.{cell}
+use Rattle.cells.proofs.Laws.{tabulate-ext}
+use Rattle.cells.proofs.Appending.{part-ends, put-length, put-after}
 use Rattle.termdag.specs.Store.{termsIn, Loadable, Loaded}
 
 -- what is equal from m on is equal from n on
@@ -52,100 +48,75 @@ module _ {K E P : List ℕ} {f : Fill} (F : Formed K E P f) where
         below = λ i l. start-rises (suc i) n l h;
       }
 
--- the cells copied so far
-pub record Copied (JK JE JP : List ℕ) (i : ℕ) (K₀ E₀ P₀ K E P : List ℕ) (f : Fill) : Type 0 where
-  pub count : f .cells ≡ i
-  pub formed : Formed K E P f
-  pub cells : cellsOf K E P (f .cells) ≡ cellsOf JK JE JP i
-  pub lenK : length K ≡ length K₀
-  pub lenE : length E ≡ length E₀
-  pub lenP : length P ≡ length P₀
-  pub kinds : drop (f .cells) K ≡ drop (f .cells) K₀
-  pub ends : drop (f .cells) E ≡ drop (f .cells) E₀
-  pub pool : drop (f .words) P ≡ drop (f .words) P₀
+-- the words of the cells to load lie in the pool
+pub words-inside : {JK JE JP : List ℕ} {f : Fill} {n : ℕ} {K E P : List ℕ} → Loadable JK JE JP f n K E P → startOf JE n ≤ length JP
+words-inside {n = n} L = first (L .formed) n (L .within) .pool
 
-module _ {JK JE JP : List ℕ} {jf : Fill} {n : ℕ} {K₀ E₀ P₀ : List ℕ} (L : Loadable JK JE JP jf n K₀ E₀ P₀) where
-  pub copied-none : Copied JK JE JP 0 K₀ E₀ P₀ K₀ E₀ P₀ (record { cells = 0; words = 0 })
-  unfolding cellsOf tabulate startOf
-  copied-none = record {
-    count = refl;
-    formed = record {
-      kinds = omega arith;
-      even = L .even;
-      pool = omega arith;
-      small = L .small;
-      few = L .few;
-      top = refl;
-      rises = λ i l. absurd (not-suc-le-zero l);
-      below = λ i l. absurd (not-suc-le-zero l);
-    };
-    cells = refl;
-    lenK = refl;
-    lenE = refl;
-    lenP = refl;
-    kinds = refl;
-    ends = refl;
-    pool = refl;
+-- a is d with the first m words of s at its front
+pub record Front (m : ℕ) (s d a : List ℕ) : Type 0 where
+  pub same : take m a ≡ take m s
+  pub after : drop m a ≡ drop m d
+  pub len : length a ≡ length d
+
+pub front : {m : ℕ} {s d a : List ℕ} → a ≡ put d 0 (take m s) → m ≤ length s → m ≤ length d → Front m s d a
+unfolding put
+front {m} {s} {d} q h l =
+    let n : length (take m s) ≡ m = length-take-le m s h in
+    let fits : 0 + length (take m s) ≤ length d = omega arith in
+    let e : 0 + length (take m s) ≡ m = omega arith in
+    rw q (record {
+      same = take-at (take m s) _ m n;
+      after = subst (λ (k : ℕ). drop k (put d 0 (take m s)) ≡ drop k d) e (put-after d 0 (take m s) fits);
+      len = put-length d 0 (take m s) fits;
+    })
+
+module _ {m : ℕ} {s d a : List ℕ} (F : Front m s d a) where
+  word-same : (i : ℕ) → i < m → getD a i 0 ≡ getD s i 0
+  word-same i h = sym (getD-take m a i 0 h) ∙ ap (λ (l : List ℕ). getD l i 0) (F .same) ∙ getD-take m s i 0 h
+
+  start-same : (i : ℕ) → i ≤ m → startOf a i ≡ startOf s i
+  unfolding startOf
+  start-same zero h = refl
+  start-same (suc i) h = word-same i h
+
+  part-same : (i e : ℕ) → e ≤ m → take (e - i) (drop i a) ≡ take (e - i) (drop i s)
+  part-same i e h = rw (part-ends i e a, part-ends i e s) (ap (drop i) (sym (take-take e m a h) ∙ ap (take e) (F .same) ∙ take-take e m s h))
+
+-- the first n kinds and ends, and the words of those cells
+module _ {JK JE JP : List ℕ} {jf : Fill} {n w : ℕ} {K E P K′ E′ P′ : List ℕ} (L : Loadable JK JE JP jf n K E P) (q : w ≡ startOf JE n) (k : Front n JK K K′) (e : Front n JE E E′) (p : Front w JP P P′) where
+  below-words : (i : ℕ) → i < n → getD JE i 0 ≤ w
+  below-words i h = rw q (first (L .formed) n (L .within) .below i h)
+
+  cell-same : (i : ℕ) → i < n → cellAt K′ E′ P′ i ≡ cellAt JK JE JP i
+  unfolding wordsAt
+  cell-same i h = rw (word-same k i h, word-same e i h, start-same e i (omega arith), part-same p (startOf JE i) (getD JE i 0) (below-words i h))
+
+  formed : Formed K′ E′ P′ (record { cells = n; words = w })
+  formed = record {
+    kinds = omega (arith, k .len, L .cells);
+    even = e .len ∙ L .even ∙ sym (k .len);
+    pool = omega (arith, p .len, L .words);
+    small = rw (p .len) (L .small);
+    few = rw (k .len) (L .few);
+    top = start-same e n (omega arith) ∙ sym q;
+    rises = λ i h. rw (start-same e i (omega arith), word-same e i h) (L .formed .rises i (omega (arith, L .within)));
+    below = λ i h. rw (word-same e i h) (below-words i h);
   }
 
-  module _ {i : ℕ} {K E P : List ℕ} {f : Fill} (C : Copied JK JE JP i K₀ E₀ P₀ K E P f) where
-    -- the words of the first i cells
-    copied-words : i ≤ n → f .words ≡ startOf JE i
-    copied-words h = sym (held-total (C .formed)) ∙ ap total (C .cells) ∙ held-total (first (L .formed) i (omega (arith, L .within)))
-
-    pub loaded : i ≡ n → (x : ℕ) → Loaded JK JE JP n x K₀ E₀ P₀ K E P (record { cells = f .cells; words = f .words; multiplier = x })
-    unfolding termsIn
-    loaded e x =
-        let s : cellsOf K E P (f .cells) ≡ cellsOf JK JE JP n = C .cells ∙ ap (cellsOf JK JE JP) e in
-        record {
-          cells = C .count ∙ e;
-          words = copied-words (omega arith) ∙ ap (startOf JE) e;
-          multiplier = refl;
-          stored = record { formed = C .formed; once = subst Once (sym s) (L .once); terms = ap (λ (cs : List Cell). map cellOf (map readTerm cs)) s ∙ L .terms ∙ sym s };
-          terms = ap (map readTerm) s;
-          lenK = C .lenK;
-          lenE = C .lenE;
-          lenP = C .lenP;
-          kinds = C .kinds;
-          ends = C .ends;
-          pool = C .pool;
-        }
-
-    -- one more cell, whose words are ws
-    module _ (h : i < n) (ws : List ℕ) (e : ws ≡ getD (cellsOf JK JE JP (jf .cells)) i noCell .words) where
-      below-cells : i < jf .cells
-      below-cells = omega (arith, L .within)
-
-      next : cell (getD JK i 0) ws ≡ cellAt JK JE JP i
-      next = λ j. record { kind = getD JK i 0; words = (e ∙ cell-words (L .formed) i below-cells) j }
-
-      next-length : startOf JE i + length ws ≡ getD JE i 0
-      next-length =
-          let F = L .formed in
-          let l = words-length JE JP i (rising F i below-cells) (within F i below-cells) in
-          omega (arith, ap (λ (c : Cell). length (c .words)) next, l, rising F i below-cells)
-
-      room : hasRoom (tableOf K E P f) (cell (getD JK i 0) ws) ≡ true
-      unfolding startOf
-      room =
-          let w : startOf JE (suc i) ≤ startOf JE n = start-rises (L .formed) (suc i) n h (L .within) in
-          let a : f .cells < length K = omega (arith, L .cells) in
-          let b : f .words + length ws ≤ length P = omega (arith, copied-words (omega arith), next-length, L .words) in
-          rw (cells-length K E P (f .cells), held-total (C .formed), lt-ltb (f .cells) (length K) a, le-leb (f .words + length ws) (length P) b)
-
-      more-cells : {K′ E′ P′ : List ℕ} {a : Added} → Ran K E P f K′ E′ P′ a (appendCell (cell (getD JK i 0) ws) (tableOf K E P f)) → cellsOf K′ E′ P′ (a .fill .cells) ≡ cellsOf JK JE JP (i + 1)
-      unfolding appendCell cellsOf
-      more-cells R = (rw (room, appendCell) at (R .cells)) ∙ ap₂ (λ (cs : List Cell) (c : Cell). cs ++ (c ∷ [])) (C .cells) next ∙ sym (tabulate-more i (cellAt JK JE JP))
-
-      pub copied-more : {K′ E′ P′ : List ℕ} {a : Added} → Ran K E P f K′ E′ P′ a (appendCell (cell (getD JK i 0) ws) (tableOf K E P f)) → Copied JK JE JP (i + 1) K₀ E₀ P₀ K′ E′ P′ (a .fill)
-      copied-more {K′} {E′} {P′} {a} R = record {
-        count = sym (cells-length K′ E′ P′ (a .fill .cells)) ∙ ap length (more-cells R) ∙ cells-length JK JE JP (i + 1);
-        formed = R .formed;
-        cells = more-cells R;
-        lenK = R .lenK ∙ C .lenK;
-        lenE = R .lenE ∙ C .lenE;
-        lenP = R .lenP ∙ C .lenP;
-        kinds = R .kinds ∙ drop-later (f .cells) (a .fill .cells) K K₀ (R .moreCells) (C .kinds);
-        ends = R .ends ∙ drop-later (f .cells) (a .fill .cells) E E₀ (R .moreCells) (C .ends);
-        pool = R .pool ∙ drop-later (f .words) (a .fill .words) P P₀ (R .moreWords) (C .pool);
+  pub loaded : (x : ℕ) → Loaded JK JE JP n x K E P K′ E′ P′ (record { cells = n; words = w; multiplier = x })
+  unfolding termsIn cellsOf
+  loaded x =
+      let s : cellsOf K′ E′ P′ n ≡ cellsOf JK JE JP n = tabulate-ext n (cellAt K′ E′ P′) (cellAt JK JE JP) cell-same in
+      record {
+        cells = refl;
+        words = q;
+        multiplier = refl;
+        stored = record { formed = formed; once = subst Once (sym s) (L .once); terms = ap (λ (cs : List Cell). map cellOf (map readTerm cs)) s ∙ L .terms ∙ sym s };
+        terms = ap (map readTerm) s;
+        lenK = k .len;
+        lenE = e .len;
+        lenP = p .len;
+        kinds = k .after;
+        ends = e .after;
+        pool = p .after;
       }

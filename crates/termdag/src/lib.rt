@@ -93,17 +93,13 @@ pub fn load_terms(
     requires { ⌜ Loadable (now jkinds) (now jends) (now jpool) jfill terms (now kinds) (now ends) (now pool) ⌝ }
     ensures { λ r. ⌜ Loaded (now (jkinds .entry)) (now (jends .entry)) (now (jpool .entry)) terms multiplier (now (kinds .entry)) (now (ends .entry)) (now (pool .entry)) (now (kinds .exit)) (now (ends .exit)) (now (pool .exit)) r ⌝ }
 {
-    let mut fill = cells::Fill { cells: 0, words: 0 };
-    let mut i = 0;
-    while i < terms {
-        let ws = cells::words(jkinds, jends, jpool, jfill, i);
-        let added = cells::append(kinds, ends, pool, fill, jkinds[i], ws);
-        fill = added.fill;
-        i += 1;
-    }
+    let words = cells::start(jends, terms);
+    cells::copy(kinds, 0, &jkinds[..terms]);
+    cells::copy(ends, 0, &jends[..terms]);
+    cells::copy(pool, 0, &jpool[..words]);
     Fill {
-        cells: fill.cells,
-        words: fill.words,
+        cells: terms,
+        words,
         multiplier,
     }
 }

@@ -1,68 +1,59 @@
 use native.Mathlib.Omega.{arith}
 use borrow.Author.Needs.{needs}
-use Prim.Native.Nat.{_-_, _≤_}
-use Rattle.termdag.proofs.Loading.{Copied, copied-none, copied-more, loaded}
+use lib.ListN.{length-take}
+use Rattle.termdag.proofs.Loading.{words-inside, front, loaded}
 use Rattle.termdag.proofs.load_terms.Statement.{statement}
 use Rattle.termdag.proofs.load_terms.Tie as tie
 
-abbrev Inv-loop : tie.InvT-loop
-Inv-loop jkinds jends jpool jfill terms multiplier kinds₀ ends₀ pool₀ fill₀ i₀ kinds ends pool fill i = (i ≤ terms) × Copied jkinds jends jpool i kinds₀ ends₀ pool₀ kinds ends pool fill
+start-requires : tie.Need-start-requires
+start-requires c κs = search needs
 
-abbrev μ-loop : tie.MeasureT-loop
-μ-loop jkinds jends jpool jfill terms multiplier kinds₀ ends₀ pool₀ fill₀ i₀ kinds ends pool fill i = terms - i
+slice-aggregate-copy : tie.Need-slice-aggregate-copy
+slice-aggregate-copy c = simp length-take (omega arith)
 
-loop-holds : tie.Need-loop-holds Inv-loop μ-loop
-loop-holds c = (omega arith, copied-none (c .before .before .before .before .before .before .pre))
+copy-requires : tie.Need-copy-requires
+copy-requires c κs = simp length-take (omega arith)
 
-words-requires : tie.Need-words-requires Inv-loop μ-loop
-words-requires c κs = search needs
+slice-aggregate-copy-2 : tie.Need-slice-aggregate-copy-2
+slice-aggregate-copy-2 c = simp length-take (omega arith)
 
-mul-append : tie.Need-mul-append Inv-loop μ-loop
-mul-append c = search needs
+copy-requires-2 : tie.Need-copy-requires-2
+copy-requires-2 c κs = simp length-take (omega arith)
 
-shared-slice-read-append : tie.Need-shared-slice-read-append Inv-loop μ-loop
-shared-slice-read-append c = search needs
+slice-aggregate-copy-3 : tie.Need-slice-aggregate-copy-3
+slice-aggregate-copy-3 c = simp length-take (omega (arith, words-inside (c .before .before .before .before .before .before .before .before .before .before .before .before .before .before .before .before .before .before .before .pre)))
 
-append-requires : tie.Need-append-requires Inv-loop μ-loop
-append-requires c κs = search needs
+copy-requires-3 : tie.Need-copy-requires-3
+copy-requires-3 c κs = simp length-take (omega arith)
 
-add-i : tie.Need-add-i Inv-loop μ-loop
-add-i c = omega arith
-
-loop-less : tie.Need-loop-less Inv-loop μ-loop
-loop-less c = omega arith
-
-loop-again : tie.Need-loop-again Inv-loop μ-loop
-loop-again c = let s = c .before .before .before .before .before .before .before .before .before .before .before .before .before .before .before .before .before .before .before .before .before in
-    let l = c .before .before .before .before .before .before .before .before .before .before .before .before .before .before .loop in
-    (omega arith, copied-more (s .pre) (l .inv .1) (c .before .before .before .before .before .before .before .before .before .before .before .before .before .loop-test .taken) _ (c .before .before .before .before .before .before .before .before .before .before .before .before .words .ensures) (c .before .before .before .before .before .before .before .append .ensures))
-
-same-length : tie.Need-same-length Inv-loop μ-loop
+same-length : tie.Need-same-length
 same-length c = search needs
 
-same-length-2 : tie.Need-same-length-2 Inv-loop μ-loop
+same-length-2 : tie.Need-same-length-2
 same-length-2 c = search needs
 
-same-length-3 : tie.Need-same-length-3 Inv-loop μ-loop
+same-length-3 : tie.Need-same-length-3
 same-length-3 c = search needs
 
-returns : tie.Need-returns Inv-loop μ-loop
-returns c = loaded (c .before .before .before .before .before .before .before .before .pre) (c .before .loop .inv .1) (omega arith) (c .before .before .before .before .before .before .before .before .args .multiplier)
+returns : tie.Need-returns
+returns c = let s = c .before .before .before .before .before .before .before .before .before .before .before .before .before .before .before .before .before .before .before .before .before .before in
+    loaded (s .pre) (c .before .before .before .before .before .before .before .before .before .before .before .before .before .before .before .start .ensures)
+    (front (c .before .before .before .before .before .before .before .before .before .before .before .before .copy .ensures) (omega arith) (omega arith))
+    (front (c .before .before .before .before .before .before .before .copy2 .ensures) (omega arith) (omega arith))
+    (front (c .before .before .copy3 .ensures) (omega (arith, words-inside (s .pre))) (omega arith))
+    (s .args .multiplier)
 
 pub load-terms-spec : {M : Type 1} → statement M
 load-terms-spec =
     tie.close
     (tie.spec
-    Inv-loop
-    μ-loop
-    loop-holds
-    words-requires
-    mul-append
-    shared-slice-read-append
-    append-requires
-    add-i
-    loop-less
-    loop-again
+    start-requires
+    slice-aggregate-copy
+    copy-requires
+    slice-aggregate-copy-2
+    copy-requires-2
+    slice-aggregate-copy-3
+    copy-requires-3
     same-length
     same-length-2
     same-length-3
