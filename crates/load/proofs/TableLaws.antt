@@ -1,5 +1,5 @@
 -- Laws of a job's tables: their cells among all cells, and the test of each.
-use mathlib.Core.Path.{_≡_, refl, sym, ap, _∙_}
+use mathlib.Core.Path.{_≡_, refl, sym, ap, subst, _∙_}
 use mathlib.Core.Bool.{Bool, true, false, not, _&&_, _||_}
 use mathlib.Core.List.{List, [], _∷_, _++_}
 use Prim.Native.Nat.{ℕ, zero, suc, _+_, _-_, _≤_, _<_}
@@ -8,7 +8,7 @@ use native.Mathlib.Omega.{arith}
 use lib.Dec.{eqb, ltb}
 use lib.ListN.{length, getD, take, drop, length-take, length-drop, drop-of-length-le, List·getD-eq-default}
 use lib.Seq.{getD-take, getD-drop, drop-cons, take-take}
-use borrow.Author.Tests.{ne-eqb, lt-ltb, le-ltb, le-leb, lt-leb}
+use borrow.Author.Tests.{ne-eqb, ltb-true, ltb-false, lt-ltb, le-ltb, le-leb, lt-leb}
 use Rattle.model.specs.Cell.{Cell, noCell, sameCell, cellsOf}
 use Rattle.model.specs.Layout.{Sizes, Tables, part, tablesIn, tableList, cellCount, firstFact, firstAction, firstFunction, firstPrimitive, firstRow, firstNormaliser, firstRule, firstProof}
 use Rattle.model.specs.Decode.{readArguments, readPrimitive}
@@ -17,7 +17,7 @@ use Rattle.model.specs.Load.{any, failsFrom, marks, isFirst, sameHead, counts, 
 use Rattle.cells.proofs.Laws.{cell-at, cells-length, cells-fewer, same-cell-eq}
 use Rattle.cells.specs.declared.Found.{Found}
 use Rattle.load.specs.declared.sizes.Sizes.{Sizes as SizesHeld}
-use Rattle.load.specs.Held.{sizesIn, Distinct, countsOf, cellNumber, fixedCounts, alikeBy, firstAmong, tablesFor, testsFor, firstFound}
+use Rattle.load.specs.Held.{sizesIn, Distinct, countsOf, cellNumber, fixedCounts, alikeBy, firstAmong, tablesFor, cellHeld, Passing, testsFor, firstFound}
 
 -- a cell of a table is a cell of the job
 pub part-at : (cs : List Cell) (from count i : ℕ) → i < count → getD (part cs from count) i noCell ≡ getD cs (from + i) noCell
@@ -291,6 +291,20 @@ module _ (f : ℕ → Cell → Bool) (t : List Cell) (first i : ℕ) where
 
 plus-zero : (n : ℕ) → n ≡ n + 0
 plus-zero n = omega arith
+
+-- cells that pass, one more each time
+pub none-pass : {K E P : List ℕ} {z : SizesHeld} {round k : ℕ} → Passing K E P z round k 0
+none-pass = record { few = omega arith; pass = λ i h. absurd (omega arith) }
+
+pub more-pass : {K E P : List ℕ} {z : SizesHeld} {round k n : ℕ} → n < getD (countsOf (sizesIn z)) k 0 → Passing K E P z round k n
+    → true ≡ getD (testsFor round (sizesIn z) (tablesFor K E P z)) k passed n (cellHeld K E P z (cellNumber (sizesIn z) k + n)) → Passing K E P z round k (n + 1)
+more-pass {K} {E} {P} {z} {round} {k} {n} l A e = record { few = omega arith; pass = λ i h. go i (ltb i n) refl h }
+  where
+    go : (i : ℕ) (b : Bool) → ltb i n ≡ b → i < n + 1 → true ≡ getD (testsFor round (sizesIn z) (tablesFor K E P z)) k passed i (cellHeld K E P z (cellNumber (sizesIn z) k + i))
+    go i true q h = A .pass i (ltb-true i n q)
+    go i false q h =
+        let d : n ≡ i = let g = ltb-false i n q in omega arith in
+        subst (λ (j : ℕ). true ≡ getD (testsFor round (sizesIn z) (tablesFor K E P z)) k passed j (cellHeld K E P z (cellNumber (sizesIn z) k + j))) d e
 
 -- past cells that pass
 pub found-past : (f : ℕ → Cell → Bool) (t : List Cell) (first n : ℕ) → n ≤ length t → ((i : ℕ) → i < n → true ≡ f i (getD t i noCell))

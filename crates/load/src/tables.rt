@@ -17,13 +17,13 @@ ghost use mathlib.Core.Path.{_≡_};
 ghost use mathlib.Core.Bool.{true, false};
 ghost use Prim.Native.Nat.{ℕ, _+_, _<_};
 ghost use lib.ListN.{getD};
-ghost use mathlib.Core.List.{List, []};
+ghost use mathlib.Core.List.{[]};
 ghost use Rattle.model.specs.Load.{counts as operandCounts, failsFrom, marks, setFits, actionFits, passed, fitTests, referTests, validTests, onceTests, primitiveLooksUp, bindsOnce};
 ghost use Rattle.model.specs.Cell.{cellsOf};
-ghost use Rattle.model.specs.Layout.{cellCount, tableList};
+ghost use Rattle.model.specs.Layout.{cellCount, Tables, tableList};
+ghost use Rattle.model.specs.Layout.{Sizes as SizesOf};
 ghost use Rattle.model.specs.Program.{substitution};
 ghost use Rattle.model.specs.Decode.{readProof};
-ghost use Rattle.load.specs.declared.sizes.Sizes.{Sizes as SizesHeld};
 ghost use Rattle.load.specs.Held.{sizesIn, fillOf, Limits, Held, Distinct, tablesFor, fixedCounts, alikeBy, firstAmong, cellHeld, Place, Passing, testsFor, firstFound, countsOf, cellNumber};
 
 // How much the job's arrays hold.
@@ -317,11 +317,55 @@ pub fn passes(
     once(kinds, ends, pool, z, distinct, table, first, i, kind, ws)
 }
 
-// How many cells of a table, from its first on, pass for sure: all where the round has no test for it, and the terms that are known to differ.
-pub fn passed_first(distinct: usize, round: usize, table: usize, count: usize) -> usize
-    ensures { λ r. ⌜ ((K E P : List ℕ) (z : SizesHeld) → count ≡ getD (countsOf (sizesIn z)) table 0 → Distinct K E P z distinct → Passing K E P z round table r) ⌝ }
+// A term passes its test: 6 and 7 are rounds 0 and 1.
+fn term_passes(round: usize, i: usize, kind: u32, ws: &[u32]) -> bool
+    requires { ⌜ round < 2 ⌝ }
+    ensures { λ r. ⌜ ((z : SizesOf) (t : Tables) → r ≡ getD (testsFor round z t) 0 passed i (record { kind = kind; words = now (ws .entry) })) ⌝ }
+{
+    if round == 0 {
+        return fit::term_fits(kind, ws);
+    }
+    refer::term_refers(i, kind, ws)
+}
+
+// How many terms, from the first on, pass 6 or 7. There are the most of them, so that they have a loop without a choice of the table.
+fn passing_terms(kinds: &[u32], ends: &[u32], pool: &[u32], z: Sizes, round: usize) -> usize
+    requires { ⌜ Held (now kinds) (now ends) (now pool) z ⌝ }
+    requires { ⌜ round < 2 ⌝ }
+    ensures { λ r. ⌜ Passing (now (kinds .entry)) (now (ends .entry)) (now (pool .entry)) z round 0 r ⌝ }
+{
+    let f = fill(z);
+    let mut i = 0;
+    while i < z.terms {
+        let ws = words(kinds, ends, pool, f, i);
+        if !term_passes(round, i, kinds[i], ws) {
+            return i;
+        }
+        i += 1;
+    }
+    i
+}
+
+// How many cells of a table, from its first on, are known to pass: terms, and all where the round has no test for the table.
+fn passed_first(
+    kinds: &[u32],
+    ends: &[u32],
+    pool: &[u32],
+    z: Sizes,
+    distinct: usize,
+    round: usize,
+    table: usize,
+    count: usize,
+) -> usize
+    requires { ⌜ Held (now kinds) (now ends) (now pool) z ⌝ }
+    requires { ⌜ count ≡ getD (countsOf (sizesIn z)) table 0 ⌝ }
+    requires { ⌜ Distinct (now kinds) (now ends) (now pool) z distinct ⌝ }
+    ensures { λ r. ⌜ Passing (now (kinds .entry)) (now (ends .entry)) (now (pool .entry)) z round table r ⌝ }
 {
     if round < 2 {
+        if table == 0 {
+            return passing_terms(kinds, ends, pool, z, round);
+        }
         return 0;
     }
     if (table == 6) | (table == 7) {
@@ -358,7 +402,7 @@ pub fn first_failing(
     requires { ⌜ Distinct (now kinds) (now ends) (now pool) z distinct ⌝ }
     ensures { λ r. ⌜ r ≡ firstFound first (failsFrom 0 (getD (testsFor round (sizesIn z) (tablesFor (now (kinds .entry)) (now (ends .entry)) (now (pool .entry)) z)) table passed) (getD (tableList (tablesFor (now (kinds .entry)) (now (ends .entry)) (now (pool .entry)) z)) table [])) ⌝ }
 {
-    let mut i = passed_first(distinct, round, table, count);
+    let mut i = passed_first(kinds, ends, pool, z, distinct, round, table, count);
     while i < count {
         if !passes(kinds, ends, pool, z, distinct, round, table, first, i) {
             return Found::At(first + i);

@@ -36,7 +36,7 @@ loop-holds c = let s = c .before .before .before .before in
     let f = getD (testsFor (a .round) z (tablesFor K E P (a .z))) (a .table) passed in
     let long : length cs ≡ n = cells-length K E P n in
     let size : length t ≡ getD (countsOf z) (a .table) 0 = table-length z cs long (a .table) (s .pre .1 .0) in
-    let p = c .passed-first .ensures K E P (a .z) (s .pre .1 .1 .1 .0) (s .pre .1 .1 .1 .1) in (
+    let p = c .passed-first .ensures in (
       omega (arith, p .few, s .pre .1 .1 .1 .0),
       found-past f t (a .first) (c .passed-first .result) (omega (arith, p .few)) (λ i h. p .pass i h ∙ ap (f i) (sym (table-cell z cs long (a .table) (s .pre .1 .0) i (omega (arith, p .few))))),
     )

@@ -1,19 +1,15 @@
-use Rattle.load.proofs.TableLaws.{valid-other, known-once, once-other, last-round}
+use Rattle.load.proofs.TableLaws.{valid-other, known-once, once-other, last-round, none-pass}
 use Rattle.model.proofs.Tests.{or-left, or-right}
 use borrow.Author.Tests.{eqb-false}
 use native.Mathlib.Omega.{arith}
 use lib.Dec.{eqb}
 use mathlib.Core.Bool.{false, _||_}
-use mathlib.Core.List.{List}
-use mathlib.Core.Path.{_≡_, refl}
+use mathlib.Core.Path.{_≡_, refl, subst⁻¹}
 use Prim.Native.Nat.{ℕ}
-use Rattle.load.specs.declared.sizes.Sizes.{Sizes as SizesHeld}
 use Rattle.load.specs.Held.{sizesIn, tablesFor, cellHeld, Passing}
+use borrow.Author.Needs.{needs}
 use Rattle.load.proofs.tables.passed_first.Statement.{statement}
 use Rattle.load.proofs.tables.passed_first.Tie as tie
-
-none : {K E P : List ℕ} {z : SizesHeld} {round k : ℕ} → Passing K E P z round k 0
-none = record { few = omega arith; pass = λ i h. absurd (omega arith) }
 
 module _ (k : ℕ) (e : (eqb k 6 || eqb k 7) ≡ false) where
   six : k ≡ 6 → ⊥
@@ -22,42 +18,53 @@ module _ (k : ℕ) (e : (eqb k 6 || eqb k 7) ≡ false) where
   seven : k ≡ 7 → ⊥
   seven = eqb-false k 7 (or-right (eqb k 6) (eqb k 7) e)
 
+passing-terms-requires : tie.Need-passing-terms-requires
+passing-terms-requires c κs = search needs
+
 returns : tie.Need-returns
-returns c = λ K E P z n D. none
+returns c = let a = c .before .before .before .before .before .before .args in subst⁻¹ (λ (k : ℕ). Passing (a .kinds .now) (a .ends .now) (a .pool .now) (a .z) (a .round) k (c .passing-terms .result)) (c .before .if2 .taken) (c .passing-terms .ensures)
 
 returns-2 : tie.Need-returns-2
-returns-2 c = λ K E P z n D. none
+returns-2 c = none-pass
 
 returns-3 : tie.Need-returns-3
-returns-3 c = let k = c .before .before .before .args .table in
-    let e = c .before .if2 .left in
-    λ K E P z n D. record {
-      few = omega arith;
-      pass = λ i h. rw (c .if3 .taken) (valid-other (tablesFor K E P z) k i (cellHeld K E P z _) (six k e) (seven k e));
-    }
+returns-3 c = none-pass
 
 returns-4 : tie.Need-returns-4
-returns-4 c = λ K E P z n D. none
-
-returns-5 : tie.Need-returns-5
-returns-5 c = let a = c .before .before .before .before .before .args in
-    λ K E P z n D.
-    let last = last-round (a .round) (sizesIn z) (tablesFor K E P z) (λ e. omega arith) (λ e. omega arith) (c .before .before .if3 .left) in
+returns-4 c = let s = c .before .before .before .before .before .before in
+    let a = s .args in
+    let k = a .table in
+    let e = c .before .if3 .left in
+    let t = tablesFor (a .kinds .now) (a .ends .now) (a .pool .now) (a .z) in
     record {
-      few = rw (c .if5 .taken) (D .few);
-      pass = λ i h. rw (← last) (known-once D (a .table) _ i (c .if5 .taken) refl h);
+      few = omega (arith, s .pre .1 .0);
+      pass = λ i h. rw (c .if4 .taken) (valid-other t k i (cellHeld (a .kinds .now) (a .ends .now) (a .pool .now) (a .z) _) (six k e) (seven k e));
     }
 
+returns-5 : tie.Need-returns-5
+returns-5 c = none-pass
+
 returns-6 : tie.Need-returns-6
-returns-6 c = let a = c .before .before .before .before .before .args in
-    let k = a .table in
-    let e = c .before .before .before .if2 .left in
-    λ K E P z n D.
-    let last = last-round (a .round) (sizesIn z) (tablesFor K E P z) (λ e. omega arith) (λ e. omega arith) (c .before .before .if3 .left) in
+returns-6 c = let s = c .before .before .before .before .before .before .before .before in
+    let a = s .args in
+    let D = s .pre .1 .1 in
+    let last = last-round (a .round) (sizesIn (a .z)) (tablesFor (a .kinds .now) (a .ends .now) (a .pool .now) (a .z)) (λ e. omega arith) (λ e. omega arith) (c .before .before .if4 .left) in
     record {
-      few = omega arith;
-      pass = λ i h. rw (← last) (once-other (tablesFor K E P z) k i (cellHeld K E P z _) (c .before .if4 .left) (c .if5 .left) (six k e) (seven k e));
+      few = rw (c .if6 .taken) (D .few);
+      pass = λ i h. rw (← last) (known-once D (a .table) _ i (c .if6 .taken) refl h);
+    }
+
+returns-7 : tie.Need-returns-7
+returns-7 c = let s = c .before .before .before .before .before .before .before .before in
+    let a = s .args in
+    let k = a .table in
+    let e = c .before .before .before .if3 .left in
+    let t = tablesFor (a .kinds .now) (a .ends .now) (a .pool .now) (a .z) in
+    let last = last-round (a .round) (sizesIn (a .z)) t (λ e. omega arith) (λ e. omega arith) (c .before .before .if4 .left) in
+    record {
+      few = omega (arith, s .pre .1 .0);
+      pass = λ i h. rw (← last) (once-other t k i (cellHeld (a .kinds .now) (a .ends .now) (a .pool .now) (a .z) _) (c .before .if5 .left) (c .if6 .left) (six k e) (seven k e));
     }
 
 pub passed-first-spec : {M : Type 1} → statement M
-passed-first-spec = tie.close (tie.spec returns returns-2 returns-3 returns-4 returns-5 returns-6)
+passed-first-spec = tie.close (tie.spec passing-terms-requires returns returns-2 returns-3 returns-4 returns-5 returns-6 returns-7)
