@@ -58,9 +58,6 @@ pub fn first(job: &[u32], table: usize) -> usize
     requires { ⌜ table < 10 ⌝ }
     ensures { λ r. ⌜ r ≡ cellNumber (sizesOf (now (job .entry))) table ⌝ }
 {
-    if 5 < table {
-        return first_behind(job, table);
-    }
     let mut sum = 0usize;
     let mut k = 0usize;
     while k < table {
@@ -82,7 +79,7 @@ fn fill(job: &[u32]) -> Fill
     }
 }
 
-// The same, from the end of all cells back: fewer sizes to read, for a table that stands behind most others.
+// The same, from the end of all cells back.
 fn first_behind(job: &[u32], table: usize) -> usize
     requires { ⌜ Held (now job) ⌝ }
     requires { ⌜ table < 10 ⌝ }
@@ -96,6 +93,18 @@ fn first_behind(job: &[u32], table: usize) -> usize
         left -= size(job, k);
     }
     left
+}
+
+// The same, by the side with fewer sizes to read.
+fn nearest_first(job: &[u32], table: usize) -> usize
+    requires { ⌜ Held (now job) ⌝ }
+    requires { ⌜ table < 10 ⌝ }
+    ensures { λ r. ⌜ r ≡ cellNumber (sizesOf (now (job .entry))) table ⌝ }
+{
+    if table < 6 {
+        return first(job, table);
+    }
+    first_behind(job, table)
 }
 
 // The kinds of all cells.
@@ -148,7 +157,7 @@ pub fn kind_at(job: &[u32], table: usize, i: usize) -> u32
     requires { ⌜ i < countFor (now job) table ⌝ }
     ensures { λ r. ⌜ r ≡ getD (tableFor (now (job .entry)) table) i noCell .kind ⌝ }
 {
-    let k = first(job, table) + i;
+    let k = nearest_first(job, table) + i;
     job[12 + k]
 }
 
@@ -159,7 +168,7 @@ pub fn words_at(job: &[u32], table: usize, i: usize) -> &[u32]
     requires { ⌜ i < countFor (now job) table ⌝ }
     ensures { λ r. ⌜ now r ≡ getD (tableFor (now (job .entry)) table) i noCell .words ⌝ }
 {
-    let k = first(job, table) + i;
+    let k = nearest_first(job, table) + i;
     cell_words(job, k)
 }
 

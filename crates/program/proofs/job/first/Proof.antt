@@ -14,12 +14,6 @@ Inv-loop job table sum₀ k₀ sum k = (k ≤ table) × (sum ≡ cellNumber (siz
 abbrev μ-loop : tie.MeasureT-loop
 μ-loop job table sum₀ k₀ sum k = table - k
 
-first-behind-requires : tie.Need-first-behind-requires Inv-loop μ-loop
-first-behind-requires c κs = search needs
-
-returns : tie.Need-returns Inv-loop μ-loop
-returns c = c .first-behind .ensures
-
 loop-holds : tie.Need-loop-holds Inv-loop μ-loop
 loop-holds c = (omega arith, refl)
 
@@ -27,7 +21,7 @@ size-requires : tie.Need-size-requires Inv-loop μ-loop
 size-requires c κs = search needs
 
 add-sum : tie.Need-add-sum Inv-loop μ-loop
-add-sum c = omega (arith, number-count (sizesOf (c .before .before .before .before .before .args .job .now)) (c .before .before .loop .k) (omega arith), c .before .before .before .before .before .pre .0 .long)
+add-sum c = omega (arith, number-count (sizesOf (c .before .before .before .before .args .job .now)) (c .before .before .loop .k) (omega arith), c .before .before .before .before .pre .0 .long)
 
 add-k : tie.Need-add-k Inv-loop μ-loop
 add-k c = omega arith
@@ -36,12 +30,12 @@ loop-less : tie.Need-loop-less Inv-loop μ-loop
 loop-less c = omega arith
 
 loop-again : tie.Need-loop-again Inv-loop μ-loop
-loop-again c = (omega arith, omega (arith, number-next (sizesOf (c .before .before .before .before .before .args .job .now)) (c .before .before .loop .k) (omega arith), c .before .before .loop .inv .1, c .size .ensures))
+loop-again c = (omega arith, omega (arith, number-next (sizesOf (c .before .before .before .before .args .job .now)) (c .before .before .loop .k) (omega arith), c .before .before .loop .inv .1, c .size .ensures))
 
-returns-2 : tie.Need-returns-2 Inv-loop μ-loop
-returns-2 c = let e : c .before .loop .k ≡ c .before .before .before .before .args .table = omega arith in rw (c .before .loop .inv .1, e)
+returns : tie.Need-returns Inv-loop μ-loop
+returns c = let e : c .before .loop .k ≡ c .before .before .before .args .table = omega arith in rw (c .before .loop .inv .1, e)
 
 pub first-spec : {M : Type 1} → statement M
 first-spec =
     tie.close
-    (tie.spec Inv-loop μ-loop first-behind-requires returns loop-holds size-requires add-sum add-k loop-less loop-again returns-2)
+    (tie.spec Inv-loop μ-loop loop-holds size-requires add-sum add-k loop-less loop-again returns)
