@@ -30,7 +30,7 @@ ghost use Rattle.program.specs.Ready.{Ready, programFor, optionOf};
 ghost use Rattle.decode.specs.View.{headOf};
 ghost use Rattle.decode.specs.declared.Head as heads;
 ghost use Rattle.memo.specs.Memo.{Past};
-ghost use Rattle.outcome.specs.Does.{passed, outcomeOf, Does};
+ghost use Rattle.outcome.specs.Does.{outcomeOf, Does};
 ghost use Rattle.program.specs.Read.{argumentsFor};
 ghost use Rattle.evaluate.specs.Value.{customTerm, headTerm, bindingsIn, evalFor, valueFor};
 ghost use Rattle.evaluate.specs.Evaluation.{Memo, Evaluates, EvaluatesRoot};

@@ -4,7 +4,7 @@ use cells::wide;
 use cells::words;
 use std::num::wrapping_add_u32;
 ghost use mathlib.Core.Path.{_≡_};
-ghost use Prim.Native.Nat.{ℕ, _+_, _*_, _%_, _≤_, _<_, _^_};
+ghost use Prim.Native.Nat.{_+_, _*_, _%_, _≤_, _<_, _^_};
 ghost use lib.ListN.{length, getD, set, replicate};
 ghost use Rattle.model.specs.Cell.{cellAt, cellsOf};
 ghost use Rattle.cells.specs.Table.{Formed, Once, addCell, tableOf};

@@ -16,7 +16,7 @@ ghost use mathlib.Core.List.{List, [], _∷_};
 ghost use mathlib.Core.Bool.{false, _||_};
 ghost use Prim.Native.Nat.{_<_};
 ghost use lib.Dec.{eqb};
-ghost use lib.ListN.{length, getD, set};
+ghost use lib.ListN.{length, set};
 ghost use Rattle.model.specs.Term as terms;
 ghost use Rattle.model.specs.Check.{checkThat, addNode};
 ghost use Rattle.model.specs.Evaluate as evaluate;

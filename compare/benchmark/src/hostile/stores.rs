@@ -12,12 +12,16 @@ const LEVELS: usize = CELLS as usize - 3;
 /// Steps that add a term for each call until no more can be added for another step.
 pub const FILLING: usize = 12;
 
+/// The last term, which has the one of the last filling step below it.
+const WHOLE: u32 = TERMS - 1;
+
 /// A job with as many terms as there may be, and the expressions X and Y.
 fn many_terms() -> (Tables, u32, u32) {
     let mut tables = literal();
-    for name in 1..TERMS {
+    for name in 1..WHOLE {
         tables.term_variable(name);
     }
+    tables.term_application(SMALL, &[FILLING as u32]);
     let x = tables.variable(X);
     let y = tables.variable(Y);
     (tables, x, y)
@@ -68,15 +72,15 @@ pub fn found_last(steps: usize) -> Tables {
     filled_by(steps + FILLING, FILLING, OPERANDS)
 }
 
-/// Reflexive claims over a full store, by a rule with a small head.
+/// Reflexive claims over a full store, by a rule with a small head. The claimed term is below what Y is bound to, so that it is no value of the head.
 pub fn marks(steps: usize) -> Tables {
     let mut tables = filled_by(FILLING, FILLING, 1);
-    let y = 2;
-    let fact = tables.bare(y);
+    let (x, y) = (1, 2);
+    let fact = tables.bare(x);
     let head = tables.expression_action(y);
     tables.rule(SMALL, &[fact], &[head]);
     let last = FILLING as u32;
-    climb_on_terms(&mut tables, SMALL, last, &vec![(last, last); steps]);
+    climb_on_terms(&mut tables, SMALL, last, &vec![(last, WHOLE); steps]);
     tables
 }
 

@@ -1,11 +1,10 @@
 use mathlib.Core.Path.{_≡_, refl, sym, ap, _∙_}
-use Prim.Native.Nat.{ℕ, _+_, _-_, _≤_, _<_}
+use Prim.Native.Nat.{ℕ, _-_, _<_}
 use native.Mathlib.Omega.{arith}
 use borrow.Author.Needs.{needs}
 use lib.ListN.{length, getD}
 use Rattle.model.specs.Cell.{Cell, noCell, sameCell, cellsOf}
 use Rattle.cells.proofs.Laws.{cells-length, cells-fewer}
-use Rattle.index.specs.Mixing.{slotOf}
 use Rattle.index.specs.Listing.{hits}
 use Rattle.index.proofs.Probing.{Passed, passed-none}
 use Rattle.index.proofs.Indexing.{start-within, slot-in, entry-low, looked-none, looked-more, looked-hit, looked-all}

@@ -1,5 +1,5 @@
 use mathlib.Core.Path.{_≡_, ap, _∙_}
-use Prim.Native.Nat.{ℕ, _*_, _/_, _<_, _^_}
+use Prim.Native.Nat.{ℕ, _*_, _/_, _^_}
 use Rattle.model.specs.Cell.{Cell}
 use Rattle.index.specs.Mixing.{mixOf}
 use Rattle.index.proofs.Arithmetic.{mix-word, bits-few, bits-many, bits-product}

@@ -1,5 +1,5 @@
 use Prim.Native.Nat.{ℕ, _+_, _%_, _^_}
-use mathlib.Core.Path.{_≡_, ap, sym, _∙_}
+use mathlib.Core.Path.{ap, sym, _∙_}
 use Rattle.index.specs.Mixing.{golden, multiplierOf}
 use Rattle.index.proofs.Arithmetic.{first-none}
 use borrow.Author.Needs.{needs}

@@ -1,4 +1,4 @@
-use mathlib.Core.Path.{_≡_, ap, _∙_}
+use mathlib.Core.Path.{ap, _∙_}
 use Rattle.index.specs.Mixing.{upper}
 use borrow.Author.Needs.{needs}
 use Rattle.index.proofs.times.Statement.{statement}
