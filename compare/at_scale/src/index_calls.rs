@@ -1,4 +1,4 @@
-//! The calls of a seed's first two cases with other indexes than those of the other calls.
+//! The calls of one of a seed's first two cases, in turn, with other indexes than those of the other calls.
 
 use generator::{Case, Random, slots};
 use job::limits::index_slots;
@@ -14,19 +14,17 @@ const INDEXES: u64 = 0x696e_6465_7865_7331;
 /// The calls; the same on every machine.
 pub fn calls(seed: u64, cases: &[(Source, Case)]) -> Vec<Call> {
     let mut random = Random::new(!seed ^ INDEXES);
-    let mut calls = Vec::new();
-    for (source, case) in cases {
-        let made = [
-            other_index(case.clone(), &mut random),
-            index_length(case.clone(), &mut random),
-            with_other_scratch(colliding(case, &mut random)),
-        ];
-        calls.extend(made.map(|call| Call {
-            source: *source,
-            ..call
-        }));
-    }
-    calls
+    let (source, case) = &cases[seed as usize % cases.len()];
+    let made = [
+        other_index(case.clone(), &mut random),
+        index_length(case.clone(), &mut random),
+        with_other_scratch(colliding(case, &mut random)),
+    ];
+    made.map(|call| Call {
+        source: *source,
+        ..call
+    })
+    .into()
 }
 
 /// Of any size that is taken, up to 64 times the fewest slots.
