@@ -4,8 +4,8 @@ use at_scale::{Call, Variant, compare_range};
 use tools::fixed_list::numbers;
 
 const SEEDS: u64 = 2_000;
-/// Of a seed: fifteen for its job, fifteen for its counting job.
-const CALLS: u64 = 30;
+/// Of a seed: eleven for its job, eleven for its counting job, four with other indexes for one of the two.
+const CALLS: u64 = 26;
 /// Of every second seed, for its job with conditions.
 const CONDITION_CALLS: u64 = 8;
 
