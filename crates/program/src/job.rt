@@ -79,7 +79,7 @@ fn fill(job: &[u32]) -> Fill
     }
 }
 
-// The same, from the end of all cells back.
+// The number of the first cell of a table, counted from the end of all cells.
 fn first_behind(job: &[u32], table: usize) -> usize
     requires { ⌜ Held (now job) ⌝ }
     requires { ⌜ table < 10 ⌝ }
@@ -95,7 +95,7 @@ fn first_behind(job: &[u32], table: usize) -> usize
     left
 }
 
-// The same, by the side with fewer sizes to read.
+// The number of the first cell of a table, by the side with fewer sizes to read.
 fn nearest_first(job: &[u32], table: usize) -> usize
     requires { ⌜ Held (now job) ⌝ }
     requires { ⌜ table < 10 ⌝ }
