@@ -11,8 +11,9 @@ use lib.ListN.{length, getD, take, drop, drop-of-length-le}
 use lib.Seq.{drop-cons}
 use Rattle.model.specs.Layout.{sizesOf}
 use Rattle.model.specs.Term.{Term}
-use Rattle.model.specs.Program.{Proposition, Binding, Program, Rule, Proof, Justification}
+use Rattle.model.specs.Program.{Proposition, Binding, Program, Fact, Rule, Proof, Justification}
 use Rattle.model.specs.Check.{Outcome, ok, refused, Check, andThen, _>>=_, pure, choose, Room}
+use Rattle.model.specs.Fact.{isContainerSideCondition, checkSideCondition}
 use Rattle.model.specs.Walk.{noProof, claimAt, checkJustification, checkProofWithContext}
 use Rattle.model.specs.Height.{followUnless, followed, maximum, height}
 use Rattle.index.specs.declared.Fill.{Fill}
@@ -21,7 +22,7 @@ use Rattle.outcome.specs.Does.{passed, Grown}
 use Rattle.outcome.specs.declared.Refusal.{Refusal}
 use Rattle.outcome.proofs.Laws.{does-here, grown-same}
 use Rattle.program.specs.Ready.{Ready, programFor}
-use Rattle.program.specs.Read.{proofsFor, pairsFor}
+use Rattle.program.specs.Read.{factFor, proofsFor, premisesFor, pairsFor}
 use Rattle.evaluate.specs.Evaluation.{Sane}
 use Rattle.actions.specs.Acting.{effectBindings, Pushed}
 use Rattle.actions.specs.declared.Effect.{Effect}
@@ -32,11 +33,12 @@ use Rattle.outcome.specs.declared.Checked.{Checked}
 use Rattle.program.proofs.Proving.{substitution-read}
 use Rattle.turns.specs.declared.Plan.{Plan}
 use Rattle.turns.specs.declared.Stage.{Stage}
+use Rattle.turns.proofs.Stages.{fact-turn}
 use Rattle.turns.proofs.Tying.{sane-substitution}
 use Rattle.turns.specs.Walking.{Ground, Walks, contextOf}
-use Rattle.walk.specs.Start.{Starts}
+use Rattle.walk.specs.Start.{Starts, Ordinary, factNumbers, StartsFact}
 use Rattle.walk.proofs.Justifying.{height-for, height-few}
-use Rattle.turns.specs.Turning.{Turn, ofProof, proofOf, noTurn, isSettled, followedTurns, beforeProof, afterProof, walkProof, takeTurns, endStep, finishStep, stageOf, isOver, turnsBy, headBy, bindingsBy, Planned, Plans, Advances}
+use Rattle.turns.specs.Turning.{Turn, ofFact, ofProof, proofOf, noTurn, isSettled, followedTurns, beforeProof, afterProof, walkProof, takeTurns, endStep, finishStep, stageOf, isOver, turnsBy, headBy, bindingsBy, Planned, Plans, Advances}
 use Rattle.turns.proofs.Walking.{walks-here, walks-then, walks-stop, walks-as, walks-passed}
 use Rattle.model.proofs.Sequence.{then-assoc, then-alike}
 
@@ -262,6 +264,13 @@ module _ (J : List ℕ) (strict : Bool) (F G U : List ℕ) (p : ℕ) (rule : Boo
                 (advance-is (ofProof (y .0) ∷ drop (suc i) turns) 0)),
           )
 
+    -- a rule's step, before its first fact
+    pub starts-rule : rule ≡ true → {i : ℕ} → Starts rule count i 0
+    starts-rule is = record { few = omega arith; walks = λ u. absurd (omega arith); ends = λ u _. absurd (true≢false (sym is ∙ u)) }
+
+    pub task-as : {k₀ e₀ p₀ ix₀ : List ℕ} {f₀ : Fill} {memo₀ W₀ k e q ix : List ℕ} {f : Fill} {memo W T : List ℕ} {at most i s s′ : ℕ} → s ≡ s′ → Task k₀ e₀ p₀ ix₀ f₀ memo₀ W₀ k e q ix f memo W T at most i s′ → Task k₀ e₀ p₀ ix₀ f₀ memo₀ W₀ k e q ix f memo W T at most i s
+    task-as {k₀} {e₀} {p₀} {ix₀} {f₀} {memo₀} {W₀} {k} {e} {q} {ix} {f} {memo} {W} {T} {at} {most} {i} u t = subst⁻¹ (Task k₀ e₀ p₀ ix₀ f₀ memo₀ W₀ k e q ix f memo W T at most i) u t
+
     pub task-start : {k e q ix : List ℕ} {f : Fill} {memo W T : List ℕ} {s : ℕ} → Ground J F G k e q ix f memo W → (rule ≡ true → Sane (programFor J) (bindings []) (termsIn k e q f)) → length T ≡ 34 → Starts rule count 0 s
         → Task k e q ix f memo W k e q ix f memo W T 34 0 0 s
     task-start {k} {e} {q} {ix} {f} {memo} {W} {T} {s} g w l x = record {
@@ -290,6 +299,57 @@ module _ (J : List ℕ) (strict : Bool) (F G U : List ℕ) (p : ℕ) (rule : Boo
           walks = walks-here g (λ ps done y. does-here (g .indexed) refl);
           same = λ ps done. S .step (roomOf k q) strict G ps (sub J strict F G U p (roomOf k q) ps) done (termsIn k e q f);
         })
+
+    -- a fact that is ordinary: its premise is walked at once
+    module _ {k₀ e₀ p₀ ix₀ : List ℕ} {f₀ : Fill} {memo₀ W₀ k e q ix : List ℕ} {f : Fill} {memo W T : List ℕ} {at most i : ℕ} (t : Task k₀ e₀ p₀ ix₀ f₀ memo₀ W₀ k e q ix f memo W T at most i 0) (is : rule ≡ true) where
+      ordinary-turn : (m : Bool) → m ≡ true → Planned J p m r first second count → i < count → getD (turnsBy J p m r first second count) i noTurn ≡ ofFact (factFor J (getD (factNumbers J r) i 0)) (getD (premisesFor J p) i 0)
+      ordinary-turn true e P l = head-eq-of-cons-eq (sym (drop-cons (turnsBy J p true r first second count) i noTurn (let m = P .long in omega arith)) ∙ fact-turn P l refl refl)
+      ordinary-turn false e P l = absurd (true≢false (sym e))
+
+      module _ (l : i < count) (o : Ordinary (programFor J) first (factFor J (getD (factNumbers J r) i 0))) where
+        abbrev due-turn : Turn
+        due-turn = getD turns i noTurn
+
+        quiet-before : (room : Room) (σ : List Binding) (s : List Term) → beforeProof room (programFor J) (proofsFor J) strict first due-turn σ s ≡ ok σ s
+        quiet-before room σ s =
+            ap (λ (u : Turn). beforeProof room (programFor J) (proofsFor J) strict first u σ s) (ordinary-turn rule is S l)
+            ∙ ap (λ (x : Outcome (Unit {0})). andThen x (λ _. choose (isContainerSideCondition (programFor J) fact) (checkSideCondition room (programFor J) first σ strict fact) (pure σ))) (o .normal s)
+            ∙ ap (λ (b : Bool). choose b (checkSideCondition room (programFor J) first σ strict fact) (pure σ) s) (o .premised)
+          where
+            fact : Fact
+            fact = factFor J (getD (factNumbers J r) i 0)
+
+        task-due : Task k₀ e₀ p₀ ix₀ f₀ memo₀ W₀ k e q ix f memo W T at most i 1
+        task-due = record {
+          few = omega arith;
+          upto = t .upto;
+          full = t .full;
+          low = t .low;
+          free = t .free;
+          lenMemo = t .lenMemo;
+          lenW = t .lenW;
+          grown = t .grown;
+          sane = t .sane;
+          owes = λ _ u. absurd (u refl);
+          due = λ _. (
+            l,
+            ap (isSettled (programFor J)) (ordinary-turn rule is S l) ∙ o .premised,
+            owes-as J strict F G U p (subst (λ (ts : List Turn). Owes J strict F G U p k₀ e₀ p₀ ix₀ f₀ W₀ k e q ix f memo W (bindings (drop at T)) (rest ts 0)) (left-at l) (t .owes (omega arith) (λ u. absurd (omega arith))))
+                (λ room ps b s. advance-is (due-turn ∷ drop (suc i) turns) 0 room ps b s
+                ∙ ap (λ (x : Outcome (List Binding)). andThen (andThen x (λ τ. pure (τ, b .1))) (next (due-turn ∷ drop (suc i) turns) 0 room ps)) (quiet-before room (b .0) s)),
+          );
+          ends = λ _ u. absurd (u refl);
+          high = t .high;
+          ended = λ u. absurd (omega arith);
+        }
+
+      pub task-fact : {s : ℕ} → StartsFact J first r count i s → Task k₀ e₀ p₀ ix₀ f₀ memo₀ W₀ k e q ix f memo W T at most i s
+      task-fact {s} x = go s (x .few) (x .walks)
+        where
+          go : (s : ℕ) → s ≤ 1 → (s ≡ 1 → (i < count) × Ordinary (programFor J) first (factFor J (getD (factNumbers J r) i 0))) → Task k₀ e₀ p₀ ix₀ f₀ memo₀ W₀ k e q ix f memo W T at most i s
+          go zero l w = t
+          go (suc zero) l w = task-due (w refl .0) (w refl .1)
+          go (suc (suc s)) l w = absurd (omega arith)
 
     -- a stage
     module _ {k₀ e₀ p₀ ix₀ : List ℕ} {f₀ : Fill} {memo₀ W₀ k e q ix : List ℕ} {f : Fill} {memo W T : List ℕ} {at most i v : ℕ} (t : Task k₀ e₀ p₀ ix₀ f₀ memo₀ W₀ k e q ix f memo W T at most i v) (h : i ≤ count) (v≢1 : v ≡ 1 → ⊥) where

@@ -2,9 +2,33 @@
 use Prim.Native.Nat.{ℕ, _<_, _≤_}
 use mathlib.Core.Path.{_≡_}
 use mathlib.Core.Bool.{Bool, false}
+use mathlib.Core.List.{List}
+use lib.ListN.{getD}
+use Rattle.model.specs.Cell.{noCell}
+use Rattle.model.specs.Term.{Term}
+use Rattle.model.specs.Program.{Program, Fact}
+use Rattle.model.specs.Decode.{ruleFacts}
+use Rattle.model.specs.Check.{ok}
+use Rattle.model.specs.Fact.{assertBodyProofNormalForm, isContainerSideCondition}
+use Rattle.program.specs.Ready.{tablesFor, programFor}
+use Rattle.program.specs.Read.{factFor}
 
 -- 1 where its proof is walked at once, as in a step that is no rule's; else 0.
 pub record Starts (rule : Bool) (count i s : ℕ) : Type 0 where
   pub few : s ≤ 1
   pub walks : s ≡ 1 → (rule ≡ false) × (i < count)
   pub ends : rule ≡ false → (s ≡ 1 → ⊥) → count ≤ i
+
+-- A fact of the rule of that name that is in normal form and no side condition.
+pub record Ordinary (prog : Program) (name : ℕ) (f : Fact) : Type 0 where
+  pub premised : isContainerSideCondition prog f ≡ false
+  pub normal : (s : List Term) → assertBodyProofNormalForm prog name f s ≡ ok tt s
+
+-- The numbers of the facts of rule r.
+abbrev pub factNumbers : List ℕ → ℕ → List ℕ
+factNumbers J r = ruleFacts (getD (tablesFor J .rules) r noCell)
+
+-- In a rule's step: 1 where its fact is ordinary, so that its premise is walked at once; else 0.
+pub record StartsFact (J : List ℕ) (name r count i s : ℕ) : Type 0 where
+  pub few : s ≤ 1
+  pub walks : s ≡ 1 → (i < count) × Ordinary (programFor J) name (factFor J (getD (factNumbers J r) i 0))

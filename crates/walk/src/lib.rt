@@ -4,25 +4,30 @@ use actions::push_binding;
 use cells::wide;
 use conditions::Binds;
 use index::Fill;
+use normal_form::assert_body_proof_normal_form;
+use normal_form::is_container_side_condition;
 use outcome::Checked;
 use outcome::pass;
+use program::read::rule_facts_at;
 use turns::advance;
 use turns::plan_step;
 use turns::reference;
 ghost use mathlib.Core.Path.{_≡_};
+ghost use mathlib.Core.Bool.{true};
 ghost use mathlib.Core.List.{List};
-ghost use Prim.Native.Nat.{suc, _+_, _<_, max};
+ghost use Prim.Native.Nat.{suc, _+_, _<_, _≤_, max};
 ghost use lib.ListN.{length, getD, set};
 ghost use Rattle.model.specs.Layout.{sizesOf};
 ghost use Rattle.model.specs.Program.{Binding};
 ghost use Rattle.model.specs.Walk.{noProof, claimAt, checkJustification, checkProofWithContext};
 ghost use Rattle.model.specs.Height.{height};
-ghost use Rattle.program.specs.Ready.{programFor};
-ghost use Rattle.program.specs.Read.{proofsFor};
+ghost use Rattle.program.specs.Ready.{Ready, programFor};
+ghost use Rattle.program.specs.Read.{factFor, proofsFor};
+ghost use Rattle.normal_form.specs.Search.{Searched};
 ghost use Rattle.actions.specs.Acting.{effectBindings};
 ghost use Rattle.conditions.specs.Bound.{boundOver};
 ghost use Rattle.turns.specs.Walking.{Ground, Walks, contextOf};
-ghost use Rattle.walk.specs.Start.{Starts};
+ghost use Rattle.walk.specs.Start.{Starts, Ordinary, factNumbers, StartsFact};
 
 // A proof's word in scratch: its height where it is checked, else 0.
 fn height_noted(scratch: &[u32], at: usize) -> u32
@@ -73,6 +78,38 @@ fn state_at(rule: bool, count: usize, i: usize) -> usize
     0
 }
 
+// Fact f is in normal form and no side condition, so that nothing is done before its premise is walked.
+fn is_ordinary(job: &[u32], found: &[u32], name: u32, f: u32) -> bool
+    requires { ⌜ Ready (now job) ⌝ }
+    requires { ⌜ Searched (now job) (now found) ⌝ }
+    requires { ⌜ f < sizesOf (now job) .facts ⌝ }
+    ensures { λ b. ⌜ (b ≡ true → Ordinary (programFor (now (job .entry))) name (factFor (now (job .entry)) f)) ⌝ }
+{
+    if is_container_side_condition(job, wide(f)) {
+        return false;
+    }
+    let offence = assert_body_proof_normal_form(job, found, name, f);
+    offence.number == 0
+}
+
+// How turn i of a rule's step starts: 1 where its fact is ordinary; else 0.
+fn fact_state(job: &[u32], found: &[u32], name: u32, r: usize, count: usize, i: usize) -> usize
+    requires { ⌜ Ready (now job) ⌝ }
+    requires { ⌜ Searched (now job) (now found) ⌝ }
+    requires { ⌜ r < sizesOf (now job) .rules ⌝ }
+    requires { ⌜ count ≤ length (factNumbers (now job) r) ⌝ }
+    ensures { λ s. ⌜ StartsFact (now (job .entry)) name r count i s ⌝ }
+{
+    if count <= i {
+        return 0;
+    }
+    let facts = rule_facts_at(job, r);
+    if is_ordinary(job, found, name, facts[i]) {
+        return 1;
+    }
+    0
+}
+
 // The step of proof p, a rule's too, turn by turn: each proof that it needs is walked, between what is done before it and after it. The value is the height: one more than
 // the greatest among the proofs walked. The walk and this check call each other, with a falling proof number; all else is done in `advance`, outside of their frames.
 fn justify(
@@ -111,9 +148,24 @@ fn justify(
     let mut most = 0;
     let mut i = 0;
     let mut state = state_at(s.rule, count, i);
+    if s.rule {
+        state = fact_state(job, found, s.first, s.r, count, i);
+    }
     while i <= count {
         if state == 1 {
             let next = reference(job, p, s.rule, s.r, s.first, s.second, count, i);
+            let cells = skinds.len();
+            let known = height_noted(scratch, cells + cells + wide(next));
+            if known != 0 {
+                most = greater(most, known);
+                if s.rule {
+                    state = 2;
+                    continue;
+                }
+                i += 1;
+                state = state_at(s.rule, count, i);
+                continue;
+            }
             let w = walk(
                 job,
                 strict,
@@ -179,6 +231,9 @@ fn justify(
             at = push_binding(&mut bound, at, effect_of(binds));
             i += 1;
             state = 0;
+            if s.rule {
+                state = fact_state(job, found, s.first, s.r, count, i);
+            }
             continue;
         }
         state = 1;
