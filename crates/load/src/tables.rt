@@ -247,13 +247,12 @@ pub fn proof_once(kind: u32, ws: &[u32]) -> bool
     true
 }
 
-// 9, by table: the first `distinct` terms need no search.
+// 9, by table.
 pub fn once(
     kinds: &[u32],
     ends: &[u32],
     pool: &[u32],
     z: Sizes,
-    distinct: usize,
     table: usize,
     first: usize,
     i: usize,
@@ -263,16 +262,12 @@ pub fn once(
     requires { ⌜ Held (now kinds) (now ends) (now pool) z ⌝ }
     requires { ⌜ Place z table first i ⌝ }
     requires { ⌜ record { kind = kind; words = now ws } ≡ cellHeld (now kinds) (now ends) (now pool) z (first + i) ⌝ }
-    requires { ⌜ Distinct (now kinds) (now ends) (now pool) z distinct ⌝ }
     ensures { λ r. ⌜ r ≡ getD (onceTests (tablesFor (now (kinds .entry)) (now (ends .entry)) (now (pool .entry)) z)) table passed i (cellHeld (now (kinds .entry)) (now (ends .entry)) (now (pool .entry)) z (first + i)) ⌝ }
 {
     if table == 9 {
         return proof_once(kind, ws);
     }
     if table == 0 {
-        if i < distinct {
-            return true;
-        }
         return is_first(kinds, ends, pool, z, table, first, i);
     }
     if table == 6 {
@@ -290,7 +285,6 @@ pub fn passes(
     ends: &[u32],
     pool: &[u32],
     z: Sizes,
-    distinct: usize,
     round: usize,
     table: usize,
     first: usize,
@@ -298,7 +292,6 @@ pub fn passes(
 ) -> bool
     requires { ⌜ Held (now kinds) (now ends) (now pool) z ⌝ }
     requires { ⌜ Place z table first i ⌝ }
-    requires { ⌜ Distinct (now kinds) (now ends) (now pool) z distinct ⌝ }
     ensures { λ r. ⌜ r ≡ getD (testsFor round (sizesIn z) (tablesFor (now (kinds .entry)) (now (ends .entry)) (now (pool .entry)) z)) table passed i (cellHeld (now (kinds .entry)) (now (ends .entry)) (now (pool .entry)) z (first + i)) ⌝ }
 {
     let f = fill(z);
@@ -314,7 +307,7 @@ pub fn passes(
     if round == 2 {
         return valid(kinds, ends, pool, z, table, ws);
     }
-    once(kinds, ends, pool, z, distinct, table, first, i, kind, ws)
+    once(kinds, ends, pool, z, table, first, i, kind, ws)
 }
 
 // A term passes its test: 6 and 7 are rounds 0 and 1.
@@ -404,7 +397,7 @@ pub fn first_failing(
 {
     let mut i = passed_first(kinds, ends, pool, z, distinct, round, table, count);
     while i < count {
-        if !passes(kinds, ends, pool, z, distinct, round, table, first, i) {
+        if !passes(kinds, ends, pool, z, round, table, first, i) {
             return Found::At(first + i);
         }
         i += 1;

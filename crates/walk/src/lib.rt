@@ -155,9 +155,9 @@ fn justify(
         if state == 1 {
             let next = reference(job, p, s.rule, s.r, s.first, s.second, count, i);
             let cells = skinds.len();
-            let known = height_noted(scratch, cells + cells + wide(next));
-            if known != 0 {
-                most = greater(most, known);
+            let noted = height_noted(scratch, cells + cells + wide(next));
+            if noted != 0 {
+                most = greater(most, noted);
                 if s.rule {
                     state = 2;
                     continue;

@@ -42,7 +42,7 @@ loop-holds c = let s = c .before .before .before .before in
     )
 
 passes-requires : tie.Need-passes-requires Inv-loop μ-loop
-passes-requires c κs = let s = c .before .before .before .before .before .before in (s .pre .0, (record { table = s .pre .1 .0; first = s .pre .1 .1 .0; inside = omega (arith, s .pre .1 .1 .1 .0) }, s .pre .1 .1 .1 .1))
+passes-requires c κs = let s = c .before .before .before .before .before .before in (s .pre .0, record { table = s .pre .1 .0; first = s .pre .1 .1 .0; inside = omega (arith, s .pre .1 .1 .1 .0) })
 
 add-t13 : tie.Need-add-t13 Inv-loop μ-loop
 add-t13 c = let s = c .before .before .before .before .before .before .before .before in omega (arith, place-inside (sizesIn (s .args .z)) (s .args .table) (c .before .before .before .loop .i) (s .pre .1 .0) (omega (arith, s .pre .1 .1 .1 .0)), s .pre .1 .1 .0)

@@ -18,16 +18,16 @@ fill-requires : tie.Need-fill-requires
 fill-requires c κs = search needs
 
 add-at : tie.Need-add-at
-add-at c = omega (arith, place-inside (sizesIn (c .before .before .before .before .args .z)) (c .before .before .before .before .args .table) (c .before .before .before .before .args .i) (c .before .before .before .before .pre .1 .0 .table) (c .before .before .before .before .pre .1 .0 .inside), c .before .before .before .before .pre .1 .0 .first)
+add-at c = omega (arith, place-inside (sizesIn (c .before .before .before .before .args .z)) (c .before .before .before .before .args .table) (c .before .before .before .before .args .i) (c .before .before .before .before .pre .1 .table) (c .before .before .before .before .pre .1 .inside), c .before .before .before .before .pre .1 .first)
 
 mul-kind : tie.Need-mul-kind
-mul-kind c = omega (arith, place-inside (sizesIn (c .before .before .before .before .args .z)) (c .before .before .before .before .args .table) (c .before .before .before .before .args .i) (c .before .before .before .before .pre .1 .0 .table) (c .before .before .before .before .pre .1 .0 .inside), c .before .before .before .before .pre .1 .0 .first)
+mul-kind c = omega (arith, place-inside (sizesIn (c .before .before .before .before .args .z)) (c .before .before .before .before .args .table) (c .before .before .before .before .args .i) (c .before .before .before .before .pre .1 .table) (c .before .before .before .before .pre .1 .inside), c .before .before .before .before .pre .1 .first)
 
 shared-slice-read-kind : tie.Need-shared-slice-read-kind
-shared-slice-read-kind c = omega (arith, place-inside (sizesIn (c .before .before .before .before .before .args .z)) (c .before .before .before .before .before .args .table) (c .before .before .before .before .before .args .i) (c .before .before .before .before .before .pre .1 .0 .table) (c .before .before .before .before .before .pre .1 .0 .inside), c .before .before .before .before .before .pre .1 .0 .first)
+shared-slice-read-kind c = omega (arith, place-inside (sizesIn (c .before .before .before .before .before .args .z)) (c .before .before .before .before .before .args .table) (c .before .before .before .before .before .args .i) (c .before .before .before .before .before .pre .1 .table) (c .before .before .before .before .before .pre .1 .inside), c .before .before .before .before .before .pre .1 .first)
 
 words-requires : tie.Need-words-requires
-words-requires c κs = let fe = c .before .fill .ensures in (rw fe (c .before .before .before .before .before .pre .0 .formed), omega (arith, ap (λ (x : Fill). x .cells) fe, place-inside (sizesIn (c .before .before .before .before .before .args .z)) (c .before .before .before .before .before .args .table) (c .before .before .before .before .before .args .i) (c .before .before .before .before .before .pre .1 .0 .table) (c .before .before .before .before .before .pre .1 .0 .inside), c .before .before .before .before .before .pre .1 .0 .first))
+words-requires c κs = let fe = c .before .fill .ensures in (rw fe (c .before .before .before .before .before .pre .0 .formed), omega (arith, ap (λ (x : Fill). x .cells) fe, place-inside (sizesIn (c .before .before .before .before .before .args .z)) (c .before .before .before .before .before .args .table) (c .before .before .before .before .before .args .i) (c .before .before .before .before .before .pre .1 .table) (c .before .before .before .before .before .pre .1 .inside), c .before .before .before .before .before .pre .1 .first))
 
 fits-requires : tie.Need-fits-requires
 fits-requires c κs = search needs
@@ -41,7 +41,7 @@ returns c = let s = c .before .before .before .before .before .before .before .b
     let n = cellCount (sizesIn (a .z)) in
     let at = a .first + a .i in
     let fe = c .before .before .before .before .fill .ensures in
-    let h : at < n = omega (arith, place-inside (sizesIn (a .z)) (a .table) (a .i) (s .pre .1 .0 .table) (s .pre .1 .0 .inside), s .pre .1 .0 .first) in
+    let h : at < n = omega (arith, place-inside (sizesIn (a .z)) (a .table) (a .i) (s .pre .1 .table) (s .pre .1 .inside), s .pre .1 .first) in
     let this = held-cell K E P n at (c .before .before .words .result .now) h (c .before .before .words .ensures ∙ ap (λ (x : Fill). getD (cellsOf K E P (x .cells)) at noCell .words) fe) in
     let t = tablesFor K E P (a .z) in
     rw (c .before .if1 .taken) (c .fits2 .ensures (a .i) ∙ ap (λ (x : Cell). getD (fitTests t) (a .table) passed (a .i) x) this)
@@ -58,7 +58,7 @@ returns-2 c = let s = c .before .before .before .before .before .before .before 
     let n = cellCount (sizesIn (a .z)) in
     let at = a .first + a .i in
     let fe = c .before .before .before .before .before .fill .ensures in
-    let h : at < n = omega (arith, place-inside (sizesIn (a .z)) (a .table) (a .i) (s .pre .1 .0 .table) (s .pre .1 .0 .inside), s .pre .1 .0 .first) in
+    let h : at < n = omega (arith, place-inside (sizesIn (a .z)) (a .table) (a .i) (s .pre .1 .table) (s .pre .1 .inside), s .pre .1 .first) in
     let this = held-cell K E P n at (c .before .before .before .words .result .now) h (c .before .before .before .words .ensures ∙ ap (λ (x : Fill). getD (cellsOf K E P (x .cells)) at noCell .words) fe) in
     let t = tablesFor K E P (a .z) in
     rw (c .before .if2 .taken) (c .refers .ensures ∙ ap (λ (x : Cell). getD (referTests (sizesIn (a .z))) (a .table) passed (a .i) x) this)
@@ -75,7 +75,7 @@ returns-3 c = let s = c .before .before .before .before .before .before .before 
     let n = cellCount (sizesIn (a .z)) in
     let at = a .first + a .i in
     let fe = c .before .before .before .before .before .before .fill .ensures in
-    let h : at < n = omega (arith, place-inside (sizesIn (a .z)) (a .table) (a .i) (s .pre .1 .0 .table) (s .pre .1 .0 .inside), s .pre .1 .0 .first) in
+    let h : at < n = omega (arith, place-inside (sizesIn (a .z)) (a .table) (a .i) (s .pre .1 .table) (s .pre .1 .inside), s .pre .1 .first) in
     let this = held-cell K E P n at (c .before .before .before .before .words .result .now) h (c .before .before .before .before .words .ensures ∙ ap (λ (x : Fill). getD (cellsOf K E P (x .cells)) at noCell .words) fe) in
     let t = tablesFor K E P (a .z) in
     rw (c .before .if3 .taken) (c .valid .ensures (a .i) _ ∙ ap (λ (x : Cell). getD (validTests t) (a .table) passed (a .i) x) this)
@@ -89,10 +89,10 @@ once-requires c κs = let s = c .before .before .before .before .before .before 
     let n = cellCount (sizesIn (a .z)) in
     let at = a .first + a .i in
     let fe = c .before .before .before .before .before .fill .ensures in
-    let h : at < n = omega (arith, place-inside (sizesIn (a .z)) (a .table) (a .i) (s .pre .1 .0 .table) (s .pre .1 .0 .inside), s .pre .1 .0 .first) in
+    let h : at < n = omega (arith, place-inside (sizesIn (a .z)) (a .table) (a .i) (s .pre .1 .table) (s .pre .1 .inside), s .pre .1 .first) in
     let this = held-cell K E P n at (c .before .before .before .words .result .now) h (c .before .before .before .words .ensures ∙ ap (λ (x : Fill). getD (cellsOf K E P (x .cells)) at noCell .words) fe) in
     let t = tablesFor K E P (a .z) in
-    (s .pre .0, (s .pre .1 .0, (this, s .pre .1 .1)))
+    (s .pre .0, (s .pre .1, this))
 
 returns-4 : tie.Need-returns-4
 returns-4 c = let a = c .before .before .before .before .before .before .before .before .before .before .args in
