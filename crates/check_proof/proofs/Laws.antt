@@ -52,8 +52,11 @@ flags-none W c n m h = record { is = λ p l. ap (ltb 0) (word p) }
     word p = sym (getD-drop (c + c) (putMid (c + c) (length W - (c + c)) W (zeros m)) p 0) ∙ ap (λ (x : List ℕ). getD x p 0) behind ∙ zeros-word m p
 
 -- so no height is noted
+pub height-none : {c : ℕ} {W : List ℕ} {n p : ℕ} → Flags c W n [] → p < n → getD W (c + c + p) 0 ≡ 0
+height-none {c} {W} {n} {p} w l = let x = ltb-false 0 (getD W (c + c + p) 0) (w .is p l) in omega arith
+
 pub heights-none : {J : List ℕ} {c : ℕ} {W : List ℕ} → Flags c W (sizesOf J .proofs) [] → Heights J c W
-heights-none {c = c} {W = W} w = record { is = λ p l z. let x = ltb-false 0 (getD W (c + c + p) 0) (w .is p l) in absurd (omega arith) }
+heights-none w = record { is = λ p l z. let x = height-none w l in absurd (omega arith) }
 
 -- the marks of the global pairs stay
 pub marks-kept : (M R Z : List ℕ) (c k : ℕ) → length M ≡ c → c + c ≤ length (M ++ R) → take c (putMid (c + c) k (M ++ R) Z) ≡ M

@@ -1,18 +1,20 @@
--- The evaluator's turns: an expression that is noted, an argument evaluated, refused, all of them evaluated.
+-- The evaluator's turns: an expression that is noted, an argument evaluated, known, refused, all of them evaluated.
 use mathlib.Core.Path.{_≡_, refl, sym, ap, subst, subst⁻¹, _∙_}
 use mathlib.Core.Logic.{_⊎_, inl, inr}
 use mathlib.Core.Bool.{Bool, true, false, true≢false}
 use mathlib.Core.List.{List, [], _∷_, List·Memᴰ, List·Memᴰ·head, List·Memᴰ·tail, List·Memᴰ·not-nil, List·Memᴰ·cases-cons}
+use mathlib.Core.Option.{some}
 use Prim.Native.Nat.{ℕ, zero, suc, _+_, _<_, _≤_}
 use native.Mathlib.Nat.{not-suc-le-zero, le-of-suc-le-suc}
 use native.Mathlib.Omega.{arith}
 use lib.Dec.{eqb}
 use borrow.Author.Tests.{eqb-true, eqb-false}
-use lib.ListN.{length, getD, set, take, length-set}
+use lib.ListN.{length, getD, set, take, replicate, length-set}
+use Rattle.model.specs.Cell.{noCell}
 use Rattle.model.specs.Layout.{sizesOf}
 use Rattle.model.specs.Term.{Term, Extends}
-use Rattle.model.specs.Program.{Head, Expr, node, Binding, Program}
-use Rattle.model.specs.Decode.{argumentsBy}
+use Rattle.model.specs.Program.{Head, variable, Expr, node, Binding, Program}
+use Rattle.model.specs.Decode.{readHead, readArguments, argumentsBy}
 use Rattle.model.specs.Check.{Outcome, ok, refused, Check, andThen, Room}
 use Rattle.model.proofs.Post.{post-result}
 use Rattle.model.proofs.Store.{extends-same}
@@ -26,10 +28,14 @@ use Rattle.outcome.specs.declared.Checked.{Checked}
 use Rattle.outcome.proofs.Laws.{ok-of, room-same, does-here}
 use Rattle.model.proofs.Fuel.{expr-node}
 use Rattle.model.proofs.Valid.{expressions-lower}
+use Rattle.decode.specs.View.{cell}
+use Rattle.decode.specs.declared.Head as view
+use Rattle.program.specs.declared.Looked.{Looked}
 use Rattle.program.specs.Ready.{tablesFor, Ready, programFor}
 use Rattle.program.specs.Read.{exprFor, argumentsFor, headFor}
 use Rattle.evaluate.specs.Value.{evalFor, valueFor, headTerm, evalTerm, evalTerms, Reaches, here, down}
-use Rattle.evaluate.specs.Evaluation.{Memo, Noted, Evaluates, EvaluatesRoot}
+use Rattle.evaluate.specs.Evaluation.{Memo, Knows, noted, bound, unknown, Noted, Evaluates, EvaluatesRoot}
+use Rattle.evaluate.proofs.HeadValues.{given-some, head-does, variable-does}
 use Rattle.evaluate.proofs.Collecting.{each, each-is, rest, Run, run-start, run-stop, run-turn, run-done}
 use Rattle.evaluate.proofs.Settling.{value-term, head-settled, term-again}
 
@@ -46,6 +52,13 @@ place-of (x ∷ xs) a m = go (List·Memᴰ·cases-cons m) (place-of xs a)
     go : (a ≡ x) ⊎ List·Memᴰ a xs → (List·Memᴰ a xs → (i : ℕ) × (i < length xs) × (getD xs i 0 ≡ a)) → (i : ℕ) × (i < length (x ∷ xs)) × (getD (x ∷ xs) i 0 ≡ a)
     go (inl e) r = (0, omega arith, sym e)
     go (inr m) r = let p = r m in (suc (p .0), let q = p .1 in omega arith, p .2)
+
+-- the head that was read
+pub at-head : (fact : Bool) (room : Room) (prog : Program) (rule : ℕ) (σ : List Binding) (ts : List ℕ) (s : List Term) {g h : Head}
+    {K E P I : List ℕ} {f : Fill} {K′ E′ P′ I′ : List ℕ} {f′ : Fill} {r : Refusal} {a : ℕ} → g ≡ h
+    → Does K E P I f K′ E′ P′ I′ f′ r a (headTerm fact room prog rule σ g ts s) → Does K E P I f K′ E′ P′ I′ f′ r a (headTerm fact room prog rule σ h ts s)
+at-head fact room prog rule σ ts s {K = K} {E = E} {P = P} {I = I} {f = f} {K′ = K′} {E′ = E′} {P′ = P′} {I′ = I′} {f′ = f′} {r = r} {a = a} e d =
+    subst (λ (x : Head). Does K E P I f K′ E′ P′ I′ f′ r a (headTerm fact room prog rule σ x ts s)) e d
 
 module _ (fact : Bool) (prog : Program) (rule : ℕ) (σ : List Binding) (n : ℕ) (args : ℕ → List ℕ) (head : ℕ → Head) (expr : ℕ → Expr) where
   abbrev eval : Room → ℕ → Check ℕ
@@ -208,16 +221,52 @@ module _ (fact : Bool) (prog : Program) (rule : ℕ) (σ : List Binding) (n : �
         noted = note-noted;
       })
 
+  -- an expression whose value needs no evaluation
+  pub knows : {e : ℕ} {K E P I : List ℕ} {f : Fill} {m : List ℕ} {r : Looked} {m′ : List ℕ} {t : ℕ} → e < n → expr e ≡ node e (head e) (argumentsBy expr (args e)) → ((x : ℕ) → variable x ≡ head e → args e ≡ [])
+      → Indexed K E P I f → Memo args (eval (roomOf K P)) n (termsIn K E P f) m → Knows head σ e m r m′ → r ≡ Looked.Some t
+      → Evaluates args eval n e K E P I f m K E P I (record { refusal = passed; value = t; fill = f }) m′
+  knows {e} {K} {E} {P} {I} {f} {m} {r} {m′} {t} h d a S M (noted p q g) z =
+      let y : t ≡ valueAt m e = cc in
+      subst⁻¹ (Evaluates args eval n e K E P I f m K E P I (record { refusal = passed; value = t; fill = f })) g
+      (known h S M p (ap (λ (v : ℕ). record { refusal = passed; value = v; fill = f }) y))
+  knows {e} {K} {E} {P} {I} {f} {m} {r} {m′} {t} h d a S M (bound x u p q b g) z =
+      let y : u ≡ t = cc in
+      finishes (start {vals = replicate 16 0} d refl S M refl) (rw (a x p) (omega arith)) refl h
+      (at-head fact (roomOf K P) prog rule σ _ (termsIn K E P f) p
+      (head-does fact (roomOf K P) prog rule σ _ (termsIn K E P f) (view.Head.Var x) (view.Head.Var x) refl
+      (variable-does S (given-some (record { refusal = passed; value = t; fill = f }) t 45 (rule ∷ x ∷ []) f refl (ap (λ (v : ℕ). some v) (sym y) ∙ q)))))
+      (g ∙ ap (noteAt m e) y)
+  knows h d a S M (unknown p g) z = let y : _≡_ {A = ℕ} 0 1 = cc in absurd (omega arith)
+
+  -- the next argument: its value is known, or nothing changed
+  module _ {e : ℕ} {xs K₀ E₀ P₀ I₀ : List ℕ} {f₀ : Fill} {m₀ K E P I : List ℕ} {f : Fill} {m vals : List ℕ} {i : ℕ} (T : Turn e xs K₀ E₀ P₀ I₀ f₀ m₀ K E P I f m vals i)
+      {r : Looked} {m′ : List ℕ} (w : Knows head σ (getD xs i 0) m r m′) where
+    pub turn-known : {t : ℕ} → i < length xs → xs ≡ args e → length xs ≤ 16 → ((j : ℕ) → j < length xs → getD xs j 0 < n) → ((a : ℕ) → expr a ≡ node a (head a) (argumentsBy expr (args a)))
+        → ((a x : ℕ) → variable x ≡ head a → args a ≡ []) → length m′ ≡ length m → r ≡ Looked.Some t → Turn e xs K₀ E₀ P₀ I₀ f₀ m₀ K E P I f m′ (set vals i t) (i + 1)
+    turn-known h q few low d a l z = turns T h (knows (low i h) (d (getD xs i 0)) (a (getD xs i 0)) (T .run .grown .indexed) (next-memo T) w z) q few low l refl
+
+    pub turn-unknown : r ≡ Looked.None → Turn e xs K₀ E₀ P₀ I₀ f₀ m₀ K E P I f m′ vals i
+    turn-unknown z = go w
+      where
+        go : Knows head σ (getD xs i 0) m r m′ → Turn e xs K₀ E₀ P₀ I₀ f₀ m₀ K E P I f m′ vals i
+        go (noted p q g) = let y : _≡_ {A = ℕ} 0 1 = cc in absurd (omega arith)
+        go (bound x u p q b g) = let y : _≡_ {A = ℕ} 0 1 = cc in absurd (omega arith)
+        go (unknown p g) = subst⁻¹ (λ (l : List ℕ). Turn e xs K₀ E₀ P₀ I₀ f₀ m₀ K E P I f l vals i) g T
+
 -- an expression of an admitted job is its head over its arguments
 pub node-for : {J : List ℕ} → Ready J → (e : ℕ) → exprFor J e ≡ node e (headFor J e) (argumentsBy (exprFor J) (argumentsFor J e))
 node-for {J} R e = expr-node (tablesFor J .expressions) (expressions-lower (sizesOf J) (tablesFor J) (R .admitted)) e
 
--- the head that was read
-pub at-head : (fact : Bool) (room : Room) (prog : Program) (rule : ℕ) (σ : List Binding) (ts : List ℕ) (s : List Term) {g h : Head}
-    {K E P I : List ℕ} {f : Fill} {K′ E′ P′ I′ : List ℕ} {f′ : Fill} {r : Refusal} {a : ℕ} → g ≡ h
-    → Does K E P I f K′ E′ P′ I′ f′ r a (headTerm fact room prog rule σ g ts s) → Does K E P I f K′ E′ P′ I′ f′ r a (headTerm fact room prog rule σ h ts s)
-at-head fact room prog rule σ ts s {K = K} {E = E} {P = P} {I = I} {f = f} {K′ = K′} {E′ = E′} {P′ = P′} {I′ = I′} {f′ = f′} {r = r} {a = a} e d =
-    subst (λ (x : Head). Does K E P I f K′ E′ P′ I′ f′ r a (headTerm fact room prog rule σ x ts s)) e d
+-- a variable has no arguments
+pub no-arguments : (J : List ℕ) (e x : ℕ) → variable x ≡ headFor J e → argumentsFor J e ≡ []
+no-arguments J e x q = let c = getD (tablesFor J .expressions) e noCell in go (c .kind) (c .words) q
+  where
+    go : (k : ℕ) (ws : List ℕ) → variable x ≡ readHead (cell k ws) → readArguments (cell k ws) ≡ []
+    go zero ws q = refl
+    go (suc zero) ws q = refl
+    go (suc (suc zero)) ws q = let z : _≡_ {A = ℕ} 0 1 = cc in absurd (omega arith)
+    go (suc (suc (suc zero))) ws q = let z : _≡_ {A = ℕ} 0 1 = cc in absurd (omega arith)
+    go (suc (suc (suc (suc k)))) ws q = let z : _≡_ {A = ℕ} 0 1 = cc in absurd (omega arith)
 
 -- an evaluation by itself: the memo says nothing yet
 pub root-memo : {args : ℕ → List ℕ} {eval : ℕ → Check ℕ} {n : ℕ} {s : List Term} {m : List ℕ} → n + n < length m → Started m → Memo args eval n s m

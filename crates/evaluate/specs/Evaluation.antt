@@ -3,13 +3,16 @@ use Prim.Native.Nat.{ℕ, _+_, _<_}
 use mathlib.Core.Path.{_≡_}
 use mathlib.Core.Logic.{_⊎_}
 use mathlib.Core.List.{List, List·Memᴰ}
+use mathlib.Core.Option.{some}
 use mathlib.Core.Bool.{true}
 use lib.ListN.{length}
 use Rattle.model.specs.Term.{Term, Ordered}
-use Rattle.model.specs.Program.{Binding, Row, Program}
+use Rattle.model.specs.Program.{Head, variable, Binding, Row, Program}
 use Rattle.model.specs.Check.{Outcome, ok, Check, Room}
+use Rattle.model.specs.Evaluate.{lookup}
+use Rattle.program.specs.declared.Looked.{Looked}
 use Rattle.termdag.specs.Store.{termsIn, roomOf}
-use Rattle.memo.specs.Memo.{valueAt, isNoted, Past}
+use Rattle.memo.specs.Memo.{valueAt, isNoted, noteAt, Past}
 use Rattle.outcome.specs.Does.{Does}
 use Rattle.outcome.specs.declared.Checked.{Checked}
 use Rattle.outcome.specs.declared.Refusal.{Refusal}
@@ -28,6 +31,12 @@ pub record Memo (args : ℕ → List ℕ) (eval : ℕ → Check ℕ) (n : ℕ) (
   pub past : Past m
   pub value : (k : ℕ) → k < n → isNoted m k ≡ true → eval k s ≡ ok (valueAt m k) s
   pub closed : (k a : ℕ) → k < n → isNoted m k ≡ true → List·Memᴰ a (args k) → isNoted m a ≡ true
+
+-- The value r of e that needs no evaluation, and the memo after: e is noted, or a variable that is bound, which is noted then. Without a value nothing is noted.
+pub data Knows (head : ℕ → Head) (σ : List Binding) (e : ℕ) (m : List ℕ) (r : Looked) (m′ : List ℕ) : Type 0 where
+  noted : isNoted m e ≡ true → r ≡ Looked.Some (valueAt m e) → m′ ≡ m → Knows head σ e m r m′
+  bound : (x t : ℕ) → variable x ≡ head e → some t ≡ lookup σ x → r ≡ Looked.Some t → m′ ≡ noteAt m e t → Knows head σ e m r m′
+  unknown : r ≡ Looked.None → m′ ≡ m → Knows head σ e m r m′
 
 -- What is noted after the evaluation of e: what was, and e with all below it.
 pub record Noted (args : ℕ → List ℕ) (n e : ℕ) (m m′ : List ℕ) : Type 0 where

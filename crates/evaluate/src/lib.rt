@@ -31,9 +31,9 @@ ghost use Rattle.decode.specs.View.{headOf};
 ghost use Rattle.decode.specs.declared.Head as heads;
 ghost use Rattle.memo.specs.Memo.{Past};
 ghost use Rattle.outcome.specs.Does.{outcomeOf, Does};
-ghost use Rattle.program.specs.Read.{argumentsFor};
+ghost use Rattle.program.specs.Read.{headFor, argumentsFor};
 ghost use Rattle.evaluate.specs.Value.{customTerm, headTerm, bindingsIn, evalFor, valueFor};
-ghost use Rattle.evaluate.specs.Evaluation.{Memo, Evaluates, EvaluatesRoot};
+ghost use Rattle.evaluate.specs.Evaluation.{Memo, Knows, Evaluates, EvaluatesRoot};
 
 // The term bound to a name: by conditions and lets, by the substitution, by the globals.
 pub fn lookup(bound: &[u32], pairs: &[u32], globals: &[u32], name: u32) -> Looked
@@ -170,6 +170,37 @@ pub fn head_value(
     }
 }
 
+// The value of an expression that needs no evaluation: it is noted, or a variable that is bound, which is noted then.
+fn known_value(
+    job: &[u32],
+    bound: &[u32],
+    pairs: &[u32],
+    globals: &[u32],
+    memo: &mut [u32],
+    e: u32,
+) -> Looked
+    requires { ⌜ Ready (now job) ⌝ }
+    requires { ⌜ e < sizesOf (now job) .expressions ⌝ }
+    requires { ⌜ e + e + 2 < length (now memo) ⌝ }
+    ensures { λ r. ⌜ Knows (headFor (now (job .entry))) (bindingsIn (now (bound .entry)) (now (pairs .entry)) (now (globals .entry))) e (now (memo .entry)) r (now (memo .exit)) ⌝ }
+{
+    let at = wide(e);
+    if memo::is_noted(memo, at) {
+        return Looked::Some(memo::value_of(memo, at));
+    }
+    let head = head_at(job, at);
+    let Head::Var(x) = head else {
+        return Looked::None;
+    };
+    match lookup(bound, pairs, globals, x) {
+        Looked::Some(t) => {
+            memo::note(memo, at, t);
+            Looked::Some(t)
+        }
+        Looked::None => Looked::None,
+    }
+}
+
 // The value of expression e, noted. One that is noted is not evaluated again; the term that it was in an earlier round is looked at first.
 fn eval(
     job: &[u32],
@@ -202,6 +233,12 @@ fn eval(
     let mut have = fill;
     let mut i = 0;
     while i < count {
+        let known = known_value(job, bound, pairs, globals, memo, args[i]);
+        if let Looked::Some(t) = known {
+            vals[i] = t;
+            i += 1;
+            continue;
+        }
         let r = eval(
             job,
             bound,

@@ -1,3 +1,4 @@
 pub mod Claiming
+pub mod Lone
 pub mod Merging
 pub mod Heading

@@ -1,11 +1,12 @@
 -- The contracts of rule heads and merges.
-use Prim.Native.Nat.{ℕ}
+use Prim.Native.Nat.{ℕ, _<_}
 use mathlib.Core.Path.{_≡_}
-use mathlib.Core.List.{List, []}
+use mathlib.Core.List.{List, [], _∷_, map}
 use mathlib.Core.Bool.{Bool, true, false}
 use lib.ListN.{length}
+use Rattle.model.specs.Layout.{sizesOf}
 use Rattle.model.specs.Term.{Extends}
-use Rattle.model.specs.Program.{Proposition, Binding, Program, Action, Rule}
+use Rattle.model.specs.Program.{Proposition, Binding, Program, Action, run, Rule}
 use Rattle.model.specs.Action.{ActionContext, startContext, processActions, among, checkRuleProducesEquality}
 use Rattle.termdag.specs.Store.{termsIn, roomOf}
 use Rattle.index.specs.declared.Fill.{Fill}
@@ -14,6 +15,7 @@ use Rattle.outcome.specs.Does.{Does}
 use Rattle.outcome.specs.declared.Checked.{Checked}
 use Rattle.marks.specs.Marks.{zeros}
 use Rattle.marks.specs.Covering.{Marks}
+use Rattle.program.specs.Read.{exprFor, actionFor}
 use Rattle.evaluate.specs.Evaluation.{Sane, Checks}
 use Rattle.heads.specs.declared.Headed.{Headed}
 
@@ -26,6 +28,12 @@ clearedIf false m = m
 abbrev pub claimedBy : Bool → Bool → Bool → Bool
 claimedBy true found marked = marked
 claimedBy false found marked = found
+
+-- There is marking, and the actions xs are one that evaluates expression e.
+pub record LoneRun (J : List ℕ) (marking : Bool) (xs : List ℕ) (e : ℕ) : Type 0 where
+  pub marked : marking ≡ true
+  pub within : e < sizesOf J .expressions
+  pub is : map (actionFor J) xs ≡ run (exprFor J e) ∷ []
 
 -- The actions of a head with the bindings σ: the context after. A pair q of it that is not reflexive is a union's; the marks stand for the reflexive ones, if there is marking.
 pub record Heads (prog : Program) (rule : ℕ) (as′ : List Action) (σ : List Binding) (q : Proposition) (marking : Bool) (K E P I : List ℕ) (f : Fill) (m K′ E′ P′ I′ : List ℕ) (r : Headed) (memo′ m′ : List ℕ) : Type 0 where

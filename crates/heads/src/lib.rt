@@ -3,15 +3,23 @@ use actions::Effect;
 use actions::process_action;
 use actions::push_binding;
 use actions::yield_value;
+use cells::wide;
+use decode::Action;
 use decode::Merge;
 use decode::Name;
 use decode::Proposition;
+use evaluate::evaluate;
 use index::Fill;
 use outcome::Checked;
 use outcome::Refusal;
 use outcome::pass;
 use outcome::refuse1;
+use pairs::mark_values;
+use program::Looked;
+use program::job::EXPRESSIONS;
+use program::job::size;
 use program::merge_of;
+use program::read::action_at;
 use program::read::rule_actions_at;
 use program::read::rule_name_at;
 ghost use mathlib.Core.Path.{_≡_};
@@ -20,17 +28,19 @@ ghost use Prim.Native.Nat.{ℕ, _≤_, _<_};
 ghost use lib.ListN.{length, getD};
 ghost use Rattle.model.specs.Layout.{sizesOf};
 ghost use Rattle.model.specs.Term.{Term};
+ghost use Rattle.model.specs.Program.{Rule, run};
 ghost use Rattle.model.specs.Check.{checkThat};
 ghost use Rattle.model.specs.Action as model;
 ghost use Rattle.decode.specs.View.{propositionOf};
 ghost use Rattle.termdag.specs.Store.{termsIn, Stored, roomOf};
 ghost use Rattle.outcome.specs.Does.{outcomeOf};
 ghost use Rattle.marks.specs.Marks as closing;
-ghost use Rattle.program.specs.Ready.{programFor, ruleFor};
-ghost use Rattle.program.specs.Read.{actionFor};
+ghost use Rattle.program.specs.declared.Looked as looked;
+ghost use Rattle.program.specs.Ready.{Ready, programFor, ruleFor};
+ghost use Rattle.program.specs.Read.{exprFor, actionFor};
 ghost use Rattle.evaluate.specs.Value.{bindingsIn};
 ghost use Rattle.actions.specs.Acting.{Standing, Yields, effectHas};
-ghost use Rattle.heads.specs.Heading.{clearedIf, claimedBy, Heads, Produces};
+ghost use Rattle.heads.specs.Heading.{clearedIf, claimedBy, LoneRun, Heads, Produces};
 
 // What a head's actions give: whether the claimed pair, if it is not reflexive, is among their pairs.
 pub struct Headed {
@@ -190,6 +200,77 @@ fn produced(claimed: bool, rule: u32, q: Proposition, fill: Fill) -> Checked
     }
 }
 
+// The expression of a head that is one action, a set or an expression, if there is marking.
+fn lone_run(job: &[u32], marking: bool, actions: &[u32]) -> Looked
+    requires { ⌜ Ready (now job) ⌝ }
+    requires { ⌜ ((i : ℕ) → i < length (now actions) → getD (now actions) i 0 < sizesOf (now job) .actions) ⌝ }
+    ensures { λ r. ⌜ ((e : ℕ) → r ≡ looked.Looked.Some e → LoneRun (now (job .entry)) marking (now (actions .entry)) e) ⌝ }
+{
+    if !marking {
+        return Looked::None;
+    }
+    if actions.len() != 1 {
+        return Looked::None;
+    }
+    let action = action_at(job, wide(actions[0]));
+    match action {
+        Action::Let(_, _) => Looked::None,
+        Action::Union(_, _) => Looked::None,
+        Action::Run(e) => Looked::Some(e),
+        Action::Idle => Looked::None,
+    }
+}
+
+// A head of one such action, for a reflexive claim: its value is compared first, and marked with those below it only where it is another.
+fn run_produces(
+    job: &[u32],
+    bound: &[u32],
+    pairs: &[u32],
+    globals: &[u32],
+    rule: u32,
+    skinds: &mut [u32],
+    sends: &mut [u32],
+    spool: &mut [u32],
+    index: &mut [u32],
+    fill: Fill,
+    memo: &mut [u32],
+    marks: &mut [u32],
+    e: u32,
+    q: Proposition,
+) -> Checked
+    requires { ⌜ Standing (now job) (bindingsIn (now bound) (now pairs) (now globals)) (now skinds) (now sends) (now spool) (now index) fill (now memo) (now marks) ⌝ }
+    requires { ⌜ e < sizesOf (now job) .expressions ⌝ }
+    requires { ⌜ q .lhs ≡ q .rhs ⌝ }
+    ensures { λ c. ⌜ ((t : Rule) → rule ≡ t .name → run (exprFor (now (job .entry)) e) ∷ [] ≡ t .actions → Produces (programFor (now (job .entry))) t (bindingsIn (now (bound .entry)) (now (pairs .entry)) (now (globals .entry))) (propositionOf q) (now (skinds .entry)) (now (sends .entry)) (now (spool .entry)) (now (index .entry)) fill (now (skinds .exit)) (now (sends .exit)) (now (spool .exit)) (now (index .exit)) c (now (memo .exit))) ⌝ }
+{
+    let v = evaluate(
+        job,
+        bound,
+        pairs,
+        globals,
+        rule,
+        false,
+        skinds,
+        sends,
+        spool,
+        index,
+        fill,
+        memo,
+        e,
+    );
+    if v.refusal.number != 0 {
+        return v;
+    }
+    let have = v.fill;
+    if v.value == q.lhs {
+        return pass(0, have);
+    }
+    marks::clear(marks);
+    mark_values(memo, size(job, EXPRESSIONS), marks);
+    let claimed = is_covered(skinds, sends, spool, have, marks, q.lhs);
+    produced(claimed, rule, q, have)
+}
+
 // `check_rule_produces_equality` for rule r.
 pub fn check_rule_produces_equality(
     job: &[u32],
@@ -212,9 +293,28 @@ pub fn check_rule_produces_equality(
     ensures { λ c. ⌜ Produces (programFor (now (job .entry))) (ruleFor (now (job .entry)) r) (bindingsIn (now (bound .entry)) (now (pairs .entry)) (now (globals .entry))) (propositionOf q) (now (skinds .entry)) (now (sends .entry)) (now (spool .entry)) (now (index .entry)) fill (now (skinds .exit)) (now (sends .exit)) (now (spool .exit)) (now (index .exit)) c (now (memo .exit)) ⌝ }
 {
     let marking = q.lhs == q.rhs;
-    clear_if(marking, marks);
     let rule = rule_name_at(job, r);
     let actions = rule_actions_at(job, r);
+    let lone = lone_run(job, marking, actions);
+    if let Looked::Some(e) = lone {
+        return run_produces(
+            job,
+            bound,
+            pairs,
+            globals,
+            rule,
+            skinds,
+            sends,
+            spool,
+            index,
+            fill,
+            memo,
+            marks,
+            e,
+            q,
+        );
+    }
+    clear_if(marking, marks);
     let h = head_actions(
         job,
         bound,

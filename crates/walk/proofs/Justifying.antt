@@ -23,7 +23,6 @@ use Rattle.index.specs.declared.Fill.{Fill}
 use Rattle.termdag.specs.Store.{termsIn, roomOf}
 use Rattle.outcome.specs.Does.{passed, refusal, Does}
 use Rattle.outcome.specs.declared.Refusal.{Refusal}
-use Rattle.outcome.specs.declared.Checked.{Checked}
 use Rattle.outcome.proofs.Laws.{ok-of, does-here, does-stop}
 use Rattle.program.specs.Ready.{Ready, programFor}
 use Rattle.program.specs.Read.{proofsFor, proofCell}
@@ -90,16 +89,15 @@ module _ (J : List ℕ) (strict : Bool) (F G U : List ℕ) (p : ℕ) where
   is-walk room ps done s b h = ap (λ (x : Bool). choose x (pure done) (stepOf room ps done >>= λ d. pure (p ∷ d)) s) (sym h)
 
   module _ {k e q ix : List ℕ} {f : Fill} {memo W : List ℕ} (g : Ground J F G k e q ix f memo W) (lt : p < sizesOf J .proofs) where
-    pub walk-known : {h : ℕ} {c : Checked} → h ≡ getD W (length k + length k + p) 0 → (h ≡ 0 → ⊥) → c ≡ record { refusal = passed; value = h; fill = f }
-        → Walks J F G U k e q ix f W k e q ix (c .fill) (c .refusal) memo W (λ d. d) walkOf × (c .refusal .number ≡ 0 → c .value ≡ height prog proofs p)
-    walk-known {h} w z d = subst⁻¹ (λ (x : Checked). Walks J F G U k e q ix f W k e q ix (x .fill) (x .refusal) memo W (λ d. d) walkOf × (x .refusal .number ≡ 0 → x .value ≡ height prog proofs p)) d (
+    pub walk-known : {h : ℕ} → h ≡ getD W (length k + length k + p) 0 → (h ≡ 0 → ⊥) → Walks J F G U k e q ix f W k e q ix f passed memo W (λ d. d) walkOf × (h ≡ height prog proofs p)
+    walk-known {h} w z = (
       walks-here g (λ ps done y. does-here (g .indexed) (is-walk (roomOf k q) ps done (termsIn k e q f) true (sym (y .is p lt) ∙ ap (ltb 0) (sym w) ∙ lt-ltb 0 h (omega arith)))),
-      λ _. w ∙ g .heights .is p lt (omega arith),
+      w ∙ g .heights .is p lt (omega arith),
     )
 
-    module _ {n : ℕ} (w₀ : n ≡ getD W (length k + length k + p) 0) (z : n ≡ 0) {k₁ e₁ p₁ ix₁ : List ℕ} {f₁ : Fill} {r : Refusal} {memo₁ W₁ : List ℕ} (w : Walks J F G U k e q ix f W k₁ e₁ p₁ ix₁ f₁ r memo₁ W₁ (λ d. d) stepOf) where
+    module _ (z : getD W (length k + length k + p) 0 ≡ 0) {k₁ e₁ p₁ ix₁ : List ℕ} {f₁ : Fill} {r : Refusal} {memo₁ W₁ : List ℕ} (w : Walks J F G U k e q ix f W k₁ e₁ p₁ ix₁ f₁ r memo₁ W₁ (λ d. d) stepOf) where
       unknown : ltb 0 (getD W (length k + length k + p) 0) ≡ false
-      unknown = ap (ltb 0) (sym w₀ ∙ z)
+      unknown = ap (ltb 0) z
 
       pub walk-stops : (r .number ≡ 0 → ⊥) → Walks J F G U k e q ix f W k₁ e₁ p₁ ix₁ f₁ r memo₁ W₁ (λ d. d) walkOf
       walk-stops n = record {

@@ -241,7 +241,7 @@ fn justify(
     pass(most + 1, have)
 }
 
-// `check_proof_with_context`: a proof that is checked already is not checked again. The value is the proof's height.
+// `check_proof_with_context` for a proof that is not checked yet: one that is, is not walked. The value is the proof's height.
 pub fn walk(
     job: &[u32],
     strict: bool,
@@ -259,15 +259,12 @@ pub fn walk(
 ) -> Checked
     requires { ⌜ Ground (now job) (now found) (now globals) (now skinds) (now sends) (now spool) (now index) fill (now memo) (now scratch) ⌝ }
     requires { ⌜ p < sizesOf (now job) .proofs ⌝ }
+    requires { ⌜ getD (now scratch) (length (now skinds) + length (now skinds) + p) 0 ≡ 0 ⌝ }
     ensures does { λ r. ⌜ Walks (now (job .entry)) (now (found .entry)) (now (globals .entry)) (now (unions .entry)) (now (skinds .entry)) (now (sends .entry)) (now (spool .entry)) (now (index .entry)) fill (now (scratch .entry)) (now (skinds .exit)) (now (sends .exit)) (now (spool .exit)) (now (index .exit)) (r .fill) (r .refusal) (now (memo .exit)) (now (scratch .exit)) (λ d. d) (λ room ps done. checkProofWithContext room (programFor (now (job .entry))) (proofsFor (now (job .entry))) (contextOf (now (globals .entry)) ps) strict (suc p) p done) ⌝ }
     ensures high { λ r. ⌜ (r .refusal .number ≡ 0 → r .value ≡ height (programFor (now (job .entry))) (proofsFor (now (job .entry))) p) ⌝ }
 {
     let cells = skinds.len();
     let at = cells + cells + wide(p);
-    let known = height_noted(scratch, at);
-    if known != 0 {
-        return pass(known, fill);
-    }
     let r = justify(
         job,
         strict,

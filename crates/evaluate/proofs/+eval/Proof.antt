@@ -1,5 +1,5 @@
 use lib.ListN.{length, length-take}
-use Rattle.evaluate.proofs.Turns.{Turn, known, start, next-memo, stops, turns, finishes, node-for, at-head}
+use Rattle.evaluate.proofs.Turns.{Turn, known, start, next-memo, stops, turns, finishes, turn-known, turn-unknown, node-for, no-arguments, at-head}
 use Rattle.program.specs.Read.{exprFor, argumentsFor, headFor}
 use Rattle.evaluate.specs.Value.{bindingsIn}
 use Rattle.program.specs.Ready.{programFor}
@@ -17,6 +17,7 @@ use Rattle.evaluate.proofs.eval.Kinds as eval-kinds
 use Rattle.evaluate.proofs.+eval.Lts-eval as eval-lts
 use Rattle.cells.proofs.wide.Reads as wide-reads
 use Rattle.evaluate.proofs.head_value.Reads as head-value-reads
+use Rattle.evaluate.proofs.known_value.Reads as known-value-reads
 use Rattle.memo.proofs.is_noted.Reads as is-noted-reads
 use Rattle.memo.proofs.note.Reads as note-reads
 use Rattle.memo.proofs.value_of.Reads as value-of-reads
@@ -44,7 +45,7 @@ eval-μ-loop job bound pairs globals rule fact skinds₀ sends₀ spool₀ index
     length args - i
 
 abbrev R-eval : ℕ → eval-lts.Claims
-R-eval t = (wide-reads.Asked, wide-reads.Learnt, is-noted-reads.Asked, is-noted-reads.Learnt, value-of-reads.Asked, value-of-reads.Learnt, pass-reads.Asked, pass-reads.Learnt, arguments-at-reads.Asked, arguments-at-reads.Learnt, eval-below t, eval.Post, head-at-reads.Asked, head-at-reads.Learnt, head-value-reads.Asked, head-value-reads.Learnt, note-reads.Asked, note-reads.Learnt)
+R-eval t = (wide-reads.Asked, wide-reads.Learnt, is-noted-reads.Asked, is-noted-reads.Learnt, value-of-reads.Asked, value-of-reads.Learnt, pass-reads.Asked, pass-reads.Learnt, arguments-at-reads.Asked, arguments-at-reads.Learnt, known-value-reads.Asked, known-value-reads.Learnt, eval-below t, eval.Post, head-at-reads.Asked, head-at-reads.Learnt, head-value-reads.Asked, head-value-reads.Learnt, note-reads.Asked, note-reads.Learnt)
 
 eval-wide-requires : (t : ℕ) → eval-lts.Need-wide-requires (R-eval t) (eval-at t) eval.Post eval-Inv-loop eval-μ-loop
 eval-wide-requires t c κs = search needs
@@ -70,6 +71,36 @@ eval-arguments-at-requires t c κs = let pre = c .before .before .before .before
 eval-loop-holds : (t : ℕ) → eval-lts.Need-loop-holds (R-eval t) (eval-at t) eval.Post eval-Inv-loop eval-μ-loop
 eval-loop-holds t c = let a = c .before .before .before .before .before .before .before .before .before .before .before .before .before .before .args in let pre = c .before .before .before .before .before .before .before .before .before .before .before .before .before .before .pre .1 in let prog = programFor (a .job .now) in let σ = bindingsIn (a .bound .now) (a .pairs .now) (a .globals .now) in let args = argumentsFor (a .job .now) in let head = headFor (a .job .now) in let expr = exprFor (a .job .now) in start (a .fact) prog (a .rule) σ (sizesOf (a .job .now) .expressions) args head expr (node-for (pre .0) (a .e)) (c .arguments-at .ensures .is ∙ ap args (c .before .before .before .before .wide .ensures)) (pre .1 .0) (pre .1 .1 .1) refl
 
+eval-mul-known-value : (t : ℕ) → eval-lts.Need-mul-known-value (R-eval t) (eval-at t) eval.Post eval-Inv-loop eval-μ-loop
+eval-mul-known-value t c = search needs
+
+eval-shared-slice-read-known-value : (t : ℕ) → eval-lts.Need-shared-slice-read-known-value (R-eval t) (eval-at t) eval.Post eval-Inv-loop eval-μ-loop
+eval-shared-slice-read-known-value t c = search needs
+
+eval-known-value-requires : (t : ℕ) → eval-lts.Need-known-value-requires (R-eval t) (eval-at t) eval.Post eval-Inv-loop eval-μ-loop
+eval-known-value-requires t c κs = let pre = c .before .before .before .before .before .before .before .before .before .before .before .before .before .before .before .before .before .before .pre .1 in let l = c .before .before .before .before .arguments-at .ensures .lower (c .before .before .before .loop .i) (search needs) in let w = c .before .before .before .before .before .before .before .before .wide .ensures in let h = pre .1 .1 .0 in let m = c .before .before .before .loop .inv .memo .long in (pre .0, (omega arith, omega arith))
+
+eval-enum-known-known : (t : ℕ) → eval-lts.Need-enum-known-known (R-eval t) (eval-at t) eval.Post eval-Inv-loop eval-μ-loop
+eval-enum-known-known t c = search needs
+
+eval-mul-vals : (t : ℕ) → eval-lts.Need-mul-vals (R-eval t) (eval-at t) eval.Post eval-Inv-loop eval-μ-loop
+eval-mul-vals t c = let i = c .before .before .before .before .before .before .before .before .loop-test .taken in let f = c .before .before .before .before .before .before .before .before .before .before .arguments-at .ensures .few in record { fits = omega arith }
+
+eval-array-write-vals : (t : ℕ) → eval-lts.Need-array-write-vals (R-eval t) (eval-at t) eval.Post eval-Inv-loop eval-μ-loop
+eval-array-write-vals t c = let f = c .before .before .before .before .before .before .before .before .before .before .arguments-at .ensures .few in let h = c .before .before .before .before .before .before .before .before .before .loop .inv .full in let t = c .before .before .before .before .before .before .before .before .loop-test .taken in omega arith
+
+eval-add-i : (t : ℕ) → eval-lts.Need-add-i (R-eval t) (eval-at t) eval.Post eval-Inv-loop eval-μ-loop
+eval-add-i t c = let i = c .before .before .before .before .before .before .before .before .loop-test .taken in let f = c .before .before .before .before .before .before .before .before .before .before .arguments-at .ensures .few in record { fits = omega arith }
+
+eval-loop-less : (t : ℕ) → eval-lts.Need-loop-less (R-eval t) (eval-at t) eval.Post eval-Inv-loop eval-μ-loop
+eval-loop-less t c = search needs
+
+eval-loop-again : (t : ℕ) → eval-lts.Need-loop-again (R-eval t) (eval-at t) eval.Post eval-Inv-loop eval-μ-loop
+eval-loop-again t c = let a = c .before .before .before .before .before .before .before .before .before .before .before .before .before .before .before .before .before .before .before .before .before .before .before .before .args in let pre = c .before .before .before .before .before .before .before .before .before .before .before .before .before .before .before .before .before .before .before .before .before .before .before .before .pre .1 in let prog = programFor (a .job .now) in let σ = bindingsIn (a .bound .now) (a .pairs .now) (a .globals .now) in let args = argumentsFor (a .job .now) in let head = headFor (a .job .now) in let expr = exprFor (a .job .now) in turn-known (a .fact) prog (a .rule) σ (sizesOf (a .job .now) .expressions) args head expr (c .before .before .before .before .before .before .before .before .before .loop .inv) (c .before .before .before .before .before .known-value .ensures) (c .before .before .before .before .before .before .before .before .loop-test .taken) (c .before .before .before .before .before .before .before .before .before .before .arguments-at .ensures .is ∙ ap args (c .before .before .before .before .before .before .before .before .before .before .before .before .before .before .wide .ensures)) (c .before .before .before .before .before .before .before .before .before .before .arguments-at .ensures .few) (λ j u. let l = c .before .before .before .before .before .before .before .before .before .before .arguments-at .ensures .lower j u in let w = c .before .before .before .before .before .before .before .before .before .before .before .before .before .before .wide .ensures in let h = pre .1 .1 .0 in omega arith) (node-for (pre .0)) (no-arguments (a .job .now)) (search needs) (c .before .known .given .1)
+
+eval-enum-told : (t : ℕ) → eval-lts.Need-enum-told (R-eval t) (eval-at t) eval.Post eval-Inv-loop eval-μ-loop
+eval-enum-told t c = search needs
+
 eval-mul-eval : (t : ℕ) → eval-lts.Need-mul-eval (R-eval t) (eval-at t) eval.Post eval-Inv-loop eval-μ-loop
 eval-mul-eval t c = search needs
 
@@ -77,40 +108,40 @@ eval-shared-slice-read-eval : (t : ℕ) → eval-lts.Need-shared-slice-read-eval
 eval-shared-slice-read-eval t c = search needs
 
 eval-eval-requires : (t : ℕ) → eval-lts.Need-eval-requires (R-eval t) (eval-at t) eval.Post eval-Inv-loop eval-μ-loop
-eval-eval-requires t c κs = let a = c .before .before .before .before .before .before .before .before .before .before .before .before .before .before .before .before .before .before .before .before .before .before .args in let pre = c .before .before .before .before .before .before .before .before .before .before .before .before .before .before .before .before .before .before .before .before .before .before .pre .1 in let prog = programFor (a .job .now) in let σ = bindingsIn (a .bound .now) (a .pairs .now) (a .globals .now) in let args = argumentsFor (a .job .now) in let head = headFor (a .job .now) in let expr = exprFor (a .job .now) in let l = c .before .before .before .before .before .before .before .before .arguments-at .ensures .lower (c .before .before .before .before .before .before .before .loop .i) (search needs) in let w = c .before .before .before .before .before .before .before .before .before .before .before .before .wide .ensures in let h = pre .1 .1 .0 in (let m = c .before .before .before .before .before .before .before .before .before .before .before .before .before .before .before .before .before .before .before .before .before .before .pre .0 in omega arith, (pre .0, (c .before .before .before .before .before .before .before .loop .inv .run .grown .indexed, (omega arith, next-memo (a .fact) prog (a .rule) σ (sizesOf (a .job .now) .expressions) args head expr (c .before .before .before .before .before .before .before .loop .inv)))))
+eval-eval-requires t c κs = let a = c .before .before .before .before .before .before .before .before .before .before .before .before .before .before .before .before .before .before .before .before .before .before .before .before .before .before .before .before .before .args in let pre = c .before .before .before .before .before .before .before .before .before .before .before .before .before .before .before .before .before .before .before .before .before .before .before .before .before .before .before .before .before .pre .1 in let prog = programFor (a .job .now) in let σ = bindingsIn (a .bound .now) (a .pairs .now) (a .globals .now) in let args = argumentsFor (a .job .now) in let head = headFor (a .job .now) in let expr = exprFor (a .job .now) in let l = c .before .before .before .before .before .before .before .before .before .before .before .before .before .before .before .arguments-at .ensures .lower (c .before .before .before .before .before .before .before .before .before .before .before .before .before .before .loop .i) (search needs) in let w = c .before .before .before .before .before .before .before .before .before .before .before .before .before .before .before .before .before .before .before .wide .ensures in let h = pre .1 .1 .0 in (let m = c .before .before .before .before .before .before .before .before .before .before .before .before .before .before .before .before .before .before .before .before .before .before .before .before .before .before .before .before .before .pre .0 in omega arith, (pre .0, (c .before .before .before .before .before .before .before .before .before .before .before .before .before .before .loop .inv .run .grown .indexed, (omega arith, next-memo (a .fact) prog (a .rule) σ (sizesOf (a .job .now) .expressions) args head expr (turn-unknown (a .fact) prog (a .rule) σ (sizesOf (a .job .now) .expressions) args head expr (c .before .before .before .before .before .before .before .before .before .before .before .before .before .before .loop .inv) (c .before .before .before .before .before .before .before .before .before .before .known-value .ensures) (c .before .before .before .before .before .before .enum-told .given .1))))))
 
 eval-same-length-2 : (t : ℕ) → eval-lts.Need-same-length-2 (R-eval t) (eval-at t) eval.Post eval-Inv-loop eval-μ-loop
-eval-same-length-2 t c = c .before .before .before .before .before .before .before .before .before .before .before .before .eval .ensures .does .grown .lenK ∙ c .before .before .before .before .before .before .before .before .before .before .before .before .before .before .before .before .before .before .before .before .loop .inv .run .grown .lenK
+eval-same-length-2 t c = c .before .before .before .before .before .before .before .before .before .before .before .before .eval .ensures .does .grown .lenK ∙ c .before .before .before .before .before .before .before .before .before .before .before .before .before .before .before .before .before .before .before .before .before .before .before .before .before .before .before .loop .inv .run .grown .lenK
 
 eval-same-length-3 : (t : ℕ) → eval-lts.Need-same-length-3 (R-eval t) (eval-at t) eval.Post eval-Inv-loop eval-μ-loop
-eval-same-length-3 t c = c .before .before .before .before .before .before .before .before .before .before .before .before .eval .ensures .does .grown .lenE ∙ c .before .before .before .before .before .before .before .before .before .before .before .before .before .before .before .before .before .before .before .before .loop .inv .run .grown .lenE
+eval-same-length-3 t c = c .before .before .before .before .before .before .before .before .before .before .before .before .eval .ensures .does .grown .lenE ∙ c .before .before .before .before .before .before .before .before .before .before .before .before .before .before .before .before .before .before .before .before .before .before .before .before .before .before .before .loop .inv .run .grown .lenE
 
 eval-same-length-4 : (t : ℕ) → eval-lts.Need-same-length-4 (R-eval t) (eval-at t) eval.Post eval-Inv-loop eval-μ-loop
-eval-same-length-4 t c = c .before .before .before .before .before .before .before .before .before .before .before .before .eval .ensures .does .grown .lenP ∙ c .before .before .before .before .before .before .before .before .before .before .before .before .before .before .before .before .before .before .before .before .loop .inv .run .grown .lenP
+eval-same-length-4 t c = c .before .before .before .before .before .before .before .before .before .before .before .before .eval .ensures .does .grown .lenP ∙ c .before .before .before .before .before .before .before .before .before .before .before .before .before .before .before .before .before .before .before .before .before .before .before .before .before .before .before .loop .inv .run .grown .lenP
 
 eval-same-length-5 : (t : ℕ) → eval-lts.Need-same-length-5 (R-eval t) (eval-at t) eval.Post eval-Inv-loop eval-μ-loop
-eval-same-length-5 t c = c .before .before .before .before .before .before .before .before .before .before .before .before .eval .ensures .does .grown .lenI ∙ c .before .before .before .before .before .before .before .before .before .before .before .before .before .before .before .before .before .before .before .before .loop .inv .run .grown .lenI
+eval-same-length-5 t c = c .before .before .before .before .before .before .before .before .before .before .before .before .eval .ensures .does .grown .lenI ∙ c .before .before .before .before .before .before .before .before .before .before .before .before .before .before .before .before .before .before .before .before .before .before .before .before .before .before .before .loop .inv .run .grown .lenI
 
 eval-same-length-6 : (t : ℕ) → eval-lts.Need-same-length-6 (R-eval t) (eval-at t) eval.Post eval-Inv-loop eval-μ-loop
-eval-same-length-6 t c = search needs
+eval-same-length-6 t c = c .before .before .before .before .before .before .before .before .before .before .before .before .eval .kept .1 .1 .1 .1 .1 .1 .1 .1 .1 .1 .1 .0 ∙ c .before .before .before .before .before .before .before .before .before .before .before .before .before .before .before .before .before .before .before .before .before .before .before .known-value .kept .1 .1 .1 .1 .0 ∙ c .before .before .before .before .before .before .before .before .before .before .before .before .before .before .before .before .before .before .before .before .before .before .before .before .before .before .before .loop .inv .lenM
 
 eval-returns-2 : (t : ℕ) → eval-lts.Need-returns-2 (R-eval t) (eval-at t) eval.Post eval-Inv-loop eval-μ-loop
-eval-returns-2 t c = let a = c .before .before .before .before .before .before .before .before .before .before .before .before .before .before .before .before .before .before .before .before .before .before .before .before .before .before .before .before .before .before .before .before .before .before .before .args in let pre = c .before .before .before .before .before .before .before .before .before .before .before .before .before .before .before .before .before .before .before .before .before .before .before .before .before .before .before .before .before .before .before .before .before .before .before .pre .1 in let prog = programFor (a .job .now) in let σ = bindingsIn (a .bound .now) (a .pairs .now) (a .globals .now) in let args = argumentsFor (a .job .now) in let head = headFor (a .job .now) in let expr = exprFor (a .job .now) in stops (a .fact) prog (a .rule) σ (sizesOf (a .job .now) .expressions) args head expr (c .before .before .before .before .before .before .before .before .before .before .before .before .before .before .before .before .before .before .before .before .loop .inv) (c .before .before .before .before .before .before .before .before .before .before .before .before .before .before .before .before .before .before .before .loop-test .taken) (c .before .before .before .before .before .before .before .before .before .before .before .before .eval .ensures) (search needs)
+eval-returns-2 t c = let a = c .before .before .before .before .before .before .before .before .before .before .before .before .before .before .before .before .before .before .before .before .before .before .before .before .before .before .before .before .before .before .before .before .before .before .before .before .before .before .before .before .before .before .args in let pre = c .before .before .before .before .before .before .before .before .before .before .before .before .before .before .before .before .before .before .before .before .before .before .before .before .before .before .before .before .before .before .before .before .before .before .before .before .before .before .before .before .before .before .pre .1 in let prog = programFor (a .job .now) in let σ = bindingsIn (a .bound .now) (a .pairs .now) (a .globals .now) in let args = argumentsFor (a .job .now) in let head = headFor (a .job .now) in let expr = exprFor (a .job .now) in stops (a .fact) prog (a .rule) σ (sizesOf (a .job .now) .expressions) args head expr (turn-unknown (a .fact) prog (a .rule) σ (sizesOf (a .job .now) .expressions) args head expr (c .before .before .before .before .before .before .before .before .before .before .before .before .before .before .before .before .before .before .before .before .before .before .before .before .before .before .before .loop .inv) (c .before .before .before .before .before .before .before .before .before .before .before .before .before .before .before .before .before .before .before .before .before .before .before .known-value .ensures) (c .before .before .before .before .before .before .before .before .before .before .before .before .before .before .before .before .before .before .before .enum-told .given .1)) (c .before .before .before .before .before .before .before .before .before .before .before .before .before .before .before .before .before .before .before .before .before .before .before .before .before .before .loop-test .taken) (c .before .before .before .before .before .before .before .before .before .before .before .before .eval .ensures) (search needs)
 
-eval-mul-vals : (t : ℕ) → eval-lts.Need-mul-vals (R-eval t) (eval-at t) eval.Post eval-Inv-loop eval-μ-loop
-eval-mul-vals t c = let i = c .before .before .before .before .before .before .before .before .before .before .before .before .before .before .before .before .before .before .before .loop-test .taken in let f = c .before .before .before .before .before .before .before .before .before .before .before .before .before .before .before .before .before .before .before .before .before .arguments-at .ensures .few in record { fits = omega arith }
+eval-mul-vals-2 : (t : ℕ) → eval-lts.Need-mul-vals-2 (R-eval t) (eval-at t) eval.Post eval-Inv-loop eval-μ-loop
+eval-mul-vals-2 t c = let i = c .before .before .before .before .before .before .before .before .before .before .before .before .before .before .before .before .before .before .before .before .before .before .before .before .before .before .loop-test .taken in let f = c .before .before .before .before .before .before .before .before .before .before .before .before .before .before .before .before .before .before .before .before .before .before .before .before .before .before .before .before .arguments-at .ensures .few in record { fits = omega arith }
 
-eval-array-write-vals : (t : ℕ) → eval-lts.Need-array-write-vals (R-eval t) (eval-at t) eval.Post eval-Inv-loop eval-μ-loop
-eval-array-write-vals t c = let f = c .before .before .before .before .before .before .before .before .before .before .before .before .before .before .before .before .before .before .before .before .before .arguments-at .ensures .few in let h = c .before .before .before .before .before .before .before .before .before .before .before .before .before .before .before .before .before .before .before .before .loop .inv .full in let t = c .before .before .before .before .before .before .before .before .before .before .before .before .before .before .before .before .before .before .before .loop-test .taken in omega arith
+eval-array-write-vals-2 : (t : ℕ) → eval-lts.Need-array-write-vals-2 (R-eval t) (eval-at t) eval.Post eval-Inv-loop eval-μ-loop
+eval-array-write-vals-2 t c = let f = c .before .before .before .before .before .before .before .before .before .before .before .before .before .before .before .before .before .before .before .before .before .before .before .before .before .before .before .before .arguments-at .ensures .few in let h = c .before .before .before .before .before .before .before .before .before .before .before .before .before .before .before .before .before .before .before .before .before .before .before .before .before .before .before .loop .inv .full in let t = c .before .before .before .before .before .before .before .before .before .before .before .before .before .before .before .before .before .before .before .before .before .before .before .before .before .before .loop-test .taken in omega arith
 
-eval-add-i : (t : ℕ) → eval-lts.Need-add-i (R-eval t) (eval-at t) eval.Post eval-Inv-loop eval-μ-loop
-eval-add-i t c = let i = c .before .before .before .before .before .before .before .before .before .before .before .before .before .before .before .before .before .before .before .before .loop-test .taken in let f = c .before .before .before .before .before .before .before .before .before .before .before .before .before .before .before .before .before .before .before .before .before .before .arguments-at .ensures .few in record { fits = omega arith }
+eval-add-i-2 : (t : ℕ) → eval-lts.Need-add-i-2 (R-eval t) (eval-at t) eval.Post eval-Inv-loop eval-μ-loop
+eval-add-i-2 t c = let i = c .before .before .before .before .before .before .before .before .before .before .before .before .before .before .before .before .before .before .before .before .before .before .before .before .before .before .before .loop-test .taken in let f = c .before .before .before .before .before .before .before .before .before .before .before .before .before .before .before .before .before .before .before .before .before .before .before .before .before .before .before .before .before .arguments-at .ensures .few in record { fits = omega arith }
 
-eval-loop-less : (t : ℕ) → eval-lts.Need-loop-less (R-eval t) (eval-at t) eval.Post eval-Inv-loop eval-μ-loop
-eval-loop-less t c = search needs
+eval-loop-less-2 : (t : ℕ) → eval-lts.Need-loop-less-2 (R-eval t) (eval-at t) eval.Post eval-Inv-loop eval-μ-loop
+eval-loop-less-2 t c = let h = c .before .before .before .before .before .before .before .before .before .before .before .before .before .before .before .before .before .before .before .before .before .before .before .before .before .before .before .loop-test .taken in omega arith
 
-eval-loop-again : (t : ℕ) → eval-lts.Need-loop-again (R-eval t) (eval-at t) eval.Post eval-Inv-loop eval-μ-loop
-eval-loop-again t c = let a = c .before .before .before .before .before .before .before .before .before .before .before .before .before .before .before .before .before .before .before .before .before .before .before .before .before .before .before .before .before .before .before .before .before .before .before .before .args in let pre = c .before .before .before .before .before .before .before .before .before .before .before .before .before .before .before .before .before .before .before .before .before .before .before .before .before .before .before .before .before .before .before .before .before .before .before .before .pre .1 in let prog = programFor (a .job .now) in let σ = bindingsIn (a .bound .now) (a .pairs .now) (a .globals .now) in let args = argumentsFor (a .job .now) in let head = headFor (a .job .now) in let expr = exprFor (a .job .now) in turns (a .fact) prog (a .rule) σ (sizesOf (a .job .now) .expressions) args head expr (c .before .before .before .before .before .before .before .before .before .before .before .before .before .before .before .before .before .before .before .before .before .loop .inv) (c .before .before .before .before .before .before .before .before .before .before .before .before .before .before .before .before .before .before .before .before .loop-test .taken) (c .before .before .before .before .before .before .before .before .before .before .before .before .before .eval .ensures) (c .before .before .before .before .before .before .before .before .before .before .before .before .before .before .before .before .before .before .before .before .before .before .arguments-at .ensures .is ∙ ap args (c .before .before .before .before .before .before .before .before .before .before .before .before .before .before .before .before .before .before .before .before .before .before .before .before .before .before .wide .ensures)) (c .before .before .before .before .before .before .before .before .before .before .before .before .before .before .before .before .before .before .before .before .before .before .arguments-at .ensures .few) (λ j u. let l = c .before .before .before .before .before .before .before .before .before .before .before .before .before .before .before .before .before .before .before .before .before .before .arguments-at .ensures .lower j u in let w = c .before .before .before .before .before .before .before .before .before .before .before .before .before .before .before .before .before .before .before .before .before .before .before .before .before .before .wide .ensures in let h = pre .1 .1 .0 in omega arith) (search needs) (search needs)
+eval-loop-again-2 : (t : ℕ) → eval-lts.Need-loop-again-2 (R-eval t) (eval-at t) eval.Post eval-Inv-loop eval-μ-loop
+eval-loop-again-2 t c = let a = c .before .before .before .before .before .before .before .before .before .before .before .before .before .before .before .before .before .before .before .before .before .before .before .before .before .before .before .before .before .before .before .before .before .before .before .before .before .before .before .before .before .before .before .args in let pre = c .before .before .before .before .before .before .before .before .before .before .before .before .before .before .before .before .before .before .before .before .before .before .before .before .before .before .before .before .before .before .before .before .before .before .before .before .before .before .before .before .before .before .before .pre .1 in let prog = programFor (a .job .now) in let σ = bindingsIn (a .bound .now) (a .pairs .now) (a .globals .now) in let args = argumentsFor (a .job .now) in let head = headFor (a .job .now) in let expr = exprFor (a .job .now) in turns (a .fact) prog (a .rule) σ (sizesOf (a .job .now) .expressions) args head expr (turn-unknown (a .fact) prog (a .rule) σ (sizesOf (a .job .now) .expressions) args head expr (c .before .before .before .before .before .before .before .before .before .before .before .before .before .before .before .before .before .before .before .before .before .before .before .before .before .before .before .before .loop .inv) (c .before .before .before .before .before .before .before .before .before .before .before .before .before .before .before .before .before .before .before .before .before .before .before .before .known-value .ensures) (c .before .before .before .before .before .before .before .before .before .before .before .before .before .before .before .before .before .before .before .before .enum-told .given .1)) (c .before .before .before .before .before .before .before .before .before .before .before .before .before .before .before .before .before .before .before .before .before .before .before .before .before .before .before .loop-test .taken) (c .before .before .before .before .before .before .before .before .before .before .before .before .before .eval .ensures) (c .before .before .before .before .before .before .before .before .before .before .before .before .before .before .before .before .before .before .before .before .before .before .before .before .before .before .before .before .before .arguments-at .ensures .is ∙ ap args (c .before .before .before .before .before .before .before .before .before .before .before .before .before .before .before .before .before .before .before .before .before .before .before .before .before .before .before .before .before .before .before .before .before .wide .ensures)) (c .before .before .before .before .before .before .before .before .before .before .before .before .before .before .before .before .before .before .before .before .before .before .before .before .before .before .before .before .before .arguments-at .ensures .few) (λ j u. let l = c .before .before .before .before .before .before .before .before .before .before .before .before .before .before .before .before .before .before .before .before .before .before .before .before .before .before .before .before .before .arguments-at .ensures .lower j u in let w = c .before .before .before .before .before .before .before .before .before .before .before .before .before .before .before .before .before .before .before .before .before .before .before .before .before .before .before .before .before .before .before .before .before .wide .ensures in let h = pre .1 .1 .0 in omega arith) (search needs) (search needs)
 
 eval-head-at-requires : (t : ℕ) → eval-lts.Need-head-at-requires (R-eval t) (eval-at t) eval.Post eval-Inv-loop eval-μ-loop
 eval-head-at-requires t c κs = let pre = c .before .before .before .before .before .before .before .before .before .before .before .before .before .before .before .before .pre .1 in let h = pre .1 .1 .0 in let w = c .before .before .before .before .before .before .wide .ensures in (pre .0, omega arith)
@@ -159,6 +190,16 @@ pub +eval-spec : {M : Type 1} → statement M
     (eval-returns t)
     (eval-arguments-at-requires t)
     (eval-loop-holds t)
+    (eval-mul-known-value t)
+    (eval-shared-slice-read-known-value t)
+    (eval-known-value-requires t)
+    (eval-enum-known-known t)
+    (eval-mul-vals t)
+    (eval-array-write-vals t)
+    (eval-add-i t)
+    (eval-loop-less t)
+    (eval-loop-again t)
+    (eval-enum-told t)
     (eval-mul-eval t)
     (eval-shared-slice-read-eval t)
     (eval-eval-requires t)
@@ -168,11 +209,11 @@ pub +eval-spec : {M : Type 1} → statement M
     (eval-same-length-5 t)
     (eval-same-length-6 t)
     (eval-returns-2 t)
-    (eval-mul-vals t)
-    (eval-array-write-vals t)
-    (eval-add-i t)
-    (eval-loop-less t)
-    (eval-loop-again t)
+    (eval-mul-vals-2 t)
+    (eval-array-write-vals-2 t)
+    (eval-add-i-2 t)
+    (eval-loop-less-2 t)
+    (eval-loop-again-2 t)
     (eval-head-at-requires t)
     (eval-array-share-prefix-vals t)
     (eval-slice-aggregate-head-value t)

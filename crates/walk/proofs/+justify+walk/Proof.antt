@@ -64,7 +64,7 @@ abbrev R-justify : ℕ → justify-lts.Claims
 R-justify t = (plan-step-reads.Asked, plan-step-reads.Learnt, state-at-reads.Asked, state-at-reads.Learnt, fact-state-reads.Asked, fact-state-reads.Learnt, reference-reads.Asked, reference-reads.Learnt, wide-reads.Asked, wide-reads.Learnt, height-noted-reads.Asked, height-noted-reads.Learnt, greater-reads.Asked, greater-reads.Learnt, walk-below t, walk.Post, advance-reads.Asked, advance-reads.Learnt, effect-of-reads.Asked, effect-of-reads.Learnt, push-binding-reads.Asked, push-binding-reads.Learnt, pass-reads.Asked, pass-reads.Learnt)
 
 abbrev R-walk : ℕ → walk-lts.Claims
-R-walk t = (wide-reads.Asked, wide-reads.Learnt, height-noted-reads.Asked, height-noted-reads.Learnt, pass-reads.Asked, pass-reads.Learnt, justify-below t, justify.Post, note-height-reads.Asked, note-height-reads.Learnt)
+R-walk t = (wide-reads.Asked, wide-reads.Learnt, justify-below t, justify.Post, note-height-reads.Asked, note-height-reads.Learnt)
 
 justify-plan-step-requires : (t : ℕ) → justify-lts.Need-plan-step-requires (R-justify t) (justify-at t) justify.Post justify-Inv-loop justify-μ-loop
 justify-plan-step-requires t c κs = (c .before .before .before .before .before .before .before .before .before .before .pre .1 .0 .ready, c .before .before .before .before .before .before .before .before .before .before .pre .1 .1)
@@ -103,7 +103,7 @@ justify-loop-less : (t : ℕ) → justify-lts.Need-loop-less (R-justify t) (just
 justify-loop-less t c = let x = c .before .before .before .before .before .before .before .before .loop-test .taken in let s = c .before .before .before .before .before .before .before .if3 .taken in omega arith
 
 justify-loop-again : (t : ℕ) → justify-lts.Need-loop-again (R-justify t) (justify-at t) justify.Post justify-Inv-loop justify-μ-loop
-justify-loop-again t c = let l = (c .before .before .before .before .before .before .before .before .before .before .before .before .before .before .plan-step .ensures .goes (c .before .before .before .before .before .before .before .before .before .before .before .before .if1 .left)) .lower (c .before .before .before .before .before .before .before .before .before .loop .i) (task-turn (c .before .before .before .before .before .before .before .before .before .before .before .before .before .before .before .before .before .before .before .before .before .before .before .before .before .args .job .now) (c .before .before .before .before .before .before .before .before .before .before .before .before .before .before .before .before .before .before .before .before .before .before .before .before .before .args .strict) (c .before .before .before .before .before .before .before .before .before .before .before .before .before .before .before .before .before .before .before .before .before .before .before .before .before .args .found .now) (c .before .before .before .before .before .before .before .before .before .before .before .before .before .before .before .before .before .before .before .before .before .before .before .before .before .args .globals .now) (c .before .before .before .before .before .before .before .before .before .before .before .before .before .before .before .before .before .before .before .before .before .before .before .before .before .args .unions .now) (c .before .before .before .before .before .before .before .before .before .before .before .before .before .before .before .before .before .before .before .before .before .before .before .before .before .args .p) (c .before .before .before .before .before .before .before .before .before .before .before .before .before .before .plan-step .result .rule) (c .before .before .before .before .before .before .before .before .before .before .before .before .before .before .plan-step .result .r) (c .before .before .before .before .before .before .before .before .before .before .before .before .before .before .plan-step .result .first) (c .before .before .before .before .before .before .before .before .before .before .before .before .before .before .plan-step .result .second) (c .before .before .before .before .before .before .before .before .before .before .before .before .before .before .plan-step .result .count) (c .before .before .before .before .before .before .before .before .before .before .before .before .before .before .plan-step .ensures .goes (c .before .before .before .before .before .before .before .before .before .before .before .before .if1 .left)) (c .before .before .before .before .before .before .before .before .before .loop .inv) (c .before .before .before .before .before .before .before .if3 .taken)) in let y = c .before .before .before .before .before .before .reference .ensures in let h = c .before .before .before .before .before .before .before .before .before .before .before .before .before .before .before .before .before .before .before .before .before .before .before .before .before .pre .1 .1 in let known = walk-known (c .before .before .before .before .before .before .before .before .before .before .before .before .before .before .before .before .before .before .before .before .before .before .before .before .before .args .job .now) (c .before .before .before .before .before .before .before .before .before .before .before .before .before .before .before .before .before .before .before .before .before .before .before .before .before .args .strict) (c .before .before .before .before .before .before .before .before .before .before .before .before .before .before .before .before .before .before .before .before .before .before .before .before .before .args .found .now) (c .before .before .before .before .before .before .before .before .before .before .before .before .before .before .before .before .before .before .before .before .before .before .before .before .before .args .globals .now) (c .before .before .before .before .before .before .before .before .before .before .before .before .before .before .before .before .before .before .before .before .before .before .before .before .before .args .unions .now) (c .before .before .before .before .before .before .reference .result) (task-next (c .before .before .before .before .before .before .before .before .before .before .before .before .before .before .before .before .before .before .before .before .before .before .before .before .before .args .job .now) (c .before .before .before .before .before .before .before .before .before .before .before .before .before .before .before .before .before .before .before .before .before .before .before .before .before .args .strict) (c .before .before .before .before .before .before .before .before .before .before .before .before .before .before .before .before .before .before .before .before .before .before .before .before .before .args .found .now) (c .before .before .before .before .before .before .before .before .before .before .before .before .before .before .before .before .before .before .before .before .before .before .before .before .before .args .globals .now) (c .before .before .before .before .before .before .before .before .before .before .before .before .before .before .before .before .before .before .before .before .before .before .before .before .before .args .unions .now) (c .before .before .before .before .before .before .before .before .before .before .before .before .before .before .before .before .before .before .before .before .before .before .before .before .before .args .p) (c .before .before .before .before .before .before .before .before .before .before .before .before .before .before .plan-step .result .rule) (c .before .before .before .before .before .before .before .before .before .before .before .before .before .before .plan-step .result .r) (c .before .before .before .before .before .before .before .before .before .before .before .before .before .before .plan-step .result .first) (c .before .before .before .before .before .before .before .before .before .before .before .before .before .before .plan-step .result .second) (c .before .before .before .before .before .before .before .before .before .before .before .before .before .before .plan-step .result .count) (c .before .before .before .before .before .before .before .before .before .before .before .before .before .before .plan-step .ensures .goes (c .before .before .before .before .before .before .before .before .before .before .before .before .if1 .left)) (c .before .before .before .before .before .before .before .before .before .loop .inv) (c .before .before .before .before .before .before .before .if3 .taken)) (omega arith) (word-at (c .before .before .before .before .before .before .before .before .before .loop .scratch) (length (c .before .before .before .before .before .before .before .before .before .loop .skinds)) (c .before .before .before .before .wide .ensures) (c .before .before .before .height-noted .ensures)) (c .before .before .if4 .taken) refl in task-walks (c .before .before .before .before .before .before .before .before .before .before .before .before .before .before .before .before .before .before .before .before .before .before .before .before .before .args .job .now) (c .before .before .before .before .before .before .before .before .before .before .before .before .before .before .before .before .before .before .before .before .before .before .before .before .before .args .strict) (c .before .before .before .before .before .before .before .before .before .before .before .before .before .before .before .before .before .before .before .before .before .before .before .before .before .args .found .now) (c .before .before .before .before .before .before .before .before .before .before .before .before .before .before .before .before .before .before .before .before .before .before .before .before .before .args .globals .now) (c .before .before .before .before .before .before .before .before .before .before .before .before .before .before .before .before .before .before .before .before .before .before .before .before .before .args .unions .now) (c .before .before .before .before .before .before .before .before .before .before .before .before .before .before .before .before .before .before .before .before .before .before .before .before .before .args .p) (c .before .before .before .before .before .before .before .before .before .before .before .before .before .before .plan-step .result .rule) (c .before .before .before .before .before .before .before .before .before .before .before .before .before .before .plan-step .result .r) (c .before .before .before .before .before .before .before .before .before .before .before .before .before .before .plan-step .result .first) (c .before .before .before .before .before .before .before .before .before .before .before .before .before .before .plan-step .result .second) (c .before .before .before .before .before .before .before .before .before .before .before .before .before .before .plan-step .result .count) (c .before .before .before .before .before .before .before .before .before .before .before .before .before .before .plan-step .ensures .goes (c .before .before .before .before .before .before .before .before .before .before .before .before .if1 .left)) (c .before .before .before .before .before .before .before .before .before .loop .inv) (c .before .before .before .before .before .before .before .if3 .taken) (λ room ps x h. fuel-for (c .before .before .before .before .before .before .before .before .before .before .before .before .before .before .before .before .before .before .before .before .before .before .before .before .before .pre .1 .0 .ready) (contextOf (c .before .before .before .before .before .before .before .before .before .before .before .before .before .before .before .before .before .before .before .before .before .before .before .before .before .args .globals .now) ps) (c .before .before .before .before .before .before .before .before .before .before .before .before .before .before .before .before .before .before .before .before .before .before .before .before .before .args .strict) room x (c .before .before .before .before .before .before .before .before .before .before .before .before .before .before .before .before .before .before .before .before .before .before .before .before .before .args .p) h) y (known .0) (known .1 refl) (c .before .greater .ensures) refl refl refl (c .before .before .before .before .before .before .before .before .before .loop .inv .grown) (c .if5 .taken)
+justify-loop-again t c = let l = (c .before .before .before .before .before .before .before .before .before .before .before .before .before .before .plan-step .ensures .goes (c .before .before .before .before .before .before .before .before .before .before .before .before .if1 .left)) .lower (c .before .before .before .before .before .before .before .before .before .loop .i) (task-turn (c .before .before .before .before .before .before .before .before .before .before .before .before .before .before .before .before .before .before .before .before .before .before .before .before .before .args .job .now) (c .before .before .before .before .before .before .before .before .before .before .before .before .before .before .before .before .before .before .before .before .before .before .before .before .before .args .strict) (c .before .before .before .before .before .before .before .before .before .before .before .before .before .before .before .before .before .before .before .before .before .before .before .before .before .args .found .now) (c .before .before .before .before .before .before .before .before .before .before .before .before .before .before .before .before .before .before .before .before .before .before .before .before .before .args .globals .now) (c .before .before .before .before .before .before .before .before .before .before .before .before .before .before .before .before .before .before .before .before .before .before .before .before .before .args .unions .now) (c .before .before .before .before .before .before .before .before .before .before .before .before .before .before .before .before .before .before .before .before .before .before .before .before .before .args .p) (c .before .before .before .before .before .before .before .before .before .before .before .before .before .before .plan-step .result .rule) (c .before .before .before .before .before .before .before .before .before .before .before .before .before .before .plan-step .result .r) (c .before .before .before .before .before .before .before .before .before .before .before .before .before .before .plan-step .result .first) (c .before .before .before .before .before .before .before .before .before .before .before .before .before .before .plan-step .result .second) (c .before .before .before .before .before .before .before .before .before .before .before .before .before .before .plan-step .result .count) (c .before .before .before .before .before .before .before .before .before .before .before .before .before .before .plan-step .ensures .goes (c .before .before .before .before .before .before .before .before .before .before .before .before .if1 .left)) (c .before .before .before .before .before .before .before .before .before .loop .inv) (c .before .before .before .before .before .before .before .if3 .taken)) in let y = c .before .before .before .before .before .before .reference .ensures in let h = c .before .before .before .before .before .before .before .before .before .before .before .before .before .before .before .before .before .before .before .before .before .before .before .before .before .pre .1 .1 in let known = walk-known (c .before .before .before .before .before .before .before .before .before .before .before .before .before .before .before .before .before .before .before .before .before .before .before .before .before .args .job .now) (c .before .before .before .before .before .before .before .before .before .before .before .before .before .before .before .before .before .before .before .before .before .before .before .before .before .args .strict) (c .before .before .before .before .before .before .before .before .before .before .before .before .before .before .before .before .before .before .before .before .before .before .before .before .before .args .found .now) (c .before .before .before .before .before .before .before .before .before .before .before .before .before .before .before .before .before .before .before .before .before .before .before .before .before .args .globals .now) (c .before .before .before .before .before .before .before .before .before .before .before .before .before .before .before .before .before .before .before .before .before .before .before .before .before .args .unions .now) (c .before .before .before .before .before .before .reference .result) (task-next (c .before .before .before .before .before .before .before .before .before .before .before .before .before .before .before .before .before .before .before .before .before .before .before .before .before .args .job .now) (c .before .before .before .before .before .before .before .before .before .before .before .before .before .before .before .before .before .before .before .before .before .before .before .before .before .args .strict) (c .before .before .before .before .before .before .before .before .before .before .before .before .before .before .before .before .before .before .before .before .before .before .before .before .before .args .found .now) (c .before .before .before .before .before .before .before .before .before .before .before .before .before .before .before .before .before .before .before .before .before .before .before .before .before .args .globals .now) (c .before .before .before .before .before .before .before .before .before .before .before .before .before .before .before .before .before .before .before .before .before .before .before .before .before .args .unions .now) (c .before .before .before .before .before .before .before .before .before .before .before .before .before .before .before .before .before .before .before .before .before .before .before .before .before .args .p) (c .before .before .before .before .before .before .before .before .before .before .before .before .before .before .plan-step .result .rule) (c .before .before .before .before .before .before .before .before .before .before .before .before .before .before .plan-step .result .r) (c .before .before .before .before .before .before .before .before .before .before .before .before .before .before .plan-step .result .first) (c .before .before .before .before .before .before .before .before .before .before .before .before .before .before .plan-step .result .second) (c .before .before .before .before .before .before .before .before .before .before .before .before .before .before .plan-step .result .count) (c .before .before .before .before .before .before .before .before .before .before .before .before .before .before .plan-step .ensures .goes (c .before .before .before .before .before .before .before .before .before .before .before .before .if1 .left)) (c .before .before .before .before .before .before .before .before .before .loop .inv) (c .before .before .before .before .before .before .before .if3 .taken)) (omega arith) (word-at (c .before .before .before .before .before .before .before .before .before .loop .scratch) (length (c .before .before .before .before .before .before .before .before .before .loop .skinds)) (c .before .before .before .before .wide .ensures) (c .before .before .before .height-noted .ensures)) (c .before .before .if4 .taken) in task-walks (c .before .before .before .before .before .before .before .before .before .before .before .before .before .before .before .before .before .before .before .before .before .before .before .before .before .args .job .now) (c .before .before .before .before .before .before .before .before .before .before .before .before .before .before .before .before .before .before .before .before .before .before .before .before .before .args .strict) (c .before .before .before .before .before .before .before .before .before .before .before .before .before .before .before .before .before .before .before .before .before .before .before .before .before .args .found .now) (c .before .before .before .before .before .before .before .before .before .before .before .before .before .before .before .before .before .before .before .before .before .before .before .before .before .args .globals .now) (c .before .before .before .before .before .before .before .before .before .before .before .before .before .before .before .before .before .before .before .before .before .before .before .before .before .args .unions .now) (c .before .before .before .before .before .before .before .before .before .before .before .before .before .before .before .before .before .before .before .before .before .before .before .before .before .args .p) (c .before .before .before .before .before .before .before .before .before .before .before .before .before .before .plan-step .result .rule) (c .before .before .before .before .before .before .before .before .before .before .before .before .before .before .plan-step .result .r) (c .before .before .before .before .before .before .before .before .before .before .before .before .before .before .plan-step .result .first) (c .before .before .before .before .before .before .before .before .before .before .before .before .before .before .plan-step .result .second) (c .before .before .before .before .before .before .before .before .before .before .before .before .before .before .plan-step .result .count) (c .before .before .before .before .before .before .before .before .before .before .before .before .before .before .plan-step .ensures .goes (c .before .before .before .before .before .before .before .before .before .before .before .before .if1 .left)) (c .before .before .before .before .before .before .before .before .before .loop .inv) (c .before .before .before .before .before .before .before .if3 .taken) (λ room ps x h. fuel-for (c .before .before .before .before .before .before .before .before .before .before .before .before .before .before .before .before .before .before .before .before .before .before .before .before .before .pre .1 .0 .ready) (contextOf (c .before .before .before .before .before .before .before .before .before .before .before .before .before .before .before .before .before .before .before .before .before .before .before .before .before .args .globals .now) ps) (c .before .before .before .before .before .before .before .before .before .before .before .before .before .before .before .before .before .before .before .before .before .before .before .before .before .args .strict) room x (c .before .before .before .before .before .before .before .before .before .before .before .before .before .before .before .before .before .before .before .before .before .before .before .before .before .args .p) h) y (known .0) (known .1) (c .before .greater .ensures) refl refl refl (c .before .before .before .before .before .before .before .before .before .loop .inv .grown) (c .if5 .taken)
 
 justify-add-i : (t : ℕ) → justify-lts.Need-add-i (R-justify t) (justify-at t) justify.Post justify-Inv-loop justify-μ-loop
 justify-add-i t c = let x = c .before .before .before .before .before .before .before .before .loop-test .taken in let f = (c .before .before .before .before .before .before .before .before .before .before .before .before .before .before .plan-step .ensures .goes (c .before .before .before .before .before .before .before .before .before .before .before .before .if1 .left)) .few in omega arith
@@ -115,10 +115,10 @@ justify-loop-less-2 : (t : ℕ) → justify-lts.Need-loop-less-2 (R-justify t) (
 justify-loop-less-2 t c = let x = c .before .before .before .before .before .before .before .before .before .loop-test .taken in let s = c .before .before .before .before .before .before .before .before .if3 .taken in let f = c .state-at2 .ensures .few in omega arith
 
 justify-loop-again-2 : (t : ℕ) → justify-lts.Need-loop-again-2 (R-justify t) (justify-at t) justify.Post justify-Inv-loop justify-μ-loop
-justify-loop-again-2 t c = let l = (c .before .before .before .before .before .before .before .before .before .before .before .before .before .before .before .plan-step .ensures .goes (c .before .before .before .before .before .before .before .before .before .before .before .before .before .if1 .left)) .lower (c .before .before .before .before .before .before .before .before .before .before .loop .i) (task-turn (c .before .before .before .before .before .before .before .before .before .before .before .before .before .before .before .before .before .before .before .before .before .before .before .before .before .before .args .job .now) (c .before .before .before .before .before .before .before .before .before .before .before .before .before .before .before .before .before .before .before .before .before .before .before .before .before .before .args .strict) (c .before .before .before .before .before .before .before .before .before .before .before .before .before .before .before .before .before .before .before .before .before .before .before .before .before .before .args .found .now) (c .before .before .before .before .before .before .before .before .before .before .before .before .before .before .before .before .before .before .before .before .before .before .before .before .before .before .args .globals .now) (c .before .before .before .before .before .before .before .before .before .before .before .before .before .before .before .before .before .before .before .before .before .before .before .before .before .before .args .unions .now) (c .before .before .before .before .before .before .before .before .before .before .before .before .before .before .before .before .before .before .before .before .before .before .before .before .before .before .args .p) (c .before .before .before .before .before .before .before .before .before .before .before .before .before .before .before .plan-step .result .rule) (c .before .before .before .before .before .before .before .before .before .before .before .before .before .before .before .plan-step .result .r) (c .before .before .before .before .before .before .before .before .before .before .before .before .before .before .before .plan-step .result .first) (c .before .before .before .before .before .before .before .before .before .before .before .before .before .before .before .plan-step .result .second) (c .before .before .before .before .before .before .before .before .before .before .before .before .before .before .before .plan-step .result .count) (c .before .before .before .before .before .before .before .before .before .before .before .before .before .before .before .plan-step .ensures .goes (c .before .before .before .before .before .before .before .before .before .before .before .before .before .if1 .left)) (c .before .before .before .before .before .before .before .before .before .before .loop .inv) (c .before .before .before .before .before .before .before .before .if3 .taken)) in let y = c .before .before .before .before .before .before .before .reference .ensures in let h = c .before .before .before .before .before .before .before .before .before .before .before .before .before .before .before .before .before .before .before .before .before .before .before .before .before .before .pre .1 .1 in let known = walk-known (c .before .before .before .before .before .before .before .before .before .before .before .before .before .before .before .before .before .before .before .before .before .before .before .before .before .before .args .job .now) (c .before .before .before .before .before .before .before .before .before .before .before .before .before .before .before .before .before .before .before .before .before .before .before .before .before .before .args .strict) (c .before .before .before .before .before .before .before .before .before .before .before .before .before .before .before .before .before .before .before .before .before .before .before .before .before .before .args .found .now) (c .before .before .before .before .before .before .before .before .before .before .before .before .before .before .before .before .before .before .before .before .before .before .before .before .before .before .args .globals .now) (c .before .before .before .before .before .before .before .before .before .before .before .before .before .before .before .before .before .before .before .before .before .before .before .before .before .before .args .unions .now) (c .before .before .before .before .before .before .before .reference .result) (task-next (c .before .before .before .before .before .before .before .before .before .before .before .before .before .before .before .before .before .before .before .before .before .before .before .before .before .before .args .job .now) (c .before .before .before .before .before .before .before .before .before .before .before .before .before .before .before .before .before .before .before .before .before .before .before .before .before .before .args .strict) (c .before .before .before .before .before .before .before .before .before .before .before .before .before .before .before .before .before .before .before .before .before .before .before .before .before .before .args .found .now) (c .before .before .before .before .before .before .before .before .before .before .before .before .before .before .before .before .before .before .before .before .before .before .before .before .before .before .args .globals .now) (c .before .before .before .before .before .before .before .before .before .before .before .before .before .before .before .before .before .before .before .before .before .before .before .before .before .before .args .unions .now) (c .before .before .before .before .before .before .before .before .before .before .before .before .before .before .before .before .before .before .before .before .before .before .before .before .before .before .args .p) (c .before .before .before .before .before .before .before .before .before .before .before .before .before .before .before .plan-step .result .rule) (c .before .before .before .before .before .before .before .before .before .before .before .before .before .before .before .plan-step .result .r) (c .before .before .before .before .before .before .before .before .before .before .before .before .before .before .before .plan-step .result .first) (c .before .before .before .before .before .before .before .before .before .before .before .before .before .before .before .plan-step .result .second) (c .before .before .before .before .before .before .before .before .before .before .before .before .before .before .before .plan-step .result .count) (c .before .before .before .before .before .before .before .before .before .before .before .before .before .before .before .plan-step .ensures .goes (c .before .before .before .before .before .before .before .before .before .before .before .before .before .if1 .left)) (c .before .before .before .before .before .before .before .before .before .before .loop .inv) (c .before .before .before .before .before .before .before .before .if3 .taken)) (omega arith) (word-at (c .before .before .before .before .before .before .before .before .before .before .loop .scratch) (length (c .before .before .before .before .before .before .before .before .before .before .loop .skinds)) (c .before .before .before .before .before .wide .ensures) (c .before .before .before .before .height-noted .ensures)) (c .before .before .before .if4 .taken) refl in task-passes (c .before .before .before .before .before .before .before .before .before .before .before .before .before .before .before .before .before .before .before .before .before .before .before .before .before .before .args .job .now) (c .before .before .before .before .before .before .before .before .before .before .before .before .before .before .before .before .before .before .before .before .before .before .before .before .before .before .args .strict) (c .before .before .before .before .before .before .before .before .before .before .before .before .before .before .before .before .before .before .before .before .before .before .before .before .before .before .args .found .now) (c .before .before .before .before .before .before .before .before .before .before .before .before .before .before .before .before .before .before .before .before .before .before .before .before .before .before .args .globals .now) (c .before .before .before .before .before .before .before .before .before .before .before .before .before .before .before .before .before .before .before .before .before .before .before .before .before .before .args .unions .now) (c .before .before .before .before .before .before .before .before .before .before .before .before .before .before .before .before .before .before .before .before .before .before .before .before .before .before .args .p) (c .before .before .before .before .before .before .before .before .before .before .before .before .before .before .before .plan-step .result .rule) (c .before .before .before .before .before .before .before .before .before .before .before .before .before .before .before .plan-step .result .r) (c .before .before .before .before .before .before .before .before .before .before .before .before .before .before .before .plan-step .result .first) (c .before .before .before .before .before .before .before .before .before .before .before .before .before .before .before .plan-step .result .second) (c .before .before .before .before .before .before .before .before .before .before .before .before .before .before .before .plan-step .result .count) (c .before .before .before .before .before .before .before .before .before .before .before .before .before .before .before .plan-step .ensures .goes (c .before .before .before .before .before .before .before .before .before .before .before .before .before .if1 .left)) (c .before .before .before .before .before .before .before .before .before .before .loop .inv) (c .before .before .before .before .before .before .before .before .if3 .taken) (λ room ps x h. fuel-for (c .before .before .before .before .before .before .before .before .before .before .before .before .before .before .before .before .before .before .before .before .before .before .before .before .before .before .pre .1 .0 .ready) (contextOf (c .before .before .before .before .before .before .before .before .before .before .before .before .before .before .before .before .before .before .before .before .before .before .before .before .before .before .args .globals .now) ps) (c .before .before .before .before .before .before .before .before .before .before .before .before .before .before .before .before .before .before .before .before .before .before .before .before .before .before .args .strict) room x (c .before .before .before .before .before .before .before .before .before .before .before .before .before .before .before .before .before .before .before .before .before .before .before .before .before .before .args .p) h) y (known .0) (known .1 refl) (c .before .before .greater .ensures) refl refl refl (c .before .before .before .before .before .before .before .before .before .before .loop .inv .grown) (c .before .if5 .left) (c .state-at2 .ensures)
+justify-loop-again-2 t c = let l = (c .before .before .before .before .before .before .before .before .before .before .before .before .before .before .before .plan-step .ensures .goes (c .before .before .before .before .before .before .before .before .before .before .before .before .before .if1 .left)) .lower (c .before .before .before .before .before .before .before .before .before .before .loop .i) (task-turn (c .before .before .before .before .before .before .before .before .before .before .before .before .before .before .before .before .before .before .before .before .before .before .before .before .before .before .args .job .now) (c .before .before .before .before .before .before .before .before .before .before .before .before .before .before .before .before .before .before .before .before .before .before .before .before .before .before .args .strict) (c .before .before .before .before .before .before .before .before .before .before .before .before .before .before .before .before .before .before .before .before .before .before .before .before .before .before .args .found .now) (c .before .before .before .before .before .before .before .before .before .before .before .before .before .before .before .before .before .before .before .before .before .before .before .before .before .before .args .globals .now) (c .before .before .before .before .before .before .before .before .before .before .before .before .before .before .before .before .before .before .before .before .before .before .before .before .before .before .args .unions .now) (c .before .before .before .before .before .before .before .before .before .before .before .before .before .before .before .before .before .before .before .before .before .before .before .before .before .before .args .p) (c .before .before .before .before .before .before .before .before .before .before .before .before .before .before .before .plan-step .result .rule) (c .before .before .before .before .before .before .before .before .before .before .before .before .before .before .before .plan-step .result .r) (c .before .before .before .before .before .before .before .before .before .before .before .before .before .before .before .plan-step .result .first) (c .before .before .before .before .before .before .before .before .before .before .before .before .before .before .before .plan-step .result .second) (c .before .before .before .before .before .before .before .before .before .before .before .before .before .before .before .plan-step .result .count) (c .before .before .before .before .before .before .before .before .before .before .before .before .before .before .before .plan-step .ensures .goes (c .before .before .before .before .before .before .before .before .before .before .before .before .before .if1 .left)) (c .before .before .before .before .before .before .before .before .before .before .loop .inv) (c .before .before .before .before .before .before .before .before .if3 .taken)) in let y = c .before .before .before .before .before .before .before .reference .ensures in let h = c .before .before .before .before .before .before .before .before .before .before .before .before .before .before .before .before .before .before .before .before .before .before .before .before .before .before .pre .1 .1 in let known = walk-known (c .before .before .before .before .before .before .before .before .before .before .before .before .before .before .before .before .before .before .before .before .before .before .before .before .before .before .args .job .now) (c .before .before .before .before .before .before .before .before .before .before .before .before .before .before .before .before .before .before .before .before .before .before .before .before .before .before .args .strict) (c .before .before .before .before .before .before .before .before .before .before .before .before .before .before .before .before .before .before .before .before .before .before .before .before .before .before .args .found .now) (c .before .before .before .before .before .before .before .before .before .before .before .before .before .before .before .before .before .before .before .before .before .before .before .before .before .before .args .globals .now) (c .before .before .before .before .before .before .before .before .before .before .before .before .before .before .before .before .before .before .before .before .before .before .before .before .before .before .args .unions .now) (c .before .before .before .before .before .before .before .reference .result) (task-next (c .before .before .before .before .before .before .before .before .before .before .before .before .before .before .before .before .before .before .before .before .before .before .before .before .before .before .args .job .now) (c .before .before .before .before .before .before .before .before .before .before .before .before .before .before .before .before .before .before .before .before .before .before .before .before .before .before .args .strict) (c .before .before .before .before .before .before .before .before .before .before .before .before .before .before .before .before .before .before .before .before .before .before .before .before .before .before .args .found .now) (c .before .before .before .before .before .before .before .before .before .before .before .before .before .before .before .before .before .before .before .before .before .before .before .before .before .before .args .globals .now) (c .before .before .before .before .before .before .before .before .before .before .before .before .before .before .before .before .before .before .before .before .before .before .before .before .before .before .args .unions .now) (c .before .before .before .before .before .before .before .before .before .before .before .before .before .before .before .before .before .before .before .before .before .before .before .before .before .before .args .p) (c .before .before .before .before .before .before .before .before .before .before .before .before .before .before .before .plan-step .result .rule) (c .before .before .before .before .before .before .before .before .before .before .before .before .before .before .before .plan-step .result .r) (c .before .before .before .before .before .before .before .before .before .before .before .before .before .before .before .plan-step .result .first) (c .before .before .before .before .before .before .before .before .before .before .before .before .before .before .before .plan-step .result .second) (c .before .before .before .before .before .before .before .before .before .before .before .before .before .before .before .plan-step .result .count) (c .before .before .before .before .before .before .before .before .before .before .before .before .before .before .before .plan-step .ensures .goes (c .before .before .before .before .before .before .before .before .before .before .before .before .before .if1 .left)) (c .before .before .before .before .before .before .before .before .before .before .loop .inv) (c .before .before .before .before .before .before .before .before .if3 .taken)) (omega arith) (word-at (c .before .before .before .before .before .before .before .before .before .before .loop .scratch) (length (c .before .before .before .before .before .before .before .before .before .before .loop .skinds)) (c .before .before .before .before .before .wide .ensures) (c .before .before .before .before .height-noted .ensures)) (c .before .before .before .if4 .taken) in task-passes (c .before .before .before .before .before .before .before .before .before .before .before .before .before .before .before .before .before .before .before .before .before .before .before .before .before .before .args .job .now) (c .before .before .before .before .before .before .before .before .before .before .before .before .before .before .before .before .before .before .before .before .before .before .before .before .before .before .args .strict) (c .before .before .before .before .before .before .before .before .before .before .before .before .before .before .before .before .before .before .before .before .before .before .before .before .before .before .args .found .now) (c .before .before .before .before .before .before .before .before .before .before .before .before .before .before .before .before .before .before .before .before .before .before .before .before .before .before .args .globals .now) (c .before .before .before .before .before .before .before .before .before .before .before .before .before .before .before .before .before .before .before .before .before .before .before .before .before .before .args .unions .now) (c .before .before .before .before .before .before .before .before .before .before .before .before .before .before .before .before .before .before .before .before .before .before .before .before .before .before .args .p) (c .before .before .before .before .before .before .before .before .before .before .before .before .before .before .before .plan-step .result .rule) (c .before .before .before .before .before .before .before .before .before .before .before .before .before .before .before .plan-step .result .r) (c .before .before .before .before .before .before .before .before .before .before .before .before .before .before .before .plan-step .result .first) (c .before .before .before .before .before .before .before .before .before .before .before .before .before .before .before .plan-step .result .second) (c .before .before .before .before .before .before .before .before .before .before .before .before .before .before .before .plan-step .result .count) (c .before .before .before .before .before .before .before .before .before .before .before .before .before .before .before .plan-step .ensures .goes (c .before .before .before .before .before .before .before .before .before .before .before .before .before .if1 .left)) (c .before .before .before .before .before .before .before .before .before .before .loop .inv) (c .before .before .before .before .before .before .before .before .if3 .taken) (λ room ps x h. fuel-for (c .before .before .before .before .before .before .before .before .before .before .before .before .before .before .before .before .before .before .before .before .before .before .before .before .before .before .pre .1 .0 .ready) (contextOf (c .before .before .before .before .before .before .before .before .before .before .before .before .before .before .before .before .before .before .before .before .before .before .before .before .before .before .args .globals .now) ps) (c .before .before .before .before .before .before .before .before .before .before .before .before .before .before .before .before .before .before .before .before .before .before .before .before .before .before .args .strict) room x (c .before .before .before .before .before .before .before .before .before .before .before .before .before .before .before .before .before .before .before .before .before .before .before .before .before .before .args .p) h) y (known .0) (known .1) (c .before .before .greater .ensures) refl refl refl (c .before .before .before .before .before .before .before .before .before .before .loop .inv .grown) (c .before .if5 .left) (c .state-at2 .ensures)
 
 justify-walk-requires : (t : ℕ) → justify-lts.Need-walk-requires (R-justify t) (justify-at t) justify.Post justify-Inv-loop justify-μ-loop
-justify-walk-requires t c κs = let l = (c .before .before .before .before .before .before .before .before .before .before .before .before .before .before .before .before .before .before .plan-step .ensures .goes (c .before .before .before .before .before .before .before .before .before .before .before .before .before .before .before .before .if1 .left)) .lower (c .before .before .before .before .before .before .before .before .before .before .before .before .before .loop .i) (task-turn (c .before .before .before .before .before .before .before .before .before .before .before .before .before .before .before .before .before .before .before .before .before .before .before .before .before .before .before .before .before .args .job .now) (c .before .before .before .before .before .before .before .before .before .before .before .before .before .before .before .before .before .before .before .before .before .before .before .before .before .before .before .before .before .args .strict) (c .before .before .before .before .before .before .before .before .before .before .before .before .before .before .before .before .before .before .before .before .before .before .before .before .before .before .before .before .before .args .found .now) (c .before .before .before .before .before .before .before .before .before .before .before .before .before .before .before .before .before .before .before .before .before .before .before .before .before .before .before .before .before .args .globals .now) (c .before .before .before .before .before .before .before .before .before .before .before .before .before .before .before .before .before .before .before .before .before .before .before .before .before .before .before .before .before .args .unions .now) (c .before .before .before .before .before .before .before .before .before .before .before .before .before .before .before .before .before .before .before .before .before .before .before .before .before .before .before .before .before .args .p) (c .before .before .before .before .before .before .before .before .before .before .before .before .before .before .before .before .before .before .plan-step .result .rule) (c .before .before .before .before .before .before .before .before .before .before .before .before .before .before .before .before .before .before .plan-step .result .r) (c .before .before .before .before .before .before .before .before .before .before .before .before .before .before .before .before .before .before .plan-step .result .first) (c .before .before .before .before .before .before .before .before .before .before .before .before .before .before .before .before .before .before .plan-step .result .second) (c .before .before .before .before .before .before .before .before .before .before .before .before .before .before .before .before .before .before .plan-step .result .count) (c .before .before .before .before .before .before .before .before .before .before .before .before .before .before .before .before .before .before .plan-step .ensures .goes (c .before .before .before .before .before .before .before .before .before .before .before .before .before .before .before .before .if1 .left)) (c .before .before .before .before .before .before .before .before .before .before .before .before .before .loop .inv) (c .before .before .before .before .before .before .before .before .before .before .before .if3 .taken)) in let y = c .before .before .before .before .before .before .before .before .before .before .reference .ensures in let h = c .before .before .before .before .before .before .before .before .before .before .before .before .before .before .before .before .before .before .before .before .before .before .before .before .before .before .before .before .before .pre .1 .1 in (let m = c .before .before .before .before .before .before .before .before .before .before .before .before .before .before .before .before .before .before .before .before .before .before .before .before .before .before .before .before .before .pre .0 in omega arith, (task-next (c .before .before .before .before .before .before .before .before .before .before .before .before .before .before .before .before .before .before .before .before .before .before .before .before .before .before .before .before .before .args .job .now) (c .before .before .before .before .before .before .before .before .before .before .before .before .before .before .before .before .before .before .before .before .before .before .before .before .before .before .before .before .before .args .strict) (c .before .before .before .before .before .before .before .before .before .before .before .before .before .before .before .before .before .before .before .before .before .before .before .before .before .before .before .before .before .args .found .now) (c .before .before .before .before .before .before .before .before .before .before .before .before .before .before .before .before .before .before .before .before .before .before .before .before .before .before .before .before .before .args .globals .now) (c .before .before .before .before .before .before .before .before .before .before .before .before .before .before .before .before .before .before .before .before .before .before .before .before .before .before .before .before .before .args .unions .now) (c .before .before .before .before .before .before .before .before .before .before .before .before .before .before .before .before .before .before .before .before .before .before .before .before .before .before .before .before .before .args .p) (c .before .before .before .before .before .before .before .before .before .before .before .before .before .before .before .before .before .before .plan-step .result .rule) (c .before .before .before .before .before .before .before .before .before .before .before .before .before .before .before .before .before .before .plan-step .result .r) (c .before .before .before .before .before .before .before .before .before .before .before .before .before .before .before .before .before .before .plan-step .result .first) (c .before .before .before .before .before .before .before .before .before .before .before .before .before .before .before .before .before .before .plan-step .result .second) (c .before .before .before .before .before .before .before .before .before .before .before .before .before .before .before .before .before .before .plan-step .result .count) (c .before .before .before .before .before .before .before .before .before .before .before .before .before .before .before .before .before .before .plan-step .ensures .goes (c .before .before .before .before .before .before .before .before .before .before .before .before .before .before .before .before .if1 .left)) (c .before .before .before .before .before .before .before .before .before .before .before .before .before .loop .inv) (c .before .before .before .before .before .before .before .before .before .before .before .if3 .taken), omega arith))
+justify-walk-requires t c κs = let l = (c .before .before .before .before .before .before .before .before .before .before .before .before .before .before .before .before .before .before .plan-step .ensures .goes (c .before .before .before .before .before .before .before .before .before .before .before .before .before .before .before .before .if1 .left)) .lower (c .before .before .before .before .before .before .before .before .before .before .before .before .before .loop .i) (task-turn (c .before .before .before .before .before .before .before .before .before .before .before .before .before .before .before .before .before .before .before .before .before .before .before .before .before .before .before .before .before .args .job .now) (c .before .before .before .before .before .before .before .before .before .before .before .before .before .before .before .before .before .before .before .before .before .before .before .before .before .before .before .before .before .args .strict) (c .before .before .before .before .before .before .before .before .before .before .before .before .before .before .before .before .before .before .before .before .before .before .before .before .before .before .before .before .before .args .found .now) (c .before .before .before .before .before .before .before .before .before .before .before .before .before .before .before .before .before .before .before .before .before .before .before .before .before .before .before .before .before .args .globals .now) (c .before .before .before .before .before .before .before .before .before .before .before .before .before .before .before .before .before .before .before .before .before .before .before .before .before .before .before .before .before .args .unions .now) (c .before .before .before .before .before .before .before .before .before .before .before .before .before .before .before .before .before .before .before .before .before .before .before .before .before .before .before .before .before .args .p) (c .before .before .before .before .before .before .before .before .before .before .before .before .before .before .before .before .before .before .plan-step .result .rule) (c .before .before .before .before .before .before .before .before .before .before .before .before .before .before .before .before .before .before .plan-step .result .r) (c .before .before .before .before .before .before .before .before .before .before .before .before .before .before .before .before .before .before .plan-step .result .first) (c .before .before .before .before .before .before .before .before .before .before .before .before .before .before .before .before .before .before .plan-step .result .second) (c .before .before .before .before .before .before .before .before .before .before .before .before .before .before .before .before .before .before .plan-step .result .count) (c .before .before .before .before .before .before .before .before .before .before .before .before .before .before .before .before .before .before .plan-step .ensures .goes (c .before .before .before .before .before .before .before .before .before .before .before .before .before .before .before .before .if1 .left)) (c .before .before .before .before .before .before .before .before .before .before .before .before .before .loop .inv) (c .before .before .before .before .before .before .before .before .before .before .before .if3 .taken)) in let y = c .before .before .before .before .before .before .before .before .before .before .reference .ensures in let h = c .before .before .before .before .before .before .before .before .before .before .before .before .before .before .before .before .before .before .before .before .before .before .before .before .before .before .before .before .before .pre .1 .1 in (let m = c .before .before .before .before .before .before .before .before .before .before .before .before .before .before .before .before .before .before .before .before .before .before .before .before .before .before .before .before .before .pre .0 in omega arith, (task-next (c .before .before .before .before .before .before .before .before .before .before .before .before .before .before .before .before .before .before .before .before .before .before .before .before .before .before .before .before .before .args .job .now) (c .before .before .before .before .before .before .before .before .before .before .before .before .before .before .before .before .before .before .before .before .before .before .before .before .before .before .before .before .before .args .strict) (c .before .before .before .before .before .before .before .before .before .before .before .before .before .before .before .before .before .before .before .before .before .before .before .before .before .before .before .before .before .args .found .now) (c .before .before .before .before .before .before .before .before .before .before .before .before .before .before .before .before .before .before .before .before .before .before .before .before .before .before .before .before .before .args .globals .now) (c .before .before .before .before .before .before .before .before .before .before .before .before .before .before .before .before .before .before .before .before .before .before .before .before .before .before .before .before .before .args .unions .now) (c .before .before .before .before .before .before .before .before .before .before .before .before .before .before .before .before .before .before .before .before .before .before .before .before .before .before .before .before .before .args .p) (c .before .before .before .before .before .before .before .before .before .before .before .before .before .before .before .before .before .before .plan-step .result .rule) (c .before .before .before .before .before .before .before .before .before .before .before .before .before .before .before .before .before .before .plan-step .result .r) (c .before .before .before .before .before .before .before .before .before .before .before .before .before .before .before .before .before .before .plan-step .result .first) (c .before .before .before .before .before .before .before .before .before .before .before .before .before .before .before .before .before .before .plan-step .result .second) (c .before .before .before .before .before .before .before .before .before .before .before .before .before .before .before .before .before .before .plan-step .result .count) (c .before .before .before .before .before .before .before .before .before .before .before .before .before .before .before .before .before .before .plan-step .ensures .goes (c .before .before .before .before .before .before .before .before .before .before .before .before .before .before .before .before .if1 .left)) (c .before .before .before .before .before .before .before .before .before .before .before .before .before .loop .inv) (c .before .before .before .before .before .before .before .before .before .before .before .if3 .taken), (omega arith, sym (word-at (c .before .before .before .before .before .before .before .before .before .before .before .before .before .loop .scratch) (length (c .before .before .before .before .before .before .before .before .before .before .before .before .before .loop .skinds)) (c .before .before .before .before .before .before .before .before .wide .ensures) (c .before .before .before .before .before .before .before .height-noted .ensures)) ∙ c .before .before .before .before .before .before .if4 .left)))
 
 justify-same-length : (t : ℕ) → justify-lts.Need-same-length (R-justify t) (justify-at t) justify.Post justify-Inv-loop justify-μ-loop
 justify-same-length t c = c .before .before .before .before .before .before .before .before .before .before .before .before .before .before .walk .ensures .0 .grown .lenK ∙ c .before .before .before .before .before .before .before .before .before .before .before .before .before .before .before .before .before .before .before .before .before .before .before .before .before .before .before .before .loop .inv .grown .lenK
@@ -265,67 +265,55 @@ walk-wide-requires : (t : ℕ) → walk-lts.Need-wide-requires (R-walk t) (walk-
 walk-wide-requires t c κs = search needs
 
 walk-add-at-2 : (t : ℕ) → walk-lts.Need-add-at-2 (R-walk t) (walk-at t) walk.Post
-walk-add-at-2 t c = let k = c .before .before .before .before .before .before .before .before .before .before .before .pre .1 .0 .indexed .stored .formed .few in let w = c .wide .ensures in let h = c .before .before .before .before .before .before .before .before .before .before .before .pre .1 .1 in let j = c .before .before .before .before .before .before .before .before .before .before .before .pre .1 .0 .ready .held .limits .proofs in omega arith
-
-walk-height-noted-requires : (t : ℕ) → walk-lts.Need-height-noted-requires (R-walk t) (walk-at t) walk.Post
-walk-height-noted-requires t c κs = let w = c .before .wide .ensures in let g = c .before .before .before .before .before .before .before .before .before .before .before .before .pre .1 .0 .long in let h = c .before .before .before .before .before .before .before .before .before .before .before .before .pre .1 .1 in omega arith
-
-walk-pass-requires : (t : ℕ) → walk-lts.Need-pass-requires (R-walk t) (walk-at t) walk.Post
-walk-pass-requires t c κs = search needs
-
-walk-same-length : (t : ℕ) → walk-lts.Need-same-length (R-walk t) (walk-at t) walk.Post
-walk-same-length t c = search needs
-
-walk-returns : (t : ℕ) → walk-lts.Need-returns (R-walk t) (walk-at t) walk.Post
-walk-returns t c = let a = c .before .before .before .before .before .before .before .before .before .before .before .before .before .before .before .args in let pre = c .before .before .before .before .before .before .before .before .before .before .before .before .before .before .before .pre .1 in walk-known (a .job .now) (a .strict) (a .found .now) (a .globals .now) (a .unions .now) (a .p) (pre .0) (pre .1) (word-at (a .scratch .now) (length (a .skinds .now)) (c .before .before .before .before .wide .ensures) (c .before .before .height-noted .ensures)) (c .before .if1 .taken) (c .pass .ensures)
+walk-add-at-2 t c = let k = c .before .before .before .before .before .before .before .before .before .before .before .pre .1 .0 .indexed .stored .formed .few in let w = c .wide .ensures in let h = c .before .before .before .before .before .before .before .before .before .before .before .pre .1 .1 .0 in let j = c .before .before .before .before .before .before .before .before .before .before .before .pre .1 .0 .ready .held .limits .proofs in omega arith
 
 walk-justify-requires : (t : ℕ) → walk-lts.Need-justify-requires (R-walk t) (walk-at t) walk.Post
-walk-justify-requires t c κs = let a = c .before .before .before .before .before .before .before .before .before .before .before .before .before .before .before .before .before .before .before .before .args in let pre = c .before .before .before .before .before .before .before .before .before .before .before .before .before .before .before .before .before .before .before .before .pre .1 in (let m = c .before .before .before .before .before .before .before .before .before .before .before .before .before .before .before .before .before .before .before .before .pre .0 in omega arith, (pre .0, pre .1))
+walk-justify-requires t c κs = let a = c .before .before .before .before .before .before .before .before .before .before .before .before .before .before .before .before .before .args in let pre = c .before .before .before .before .before .before .before .before .before .before .before .before .before .before .before .before .before .pre .1 in (let m = c .before .before .before .before .before .before .before .before .before .before .before .before .before .before .before .before .before .pre .0 in omega arith, (pre .0, pre .1 .0))
+
+walk-same-length : (t : ℕ) → walk-lts.Need-same-length (R-walk t) (walk-at t) walk.Post
+walk-same-length t c = c .before .before .before .before .before .before .before .before .before .before .before .before .before .before .justify .ensures .0 .grown .lenK
 
 walk-same-length-2 : (t : ℕ) → walk-lts.Need-same-length-2 (R-walk t) (walk-at t) walk.Post
-walk-same-length-2 t c = c .before .before .before .before .before .before .before .before .before .before .before .before .before .before .justify .ensures .0 .grown .lenK
+walk-same-length-2 t c = c .before .before .before .before .before .before .before .before .before .before .before .before .before .before .justify .ensures .0 .grown .lenE
 
 walk-same-length-3 : (t : ℕ) → walk-lts.Need-same-length-3 (R-walk t) (walk-at t) walk.Post
-walk-same-length-3 t c = c .before .before .before .before .before .before .before .before .before .before .before .before .before .before .justify .ensures .0 .grown .lenE
+walk-same-length-3 t c = c .before .before .before .before .before .before .before .before .before .before .before .before .before .before .justify .ensures .0 .grown .lenP
 
 walk-same-length-4 : (t : ℕ) → walk-lts.Need-same-length-4 (R-walk t) (walk-at t) walk.Post
-walk-same-length-4 t c = c .before .before .before .before .before .before .before .before .before .before .before .before .before .before .justify .ensures .0 .grown .lenP
+walk-same-length-4 t c = c .before .before .before .before .before .before .before .before .before .before .before .before .before .before .justify .ensures .0 .grown .lenI
 
 walk-same-length-5 : (t : ℕ) → walk-lts.Need-same-length-5 (R-walk t) (walk-at t) walk.Post
-walk-same-length-5 t c = c .before .before .before .before .before .before .before .before .before .before .before .before .before .before .justify .ensures .0 .grown .lenI
+walk-same-length-5 t c = c .before .before .before .before .before .before .before .before .before .before .before .before .before .before .justify .kept .1 .1 .1 .1 .1 .1 .1 .1 .1 .1 .0
 
 walk-same-length-6 : (t : ℕ) → walk-lts.Need-same-length-6 (R-walk t) (walk-at t) walk.Post
-walk-same-length-6 t c = c .before .before .before .before .before .before .before .before .before .before .before .before .before .before .justify .kept .1 .1 .1 .1 .1 .1 .1 .1 .1 .1 .0
+walk-same-length-6 t c = c .before .before .before .before .before .before .before .before .before .before .before .before .before .before .justify .kept .1 .1 .1 .1 .1 .1 .1 .1 .1 .1 .1 .0
 
-walk-same-length-7 : (t : ℕ) → walk-lts.Need-same-length-7 (R-walk t) (walk-at t) walk.Post
-walk-same-length-7 t c = c .before .before .before .before .before .before .before .before .before .before .before .before .before .before .justify .kept .1 .1 .1 .1 .1 .1 .1 .1 .1 .1 .1 .0
-
-walk-returns-2 : (t : ℕ) → walk-lts.Need-returns-2 (R-walk t) (walk-at t) walk.Post
-walk-returns-2 t c = let a = c .before .before .before .before .before .before .before .before .before .before .before .before .before .before .before .before .before .before .before .before .before .before .before .before .before .before .before .before .before .before .before .before .before .before .before .args in let pre = c .before .before .before .before .before .before .before .before .before .before .before .before .before .before .before .before .before .before .before .before .before .before .before .before .before .before .before .before .before .before .before .before .before .before .before .pre .1 in (walk-stops (a .job .now) (a .strict) (a .found .now) (a .globals .now) (a .unions .now) (a .p) (pre .0) (pre .1) (word-at (a .scratch .now) (length (a .skinds .now)) (c .before .before .before .before .before .before .before .before .before .before .before .before .before .before .before .before .before .before .before .before .before .before .before .before .wide .ensures) (c .before .before .before .before .before .before .before .before .before .before .before .before .before .before .before .before .before .before .before .before .before .before .height-noted .ensures)) (c .before .before .before .before .before .before .before .before .before .before .before .before .before .before .before .before .before .before .before .before .before .if1 .left) (c .before .before .before .before .before .before .before .before .before .before .before .before .before .before .justify .ensures .0) (c .if2 .taken), λ u. absurd ((c .if2 .taken) u))
+walk-returns : (t : ℕ) → walk-lts.Need-returns (R-walk t) (walk-at t) walk.Post
+walk-returns t c = let a = c .before .before .before .before .before .before .before .before .before .before .before .before .before .before .before .before .before .before .before .before .before .before .before .before .before .before .before .before .before .before .before .before .args in let pre = c .before .before .before .before .before .before .before .before .before .before .before .before .before .before .before .before .before .before .before .before .before .before .before .before .before .before .before .before .before .before .before .before .pre .1 in (walk-stops (a .job .now) (a .strict) (a .found .now) (a .globals .now) (a .unions .now) (a .p) (pre .0) (pre .1 .0) (pre .1 .1) (c .before .before .before .before .before .before .before .before .before .before .before .before .before .before .justify .ensures .0) (c .if1 .taken), λ u. absurd ((c .if1 .taken) u))
 
 walk-note-height-requires : (t : ℕ) → walk-lts.Need-note-height-requires (R-walk t) (walk-at t) walk.Post
-walk-note-height-requires t c κs = let w = c .before .before .before .before .before .before .before .before .before .before .before .before .before .before .before .before .before .before .before .before .before .before .before .before .before .wide .ensures in let g = c .before .before .before .before .before .before .before .before .before .before .before .before .before .before .before .before .before .before .before .before .before .before .before .before .before .before .before .before .before .before .before .before .before .before .before .before .pre .1 .0 .long in let h = c .before .before .before .before .before .before .before .before .before .before .before .before .before .before .before .before .before .before .before .before .before .before .before .before .before .before .before .before .before .before .before .before .before .before .before .before .pre .1 .1 in let k = c .before .before .before .before .before .before .before .before .before .before .before .before .before .before .before .justify .kept .1 .1 .1 .1 .1 .1 .1 .1 .1 .1 .1 .0 in omega arith
+walk-note-height-requires t c κs = let w = c .before .before .before .before .before .before .before .before .before .before .before .before .before .before .before .before .before .before .before .before .before .before .wide .ensures in let g = c .before .before .before .before .before .before .before .before .before .before .before .before .before .before .before .before .before .before .before .before .before .before .before .before .before .before .before .before .before .before .before .before .before .pre .1 .0 .long in let h = c .before .before .before .before .before .before .before .before .before .before .before .before .before .before .before .before .before .before .before .before .before .before .before .before .before .before .before .before .before .before .before .before .before .pre .1 .1 .0 in let k = c .before .before .before .before .before .before .before .before .before .before .before .before .before .before .before .justify .kept .1 .1 .1 .1 .1 .1 .1 .1 .1 .1 .1 .0 in omega arith
+
+walk-same-length-7 : (t : ℕ) → walk-lts.Need-same-length-7 (R-walk t) (walk-at t) walk.Post
+walk-same-length-7 t c = c .before .before .before .before .before .before .before .before .before .before .before .before .before .before .before .before .before .before .justify .ensures .0 .grown .lenK
 
 walk-same-length-8 : (t : ℕ) → walk-lts.Need-same-length-8 (R-walk t) (walk-at t) walk.Post
-walk-same-length-8 t c = c .before .before .before .before .before .before .before .before .before .before .before .before .before .before .before .before .before .before .justify .ensures .0 .grown .lenK
+walk-same-length-8 t c = c .before .before .before .before .before .before .before .before .before .before .before .before .before .before .before .before .before .before .justify .ensures .0 .grown .lenE
 
 walk-same-length-9 : (t : ℕ) → walk-lts.Need-same-length-9 (R-walk t) (walk-at t) walk.Post
-walk-same-length-9 t c = c .before .before .before .before .before .before .before .before .before .before .before .before .before .before .before .before .before .before .justify .ensures .0 .grown .lenE
+walk-same-length-9 t c = c .before .before .before .before .before .before .before .before .before .before .before .before .before .before .before .before .before .before .justify .ensures .0 .grown .lenP
 
 walk-same-length-10 : (t : ℕ) → walk-lts.Need-same-length-10 (R-walk t) (walk-at t) walk.Post
-walk-same-length-10 t c = c .before .before .before .before .before .before .before .before .before .before .before .before .before .before .before .before .before .before .justify .ensures .0 .grown .lenP
+walk-same-length-10 t c = c .before .before .before .before .before .before .before .before .before .before .before .before .before .before .before .before .before .before .justify .ensures .0 .grown .lenI
 
 walk-same-length-11 : (t : ℕ) → walk-lts.Need-same-length-11 (R-walk t) (walk-at t) walk.Post
-walk-same-length-11 t c = c .before .before .before .before .before .before .before .before .before .before .before .before .before .before .before .before .before .before .justify .ensures .0 .grown .lenI
+walk-same-length-11 t c = c .before .before .before .before .before .before .before .before .before .before .before .before .before .before .before .before .before .before .justify .kept .1 .1 .1 .1 .1 .1 .1 .1 .1 .1 .0
 
 walk-same-length-12 : (t : ℕ) → walk-lts.Need-same-length-12 (R-walk t) (walk-at t) walk.Post
-walk-same-length-12 t c = c .before .before .before .before .before .before .before .before .before .before .before .before .before .before .before .before .before .before .justify .kept .1 .1 .1 .1 .1 .1 .1 .1 .1 .1 .0
+walk-same-length-12 t c = c .before .before .note-height .kept .0 ∙ c .before .before .before .before .before .before .before .before .before .before .before .before .before .before .before .before .before .before .justify .kept .1 .1 .1 .1 .1 .1 .1 .1 .1 .1 .1 .0
 
-walk-same-length-13 : (t : ℕ) → walk-lts.Need-same-length-13 (R-walk t) (walk-at t) walk.Post
-walk-same-length-13 t c = c .before .before .note-height .kept .0 ∙ c .before .before .before .before .before .before .before .before .before .before .before .before .before .before .before .before .before .before .justify .kept .1 .1 .1 .1 .1 .1 .1 .1 .1 .1 .1 .0
-
-walk-returns-3 : (t : ℕ) → walk-lts.Need-returns-3 (R-walk t) (walk-at t) walk.Post
-walk-returns-3 t c = let a = c .before .before .before .before .before .before .before .before .before .before .before .before .before .before .before .before .before .before .before .before .before .before .before .before .before .before .before .before .before .before .before .before .before .before .before .before .before .before .before .args in let pre = c .before .before .before .before .before .before .before .before .before .before .before .before .before .before .before .before .before .before .before .before .before .before .before .before .before .before .before .before .before .before .before .before .before .before .before .before .before .before .before .pre .1 in (walk-ends (a .job .now) (a .strict) (a .found .now) (a .globals .now) (a .unions .now) (a .p) (pre .0) (pre .1) (word-at (a .scratch .now) (length (a .skinds .now)) (c .before .before .before .before .before .before .before .before .before .before .before .before .before .before .before .before .before .before .before .before .before .before .before .before .before .before .before .before .wide .ensures) (c .before .before .before .before .before .before .before .before .before .before .before .before .before .before .before .before .before .before .before .before .before .before .before .before .before .before .height-noted .ensures)) (c .before .before .before .before .before .before .before .before .before .before .before .before .before .before .before .before .before .before .before .before .before .before .before .before .before .if1 .left) (c .before .before .before .before .before .before .before .before .before .before .before .before .before .before .before .before .before .before .justify .ensures .0) (c .before .before .before .before .if2 .left) (set-at (c .before .before .before .before .before .before .before .before .before .before .before .before .before .before .before .before .before .before .justify .last .1 .1 .1 .1 .1 .1 .1 .1 .1 .1 .1 .0) (length (a .skinds .now)) (c .before .before .before .before .before .before .before .before .before .before .before .before .before .before .before .before .before .before .justify .result .value) (c .before .before .note-height .ensures) (c .before .before .before .before .before .before .before .before .before .before .before .before .before .before .before .before .before .before .before .before .before .before .before .before .before .before .before .before .wide .ensures)) (c .before .before .before .before .before .before .before .before .before .before .before .before .before .before .before .before .before .before .justify .ensures .1 (c .before .before .before .before .if2 .left)), c .before .before .before .before .before .before .before .before .before .before .before .before .before .before .before .before .before .before .justify .ensures .1)
+walk-returns-2 : (t : ℕ) → walk-lts.Need-returns-2 (R-walk t) (walk-at t) walk.Post
+walk-returns-2 t c = let a = c .before .before .before .before .before .before .before .before .before .before .before .before .before .before .before .before .before .before .before .before .before .before .before .before .before .before .before .before .before .before .before .before .before .before .before .before .args in let pre = c .before .before .before .before .before .before .before .before .before .before .before .before .before .before .before .before .before .before .before .before .before .before .before .before .before .before .before .before .before .before .before .before .before .before .before .before .pre .1 in (walk-ends (a .job .now) (a .strict) (a .found .now) (a .globals .now) (a .unions .now) (a .p) (pre .0) (pre .1 .0) (pre .1 .1) (c .before .before .before .before .before .before .before .before .before .before .before .before .before .before .before .before .before .before .justify .ensures .0) (c .before .before .before .before .if1 .left) (set-at (c .before .before .before .before .before .before .before .before .before .before .before .before .before .before .before .before .before .before .justify .last .1 .1 .1 .1 .1 .1 .1 .1 .1 .1 .1 .0) (length (a .skinds .now)) (c .before .before .before .before .before .before .before .before .before .before .before .before .before .before .before .before .before .before .justify .result .value) (c .before .before .note-height .ensures) (c .before .before .before .before .before .before .before .before .before .before .before .before .before .before .before .before .before .before .before .before .before .before .before .before .before .wide .ensures)) (c .before .before .before .before .before .before .before .before .before .before .before .before .before .before .before .before .before .before .justify .ensures .1 (c .before .before .before .before .if1 .left)), c .before .before .before .before .before .before .before .before .before .before .before .before .before .before .before .before .before .before .justify .ensures .1)
 
 pub +justify+walk-spec : {M : Type 1} → statement M
 +justify+walk-spec = close μ-justify μ-walk (λ t. justify-lts.spec (R-justify t)
@@ -400,10 +388,6 @@ pub +justify+walk-spec : {M : Type 1} → statement M
     λ t. walk-lts.spec (
       wide-reads.Asked,
       wide-reads.Learnt,
-      height-noted-reads.Asked,
-      height-noted-reads.Learnt,
-      pass-reads.Asked,
-      pass-reads.Learnt,
       justify-below t,
       justify.Post,
       note-height-reads.Asked,
@@ -414,23 +398,19 @@ pub +justify+walk-spec : {M : Type 1} → statement M
     (walk-add-at t)
     (walk-wide-requires t)
     (walk-add-at-2 t)
-    (walk-height-noted-requires t)
-    (walk-pass-requires t)
-    (walk-same-length t)
-    (walk-returns t)
     (walk-justify-requires t)
+    (walk-same-length t)
     (walk-same-length-2 t)
     (walk-same-length-3 t)
     (walk-same-length-4 t)
     (walk-same-length-5 t)
     (walk-same-length-6 t)
-    (walk-same-length-7 t)
-    (walk-returns-2 t)
+    (walk-returns t)
     (walk-note-height-requires t)
+    (walk-same-length-7 t)
     (walk-same-length-8 t)
     (walk-same-length-9 t)
     (walk-same-length-10 t)
     (walk-same-length-11 t)
     (walk-same-length-12 t)
-    (walk-same-length-13 t)
-    (walk-returns-3 t)
+    (walk-returns-2 t)
