@@ -95,7 +95,7 @@ slice-aggregate-walk-3 : tie.Need-slice-aggregate-walk-3
 slice-aggregate-walk-3 c = search needs
 
 walk-requires : tie.Need-walk-requires
-walk-requires c κs = let a = c .b48 .args in let pre = c .b48 .pre in let h = pre .0 .long in let l = c .b30 .new-context .kept .1 .1 .1 .1 .1 .1 .1 .0 in let q = length-take (length (a .skinds .now)) (a .scratch .now) in let lt : length (take (length (a .skinds .now)) (a .scratch .now)) ≡ length (a .skinds .now) = length-take-le (length (a .skinds .now)) (a .scratch .now) (omega arith) in let C = c .b30 .new-context .ensures in let x = pre .0 .ready .held .limits .expressions in let b : length (c .b30 .new-context .last .1 .1 .1 .1 .1 .1 .1 .0 ++ drop (length (a .skinds .now)) (a .scratch .now)) ≡ length (a .scratch .now) = simp (length-append, length-drop) (omega arith) in let lm = c .b30 .new-context .kept .1 .1 .1 .1 .1 .1 .0 in let flags = start-flags (a .scratch .now) (c .b30 .new-context .last .1 .1 .1 .1 .1 .1 .1 .0) (c .b12 .clear .last .0) (length (a .skinds .now)) _ (l ∙ lt) (omega arith) (C .does .grown .lenK) _ (c .b12 .clear .ensures) in (check-ground (pre .0) (a .strict) (a .asked) (pre .1) C (c .b14 .if1 .left) (part-is (c .b30 .new-context .last .1 .1 .1 .1 .1 .1 .1 .1 .0) (c .b30 .new-context .result .bindings) (c .b30 .new-context .kept .1 .1 .1 .1 .1 .1 .1 .1 .0)) (c .b40 .find-offences .ensures) refl (omega (arith, length-replicate {A = ℕ} 8193 0)) (start-long (a .scratch .now) (c .b30 .new-context .last .1 .1 .1 .1 .1 .1 .1 .0) (c .b12 .clear .last .0) (length (a .skinds .now)) (length (a .skinds .now)) (l ∙ lt) (omega arith) refl (omega arith) (c .b12 .clear .kept .0)) flags, (pre .1, height-none flags (pre .1)))
+walk-requires c κs = let a = c .before .before .before .before .before .before .before .before .before .before .before .before .before .before .before .before .before .before .before .before .before .before .before .before .before .before .before .before .before .before .before .before .before .before .before .before .before .before .before .before .before .before .before .before .before .before .before .before .args in let pre = c .before .before .before .before .before .before .before .before .before .before .before .before .before .before .before .before .before .before .before .before .before .before .before .before .before .before .before .before .before .before .before .before .before .before .before .before .before .before .before .before .before .before .before .before .before .before .before .before .pre in let h = pre .0 .long in let l = c .before .before .before .before .before .before .before .before .before .before .before .before .before .before .before .before .before .before .before .before .before .before .before .before .before .before .before .before .before .before .new-context .kept .1 .1 .1 .1 .1 .1 .1 .0 in let q = length-take (length (a .skinds .now)) (a .scratch .now) in let lt : length (take (length (a .skinds .now)) (a .scratch .now)) ≡ length (a .skinds .now) = length-take-le (length (a .skinds .now)) (a .scratch .now) (omega arith) in let C = c .before .before .before .before .before .before .before .before .before .before .before .before .before .before .before .before .before .before .before .before .before .before .before .before .before .before .before .before .before .before .new-context .ensures in let x = pre .0 .ready .held .limits .expressions in let b : length (c .before .before .before .before .before .before .before .before .before .before .before .before .before .before .before .before .before .before .before .before .before .before .before .before .before .before .before .before .before .before .new-context .last .1 .1 .1 .1 .1 .1 .1 .0 ++ drop (length (a .skinds .now)) (a .scratch .now)) ≡ length (a .scratch .now) = simp (length-append, length-drop) (omega arith) in let lm = c .before .before .before .before .before .before .before .before .before .before .before .before .before .before .before .before .before .before .before .before .before .before .before .before .before .before .before .before .before .before .new-context .kept .1 .1 .1 .1 .1 .1 .0 in let flags = start-flags (a .scratch .now) (c .before .before .before .before .before .before .before .before .before .before .before .before .before .before .before .before .before .before .before .before .before .before .before .before .before .before .before .before .before .before .new-context .last .1 .1 .1 .1 .1 .1 .1 .0) (c .before .before .before .before .before .before .before .before .before .before .before .before .clear .last .0) (length (a .skinds .now)) _ (l ∙ lt) (omega arith) (C .does .grown .lenK) _ (c .before .before .before .before .before .before .before .before .before .before .before .before .clear .ensures) in (check-ground (pre .0) (a .strict) (a .asked) (pre .1) C (c .before .before .before .before .before .before .before .before .before .before .before .before .before .before .if1 .left) (part-is (c .before .before .before .before .before .before .before .before .before .before .before .before .before .before .before .before .before .before .before .before .before .before .before .before .before .before .before .before .before .before .new-context .last .1 .1 .1 .1 .1 .1 .1 .1 .0) (c .before .before .before .before .before .before .before .before .before .before .before .before .before .before .before .before .before .before .before .before .before .before .before .before .before .before .before .before .before .before .new-context .result .bindings) (c .before .before .before .before .before .before .before .before .before .before .before .before .before .before .before .before .before .before .before .before .before .before .before .before .before .before .before .before .before .before .new-context .kept .1 .1 .1 .1 .1 .1 .1 .1 .0)) (c .before .before .before .before .before .before .before .before .before .before .before .before .before .before .before .before .before .before .before .before .before .before .before .before .before .before .before .before .before .before .before .before .before .before .before .before .before .before .before .before .find-offences .ensures) refl (omega (arith, length-replicate {A = ℕ} 8193 0)) (start-long (a .scratch .now) (c .before .before .before .before .before .before .before .before .before .before .before .before .before .before .before .before .before .before .before .before .before .before .before .before .before .before .before .before .before .before .new-context .last .1 .1 .1 .1 .1 .1 .1 .0) (c .before .before .before .before .before .before .before .before .before .before .before .before .clear .last .0) (length (a .skinds .now)) (length (a .skinds .now)) (l ∙ lt) (omega arith) refl (omega arith) (c .before .before .before .before .before .before .before .before .before .before .before .before .clear .kept .0)) flags, (pre .1, height-none flags (pre .1)))
 
 same-length-6 : tie.Need-same-length-6
 same-length-6 c = c .before .before .before .before .before .before .before .before .before .before .before .walk .ensures .0 .grown .lenK ∙ c .before .before .before .before .before .before .before .before .before .before .before .before .before .before .before .before .before .before .before .before .before .before .before .before .before .before .before .before .before .before .before .before .before .before .before .before .before .before .before .before .before .before .new-context .ensures .does .grown .lenK
