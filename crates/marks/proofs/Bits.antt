@@ -64,10 +64,14 @@ pub length-with : (m : List ℕ) (t : ℕ) → length (withMark m t) ≡ length 
 unfolding withMark
 length-with m t = length-set m (t / 32) (bitOr (getD m (t / 32) 0) (2 ^ (t % 32)))
 
+-- in a word that is 0 nothing is marked
+word-none : (m : List ℕ) (t : ℕ) → getD m (t / 32) 0 ≡ 0 → isMarked m t ≡ false
+unfolding isMarked
+word-none m t e = ap (λ (w : ℕ). ltb 0 (bit w (t % 32))) e ∙ bit-none (t % 32)
+
 -- past the end nothing is marked, and nothing can be
 pub none-past : (m : List ℕ) (t : ℕ) → length m ≤ t / 32 → false ≡ isMarked m t
-unfolding isMarked
-none-past m t h = sym (ap (λ (w : ℕ). ltb 0 (bit w (t % 32))) (List·getD-eq-default m 0 h) ∙ bit-none (t % 32))
+none-past m t h = sym (word-none m t (List·getD-eq-default m 0 h))
 
 pub same-past : (m : List ℕ) (t : ℕ) → length m ≤ t / 32 → m ≡ withMark m t
 unfolding withMark
@@ -101,8 +105,14 @@ zeros-word (suc n) zero = refl
 zeros-word (suc n) (suc i) = zeros-word n i
 
 pub zeros-at : (n t : ℕ) → isMarked (zeros n) t ≡ false
-unfolding isMarked
-zeros-at n t = ap (λ (w : ℕ). ltb 0 (bit w (t % 32))) (zeros-word n (t / 32)) ∙ bit-none (t % 32)
+zeros-at n t = word-none (zeros n) t (zeros-word n (t / 32))
+
+-- no term from k up to i is marked, as the 32 of a word that is 0
+abbrev pub Bare : List ℕ → ℕ → ℕ → Type 0
+Bare m k i = (t : ℕ) → k ≤ t → t < i → isMarked m t ≡ false
+
+pub bare-word : (m : List ℕ) (i : ℕ) → 0 < i → i % 32 ≡ 0 → getD m (i / 32 - 1) 0 ≡ 0 → (32 ≤ i) × Bare m (i - 32) i
+bare-word m i h e z = (omega arith, λ t a b. let q : t / 32 ≡ i / 32 - 1 = omega arith in word-none m t (ap (λ (w : ℕ). getD m w 0) q ∙ z))
 
 -- one term marked
 pub with-marked : (m : List ℕ) (t : ℕ) → t / 32 < length m → Marked (withMark m t) t

@@ -12,6 +12,7 @@ use borrow.Author.Tests.{not-true, not-false}
 use Rattle.model.specs.Term.{Term, getTerm}
 use Rattle.model.specs.Evaluate.{children}
 use Rattle.marks.specs.Marks.{zeros, isMarked, withMark, markAll, closeAt, close}
+use Rattle.marks.proofs.Bits.{Bare}
 use Rattle.marks.proofs.Closing.{at-length}
 
 -- words set to 0 up to i
@@ -60,12 +61,23 @@ close-suc s (suc i) m h =
     let e : i ≡ suc i - 1 = omega arith in
     ap (λ (k : ℕ). close s k (closeAt s k m (isMarked m k))) e
 
+-- numbers without a mark are closed as they are
+close-bare : (s : List Term) (m : List ℕ) (j i k : ℕ) → i ≡ j + k → Bare m k i → close s i m ≡ close s k m
+close-bare s m zero i k e b = ap (λ (x : ℕ). close s x m) (omega arith)
+close-bare s m (suc j) i k e b =
+    close-suc s i m (omega arith)
+    ∙ ap (λ (y : Bool). close s (i - 1) (closeAt s (i - 1) m y)) (b (i - 1) (omega arith) (omega arith))
+    ∙ close-bare s m j (i - 1) k (omega arith) (λ t l u. b t l (omega arith))
+
 module _ {s : List Term} {n : ℕ} {m₀ : List ℕ} {i : ℕ} {m : List ℕ} (C : ClosedTo s n m₀ i m) where
   pub closed-step : {m′ : List ℕ} → 0 < i → m′ ≡ closeAt s (i - 1) m (isMarked m (i - 1)) → ClosedTo s n m₀ (i - 1) m′
   closed-step h e = record {
     rest = C .rest ∙ close-suc s i m h ∙ ap (close s (i - 1)) (sym e);
     long = ap length e ∙ at-length s (i - 1) m (isMarked m (i - 1)) ∙ C .long;
   }
+
+  pub closed-bare : (32 ≤ i) × Bare m (i - 32) i → ClosedTo s n m₀ (i - 32) m
+  closed-bare (h, b) = record { rest = C .rest ∙ close-bare s m 32 i (i - 32) (omega arith) b; long = C .long }
 
   pub closed-all : i ≡ 0 → m ≡ close s n m₀
   unfolding close

@@ -2,7 +2,8 @@
 use cells::wide;
 use index::Fill;
 ghost use mathlib.Core.Path.{_≡_};
-ghost use Prim.Native.Nat.{_<_, _^_};
+ghost use mathlib.Core.Bool.{true, false};
+ghost use Prim.Native.Nat.{ℕ, _-_, _<_, _≤_, _^_};
 ghost use lib.ListN.{length};
 ghost use Rattle.termdag.specs.Store.{termsIn, Stored};
 ghost use Rattle.marks.specs.Marks.{zeros, wordsFor, isMarked, withMark, markAll, closeAt, close};
@@ -72,13 +73,32 @@ fn close_at(kinds: &[u32], ends: &[u32], pool: &[u32], fill: Fill, i: usize, mar
     mark_all(marks, xs);
 }
 
-// From the top number down, each marked term marks its children.
+// The 32 terms below i fill a word that has no mark; past the end none has.
+fn is_bare(marks: &[u32], i: usize) -> bool
+    requires { ⌜ 0 < i ⌝ }
+    ensures { λ r. ⌜ (r ≡ true → (32 ≤ i) × ((t : ℕ) → i - 32 ≤ t → t < i → isMarked (now (marks .entry)) t ≡ false)) ⌝ }
+{
+    if i % 32 != 0 {
+        return false;
+    }
+    let w = i / 32 - 1;
+    if marks.len() <= w {
+        return true;
+    }
+    marks[w] == 0
+}
+
+// From the top number down, each marked term marks its children; a word without a mark is stepped over.
 pub fn close(kinds: &[u32], ends: &[u32], pool: &[u32], fill: Fill, marks: &mut [u32])
     requires { ⌜ Stored (now kinds) (now ends) (now pool) fill ⌝ }
     ensures { λ _. ⌜ now (marks .exit) ≡ close (termsIn (now (kinds .entry)) (now (ends .entry)) (now (pool .entry)) fill) (fill .cells) (now (marks .entry)) ⌝ }
 {
     let mut i = fill.cells;
     while 0 < i {
+        if is_bare(marks, i) {
+            i -= 32;
+            continue;
+        }
         i -= 1;
         close_at(kinds, ends, pool, fill, i, marks);
     }

@@ -1,28 +1,31 @@
 -- The stages of a step: before a proof, after it, the head or what a step of its kind does, and nothing.
 use mathlib.Core.Path.{_≡_, refl, sym, ap, subst, subst⁻¹, _∙_}
-use mathlib.Core.Bool.{Bool, true, false, true≢false}
-use mathlib.Core.List.{List, [], _∷_, map}
+use mathlib.Core.Bool.{Bool, true, false, _&&_, true≢false}
+use mathlib.Core.List.{List, [], _∷_, map, nil≢cons}
 use mathlib.Core.Option.{none, some}
 use Prim.Native.Nat.{ℕ, zero, suc, _+_, _<_, _≤_}
 use native.Mathlib.Nat.{not-suc-le-zero, le-of-suc-le-suc}
 use native.Mathlib.Omega.{arith}
-use lib.ListN.{length, getD, take, drop, drop-of-length-le, length-map}
-use lib.Seq.{getD-drop}
+use lib.Dec.{eqb, ltb}
+use borrow.Author.Tests.{eqb-true, ltb-true, ltb-false}
+use lib.ListN.{length, getD, take, drop, drop-of-length-le, length-drop, length-map}
+use lib.Seq.{drop-cons, getD-drop}
 use Rattle.model.specs.Term.{Term, Extends}
 use Rattle.model.specs.Program.{Proposition, Binding, Program, Fact, Rule, Proof}
 use Rattle.model.specs.Cell.{noCell}
 use Rattle.model.specs.Decode.{ruleFacts, readBindings}
-use Rattle.model.specs.Check.{Check, andThen, pure, Room}
+use Rattle.model.specs.Check.{ok, Check, andThen, pure, Room}
 use Rattle.model.specs.Fact.{isContainerSideCondition, checkFactMatchesProposition}
 use Rattle.model.specs.Walk.{noProof, claimAt}
-use Rattle.model.proofs.Post.{post-result}
+use Rattle.model.proofs.Post.{post-ok, post-result}
+use Rattle.model.proofs.Store.{extends-same, extends-then}
 use Rattle.index.specs.declared.Fill.{Fill}
-use Rattle.termdag.specs.Store.{termsIn, roomOf}
+use Rattle.termdag.specs.Store.{termsIn, Indexed, roomOf}
 use Rattle.memo.specs.Memo.{Past}
-use Rattle.outcome.specs.Does.{Grown, Does}
+use Rattle.outcome.specs.Does.{passed, Grown, Does}
 use Rattle.outcome.specs.declared.Refusal.{Refusal}
 use Rattle.outcome.specs.declared.Checked.{Checked}
-use Rattle.outcome.proofs.Laws.{ok-of, does-map}
+use Rattle.outcome.proofs.Laws.{ok-of, grown-then, does-here, does-then, does-stop, does-map}
 use Rattle.program.specs.Ready.{tablesFor, programFor, ruleFor}
 use Rattle.program.specs.Read.{proofsFor, factFor, premisesFor, pairsFor}
 use Rattle.evaluate.specs.Value.{bindingsIn}
@@ -36,7 +39,7 @@ use Rattle.heads.proofs.Heading.{sane-fewer}
 use Rattle.steps.specs.Step.{Concludes}
 use Rattle.turns.specs.declared.Stage.{Stage}
 use Rattle.turns.specs.Walking.{Ground, Walks}
-use Rattle.turns.specs.Turning.{Turn, ofFact, ofProof, factTurns, bindingsBy, beforeProof, stageOf, isOver, Planned, Advances}
+use Rattle.turns.specs.Turning.{Turn, ofFact, ofProof, noTurn, factTurns, bindingsBy, afterTurn, beforeProof, endIf, stageOf, isOver, Planned, Advances}
 use Rattle.turns.proofs.Walking.{flags-same, ground-after}
 use Rattle.turns.proofs.Planning.{turns-most, turns-few}
 use Rattle.turns.proofs.Tying.{numbers-of}
@@ -80,23 +83,7 @@ module _ (J : List ℕ) (strict : Bool) (F G U : List ℕ) (p r name second coun
   abbrev stage : List Turn → ℕ → Room → List Proposition → Check (List Binding)
   stage ts v room ps = stageOf room prog proofs strict name ps p (claimAt proofs p) (getD proofs p noProof .justification) (some (ruleFor J r)) ts v σ
 
-  -- the head
-  pub stage-head : {i v : ℕ} → count ≤ i → {k₁ e₁ p₁ ix₁ : List ℕ} (c : Checked) {memo₁ W₁ : List ℕ} → Produces prog (ruleFor J r) σ (claimAt proofs p) k e q ix f k₁ e₁ p₁ ix₁ c memo₁ → length memo₁ ≡ length memo → length W₁ ≡ length W
-      → take (length k) W₁ ≡ take (length k) W → ((j : ℕ) → getD W₁ (length k + length k + j) 0 ≡ getD W (length k + length k + j) 0)
-      → {t : Stage} → t ≡ record { refusal = c .refusal; settled = true; binds = Binds.Nothing; fill = c .fill } → Advances J strict F G U p true r name second count X k e q ix f W i v k₁ e₁ p₁ ix₁ t memo₁ W₁
-  stage-head {i} {v} h {k₁} {e₁} {p₁} {ix₁} c {memo₁} {W₁} d lMemo lW front back t =
-      let l : drop i turns ≡ [] = rule-left (ruleFor J r .facts) (premisesFor J p) i (let m = S .long in omega arith) in
-      subst⁻¹ (λ (x : Stage). Advances J strict F G U p true r name second count X k e q ix f W i v k₁ e₁ p₁ ix₁ x memo₁ W₁) t (record {
-        walks = subst⁻¹ (λ (ts : List Turn). Walks {A = List Binding × List ℕ} J F G U k e q ix f W k₁ e₁ p₁ ix₁ (c .fill) (c .refusal) memo₁ W₁ (λ x. (σ, x)) (λ room ps done s. andThen (stage ts v room ps s) (λ τ. pure (τ, done)))) l
-            (walks-stage (stage [] v) g (d .checks .does .grown) (λ ps x. does-map (λ _. σ) σ (d .checks .does) (λ _. refl))
-            (λ n. (d .grows n, sane-fewer (g .sane) (d .grows n) (d .sane n), d .checks .past n)) lMemo lW front back);
-        over = λ _. sym (ap (λ (ts : List Turn). isOver prog ts v) l);
-        sane = λ _ n. d .sane n;
-        plain = λ u. absurd (true≢false u);
-        waits = λ u. absurd (true≢false u);
-      })
-
-  -- a fact before its premise, and after it
+  -- a fact before its premise
   module _ (i : ℕ) {t : Fact} {y : ℕ} (left : drop i turns ≡ ofFact t y ∷ drop (suc i) turns) {k₁ e₁ p₁ ix₁ : List ℕ} where
     stage-before-at : (c : Stage) {memo₁ : List ℕ} → Checks k e q ix f k₁ e₁ p₁ ix₁ (c .fill) (c .refusal) (boundOver (c .binds) σ) memo₁ (beforeProof (roomOf k q) prog proofs strict name (ofFact t 0) σ (termsIn k e q f))
         → (c .refusal .number ≡ 0 → c .settled ≡ isContainerSideCondition prog t) → (c .refusal .number ≡ 0 → Extends (termsIn k e q f) (termsIn k₁ e₁ p₁ (c .fill)) × Sane prog (boundOver (c .binds) σ) (termsIn k₁ e₁ p₁ (c .fill)))
@@ -122,22 +109,81 @@ module _ (J : List ℕ) (strict : Bool) (F G U : List ℕ) (p r name second coun
         × (c .refusal .number ≡ 0 → Extends (termsIn k e q f) (termsIn k₁ e₁ p₁ (c .fill)) × Sane prog (boundOver (c .binds) (bindingsIn X R G)) (termsIn k₁ e₁ p₁ (c .fill)))) h x in
         subst⁻¹ (λ (m : ℕ). Advances J strict F G U p true r name second count X k e q ix f W i m k₁ e₁ p₁ ix₁ c memo₁ W) u (stage-before-at c (y .0) (y .1) (y .2) q′ lMemo)
 
-    pub stage-after : (v : ℕ) → (v ≡ 0 → ⊥) → (c : Checked) {memo₁ : List ℕ} → Checks k e q ix f k₁ e₁ p₁ ix₁ (c .fill) (c .refusal) tt memo₁ (checkFactMatchesProposition (roomOf k q) prog name σ t (claimAt proofs y) (termsIn k e q f))
-        → length memo₁ ≡ length memo → {x : Stage} → x ≡ record { refusal = c .refusal; settled = true; binds = Binds.Nothing; fill = c .fill }
-        → Advances J strict F G U p true r name second count X k e q ix f W i v k₁ e₁ p₁ ix₁ x memo₁ W
-    stage-after zero h c d lMemo t′ = absurd (h refl)
-    stage-after (suc v) h c {memo₁} d lMemo t′ =
-        subst⁻¹ (λ (x : Stage). Advances J strict F G U p true r name second count X k e q ix f W i (suc v) k₁ e₁ p₁ ix₁ x memo₁ W) t′ (record {
-          walks = subst⁻¹ (λ (ts : List Turn). Walks {A = List Binding × List ℕ} J F G U k e q ix f W k₁ e₁ p₁ ix₁ (c .fill) (c .refusal) memo₁ W (λ x. (σ, x)) (λ room ps done u. andThen (stage ts (suc v) room ps u) (λ τ. pure (τ, done)))) left
-              (walks-stage (stage (ofFact t y ∷ drop (suc i) turns) (suc v)) g (d .does .grown) (λ ps x. does-map (λ _. σ) σ (d .does) (λ _. refl)) (λ n. (kept n .0, sane-fewer (g .sane) (kept n .0) (kept n .1), d .past n)) lMemo refl refl (λ j. refl));
-          over = λ n. sym (ap (λ (ts : List Turn). isOver prog ts (suc v)) left);
-          sane = λ _ n. kept n .1;
-          plain = λ u. absurd (true≢false u);
-          waits = λ u. absurd (true≢false u);
-        })
+  -- a fact after its premise, if there is one, and the head where no other is left
+  abbrev ends : List Turn → Room → List Proposition → Check (List Binding)
+  ends ts room ps = endIf room prog proofs strict name ps p (claimAt proofs p) (getD proofs p noProof .justification) (some (ruleFor J r)) ts σ
+
+  after-then : (ts : List Turn) (v : ℕ) → (v ≡ 0 → ts ≡ []) → (room : Room) (ps : List Proposition) (s : List Term) → andThen (afterTurn room prog proofs name ts σ s) (λ _. ends (drop 1 ts) room ps) ≡ stage ts v room ps s
+  after-then [] v h room ps s = refl
+  after-then (t ∷ ts) zero h room ps s = absurd (nil≢cons (sym (h refl)))
+  after-then (t ∷ ts) (suc v) h room ps s = refl
+
+  over-after : (ts : List Turn) (v : ℕ) → (v ≡ 0 → ts ≡ []) → isOver prog ts v ≡ true
+  over-after [] v h = refl
+  over-after (t ∷ ts) zero h = absurd (nil≢cons (sym (h refl)))
+  over-after (t ∷ ts) (suc v) h = refl
+
+  module _ (i v : ℕ) (h : v ≡ 0 → count ≤ i) {k₁ e₁ p₁ ix₁ : List ℕ} (c : Checked) {memo₁ : List ℕ} (d : Checks k e q ix f k₁ e₁ p₁ ix₁ (c .fill) (c .refusal) tt memo₁ (afterTurn (roomOf k q) prog proofs name (drop i turns) σ (termsIn k e q f))) where
+    abbrev left : List Turn
+    left = drop i turns
+
+    none-left : v ≡ 0 → left ≡ []
+    none-left u = rule-left (ruleFor J r .facts) (premisesFor J p) i (let m = S .long in let l = h u in omega arith)
+
+    -- the store after it
+    pub after-kept : c .refusal .number ≡ 0 → Extends (termsIn k e q f) (termsIn k₁ e₁ p₁ (c .fill)) × Sane prog σ (termsIn k₁ e₁ p₁ (c .fill))
+    after-kept n = go left refl
       where
-        kept : c .refusal .number ≡ 0 → Extends (termsIn k e q f) (termsIn k₁ e₁ p₁ (c .fill)) × Sane prog σ (termsIn k₁ e₁ p₁ (c .fill))
-        kept n = post-result (fact-sane (roomOf k q) prog name σ t (claimAt proofs y) w) (sym (d .does .outcome) ∙ ok-of (c .refusal) tt (termsIn k₁ e₁ p₁ (c .fill)) n)
+        result : (ts : List Turn) → left ≡ ts → afterTurn (roomOf k q) prog proofs name ts σ (termsIn k e q f) ≡ ok tt (termsIn k₁ e₁ p₁ (c .fill))
+        result ts u = ap (λ (x : List Turn). afterTurn (roomOf k q) prog proofs name x σ (termsIn k e q f)) (sym u) ∙ sym (d .does .outcome) ∙ ok-of (c .refusal) tt (termsIn k₁ e₁ p₁ (c .fill)) n
+
+        go : (ts : List Turn) → left ≡ ts → Extends (termsIn k e q f) (termsIn k₁ e₁ p₁ (c .fill)) × Sane prog σ (termsIn k₁ e₁ p₁ (c .fill))
+        go [] u = post-result {Q = λ _ x. Extends (termsIn k e q f) x × Sane prog σ x} (post-ok (extends-same, w)) (result [] u)
+        go (ofProof y ∷ ts) u = post-result {Q = λ _ x. Extends (termsIn k e q f) x × Sane prog σ x} (post-ok (extends-same, w)) (result (ofProof y ∷ ts) u)
+        go (ofFact t y ∷ ts) u = post-result (fact-sane (roomOf k q) prog name σ t (claimAt proofs y) w) (result (ofFact t y ∷ ts) u)
+
+    pub stage-stops : (c .refusal .number ≡ 0 → ⊥) → length memo₁ ≡ length memo → {x : Stage} → x ≡ record { refusal = c .refusal; settled = true; binds = Binds.Nothing; fill = c .fill } → Advances J strict F G U p true r name second count X k e q ix f W i v k₁ e₁ p₁ ix₁ x memo₁ W
+    stage-stops n lMemo x = subst⁻¹ (λ (y : Stage). Advances J strict F G U p true r name second count X k e q ix f W i v k₁ e₁ p₁ ix₁ y memo₁ W) x (record {
+      walks = walks-stage (stage left v) g (d .does .grown) (λ ps y. subst (Does k e q ix f k₁ e₁ p₁ ix₁ (c .fill) (c .refusal) σ) (after-then left v none-left (roomOf k q) ps (termsIn k e q f)) (does-stop σ (λ _. ends (drop 1 left) (roomOf k q) ps) (d .does) n)) (λ u. absurd (n u)) lMemo refl refl (λ j. refl);
+      over = λ u. absurd (n u);
+      sane = λ _ u. absurd (n u);
+      plain = λ u. absurd (true≢false u);
+      waits = λ u. absurd (true≢false u);
+    })
+
+    pub stage-after : c .refusal .number ≡ 0 → i + 1 < count → length memo₁ ≡ length memo → {x : Stage} → x ≡ record { refusal = c .refusal; settled = true; binds = Binds.Nothing; fill = c .fill } → Advances J strict F G U p true r name second count X k e q ix f W i v k₁ e₁ p₁ ix₁ x memo₁ W
+    stage-after n l lMemo x = subst⁻¹ (λ (y : Stage). Advances J strict F G U p true r name second count X k e q ix f W i v k₁ e₁ p₁ ix₁ y memo₁ W) x (record {
+      walks = walks-stage (stage left v) g (d .does .grown) (λ ps y. subst (Does k e q ix f k₁ e₁ p₁ ix₁ (c .fill) (c .refusal) σ)
+          (ap (λ (y : Check (List Binding)). andThen (afterTurn (roomOf k q) prog proofs name left σ (termsIn k e q f)) (λ _. y)) (sym (going ps)) ∙ after-then left v none-left (roomOf k q) ps (termsIn k e q f)) (does-map (λ _. σ) σ (d .does) (λ _. refl)))
+          (λ u. (after-kept u .0, sane-fewer (g .sane) (after-kept u .0) (after-kept u .1), d .past u)) lMemo refl refl (λ j. refl);
+      over = λ _. sym (over-after left v none-left);
+      sane = λ _ u. after-kept u .1;
+      plain = λ u. absurd (true≢false u);
+      waits = λ u. absurd (true≢false u);
+    })
+      where
+        going : (ps : List Proposition) → ends (drop 1 left) (roomOf k q) ps ≡ pure σ
+        going ps = ap (λ (ts : List Turn). ends ts (roomOf k q) ps) (rest-left ∙ drop-cons turns (suc i) noTurn (let m = S .long in omega arith))
+          where
+            rest-left : drop 1 left ≡ drop (suc i) turns
+            rest-left = ap (drop 1) (drop-cons turns i noTurn (let m = S .long in omega arith))
+
+    pub stage-ends : c .refusal .number ≡ 0 → count ≤ i + 1 → {k₂ e₂ p₂ ix₂ : List ℕ} (c₂ : Checked) {memo₂ W₂ : List ℕ} → Produces prog (ruleFor J r) σ (claimAt proofs p) k₁ e₁ p₁ ix₁ (c .fill) k₂ e₂ p₂ ix₂ c₂ memo₂ → length memo₂ ≡ length memo → length W₂ ≡ length W
+        → take (length k) W₂ ≡ take (length k) W → ((j : ℕ) → getD W₂ (length k + length k + j) 0 ≡ getD W (length k + length k + j) 0)
+        → {x : Stage} → x ≡ record { refusal = c₂ .refusal; settled = true; binds = Binds.Nothing; fill = c₂ .fill } → Advances J strict F G U p true r name second count X k e q ix f W i v k₂ e₂ p₂ ix₂ x memo₂ W₂
+    stage-ends n l {k₂} {e₂} {p₂} {ix₂} c₂ {memo₂} {W₂} P lMemo lW front back x = subst⁻¹ (λ (y : Stage). Advances J strict F G U p true r name second count X k e q ix f W i v k₂ e₂ p₂ ix₂ y memo₂ W₂) x (record {
+      walks = walks-stage (stage left v) g (grown-then (d .does .grown) (P .checks .does .grown)) (λ ps y. subst (Does k e q ix f k₂ e₂ p₂ ix₂ (c₂ .fill) (c₂ .refusal) σ)
+          (ap (λ (ts : List Turn). andThen (afterTurn (roomOf k q) prog proofs name left σ (termsIn k e q f)) (λ _. ends ts (roomOf k q) ps)) (sym last) ∙ after-then left v none-left (roomOf k q) ps (termsIn k e q f))
+          (does-then (λ room _. ends [] room ps) (d .does) n (does-map (λ _. σ) σ (P .checks .does) (λ _. refl))))
+          (λ u. let b = extends-then (after-kept n .0) (P .grows u) in (b, sane-fewer (g .sane) b (P .sane u), P .checks .past u)) lMemo lW front back;
+      over = λ _. sym (over-after left v none-left);
+      sane = λ _ u. P .sane u;
+      plain = λ u. absurd (true≢false u);
+      waits = λ u. absurd (true≢false u);
+    })
+      where
+        last : drop 1 left ≡ []
+        last = drop-of-length-le left {i = 1} (let m = S .long in simp length-drop (omega arith))
 
 -- another step
 module _ (J : List ℕ) (strict : Bool) (F G U : List ℕ) (p r first second count : ℕ) (X : List ℕ) {k e q ix : List ℕ} {f : Fill} {memo W : List ℕ} (g : Ground J F G k e q ix f memo W) (S : Planned J p false r first second count) where
@@ -198,11 +244,40 @@ facts-count {J} {p} {r} S {xs} e =
     let u = turns-few (ruleFor J r .facts) (premisesFor J p) in
     let v : length xs ≡ length (ruleFor J r .facts) = sym (length-map xs (factFor J)) ∙ ap length (numbers-of J r e) in omega arith
 
-pub matches-pairs : (prog : Program) (name : ℕ) (X G : List ℕ) (t : Fact) {S S′ : List ℕ} {q claim : Proposition} {k e p ix : List ℕ} {f : Fill} {k₁ e₁ p₁ ix₁ : List ℕ} {f₁ : Fill} {r : Refusal} {m : List ℕ} → S ≡ S′ → q ≡ claim
-    → Checks k e p ix f k₁ e₁ p₁ ix₁ f₁ r tt m (checkFactMatchesProposition (roomOf k p) prog name (bindingsIn X S G) t q (termsIn k e p f))
-    → Checks k e p ix f k₁ e₁ p₁ ix₁ f₁ r tt m (checkFactMatchesProposition (roomOf k p) prog name (bindingsIn X S′ G) t claim (termsIn k e p f))
-matches-pairs prog name X G t {k = k} {e = e} {p = p} {ix = ix} {f = f} {k₁ = k₁} {e₁ = e₁} {p₁ = p₁} {ix₁ = ix₁} {f₁ = f₁} {r = r} {m = m} i j d =
-    subst (Checks k e p ix f k₁ e₁ p₁ ix₁ f₁ r tt m) (λ x. checkFactMatchesProposition (roomOf k p) prog name (bindingsIn X (i x) G) t (j x) (termsIn k e p f)) d
+-- whether a fact waits for its premise
+pub fresh-fact : (v i n : ℕ) → (eqb v 0 && ltb i n) ≡ true → (v ≡ 0) × (i < n)
+fresh-fact v i n e = go (eqb v 0) (ltb i n) refl refl e
+  where
+    go : (a b : Bool) → eqb v 0 ≡ a → ltb i n ≡ b → (a && b) ≡ true → (v ≡ 0) × (i < n)
+    go true true p q e = (eqb-true v 0 p, ltb-true i n q)
+    go true false p q e = absurd (true≢false (sym e))
+    go false b p q e = absurd (true≢false (sym e))
+
+pub late-fact : (v i n : ℕ) → (eqb v 0 && ltb i n) ≡ false → v ≡ 0 → n ≤ i
+late-fact v i n e u = ltb-false i n (sym (ap (λ (m : ℕ). eqb m 0 && ltb i n) u) ∙ e)
+
+-- a fact after its premise, by the turns that are left
+pub after-none : {J : List ℕ} {p r name second count : ℕ} → Planned J p true r name second count → {i : ℕ} → count ≤ i → (σ : List Binding) {k e q ix : List ℕ} {f : Fill} {memo : List ℕ} → Indexed k e q ix f → Past memo
+    → {c : Checked} → c ≡ record { refusal = passed; value = 0; fill = f }
+    → Checks k e q ix f k e q ix (c .fill) (c .refusal) tt memo (afterTurn (roomOf k q) (programFor J) (proofsFor J) name (drop i (factTurns (ruleFor J r .facts) (premisesFor J p))) σ (termsIn k e q f))
+after-none {J} {p} {r} {name} S {i} h σ {k} {e} {q} {ix} {f} {memo} x m {c} u =
+    let l : drop i (factTurns (ruleFor J r .facts) (premisesFor J p)) ≡ [] = rule-left (ruleFor J r .facts) (premisesFor J p) i (let m = S .long in omega arith) in
+    subst⁻¹ (λ (y : Checked). Checks k e q ix f k e q ix (y .fill) (y .refusal) tt memo (afterTurn (roomOf k q) (programFor J) (proofsFor J) name (drop i (factTurns (ruleFor J r .facts) (premisesFor J p))) σ (termsIn k e q f))) u
+    (record { does = does-here x (ap (λ (ts : List Turn). afterTurn (roomOf k q) (programFor J) (proofsFor J) name ts σ (termsIn k e q f)) (sym l)); past = λ _. m })
+
+pub after-fact : (J : List ℕ) (p r name i : ℕ) (σ : List Binding) {t : Fact} {y : ℕ} → drop i (factTurns (ruleFor J r .facts) (premisesFor J p)) ≡ ofFact t y ∷ drop (suc i) (factTurns (ruleFor J r .facts) (premisesFor J p))
+    → {q : Proposition} → q ≡ claimAt (proofsFor J) y → {k e p₀ ix : List ℕ} {f : Fill} {k₁ e₁ p₁ ix₁ : List ℕ} {f₁ : Fill} {x : Refusal} {m : List ℕ} → Checks k e p₀ ix f k₁ e₁ p₁ ix₁ f₁ x tt m (checkFactMatchesProposition (roomOf k p₀) (programFor J) name σ t q (termsIn k e p₀ f))
+    → Checks k e p₀ ix f k₁ e₁ p₁ ix₁ f₁ x tt m (afterTurn (roomOf k p₀) (programFor J) (proofsFor J) name (drop i (factTurns (ruleFor J r .facts) (premisesFor J p))) σ (termsIn k e p₀ f))
+after-fact J p r name i σ {t} l z {k} {e} {p₀} {ix} {f} {k₁} {e₁} {p₁} {ix₁} {f₁} {x} {m} d =
+    subst (Checks k e p₀ ix f k₁ e₁ p₁ ix₁ f₁ x tt m) (ap (λ (w : Proposition). checkFactMatchesProposition (roomOf k p₀) (programFor J) name σ t w (termsIn k e p₀ f)) z
+    ∙ ap (λ (ts : List Turn). afterTurn (roomOf k p₀) (programFor J) (proofsFor J) name ts σ (termsIn k e p₀ f)) (sym l)) d
+
+-- by the pairs that were read
+pub after-pairs : (J : List ℕ) (p r name i : ℕ) (X G : List ℕ) {R R′ : List ℕ} {k e q ix : List ℕ} {f : Fill} {k₁ e₁ p₁ ix₁ : List ℕ} {f₁ : Fill} {x : Refusal} {m : List ℕ} → R ≡ R′
+    → Checks k e q ix f k₁ e₁ p₁ ix₁ f₁ x tt m (afterTurn (roomOf k q) (programFor J) (proofsFor J) name (drop i (factTurns (ruleFor J r .facts) (premisesFor J p))) (bindingsIn X R G) (termsIn k e q f))
+    → Checks k e q ix f k₁ e₁ p₁ ix₁ f₁ x tt m (afterTurn (roomOf k q) (programFor J) (proofsFor J) name (drop i (factTurns (ruleFor J r .facts) (premisesFor J p))) (bindingsIn X R′ G) (termsIn k e q f))
+after-pairs J p r name i X G {k = k} {e = e} {q = q} {ix = ix} {f = f} {k₁ = k₁} {e₁ = e₁} {p₁ = p₁} {ix₁ = ix₁} {f₁ = f₁} {x = x} {m = m} u d =
+    subst (λ (R : List ℕ). Checks k e q ix f k₁ e₁ p₁ ix₁ f₁ x tt m (afterTurn (roomOf k q) (programFor J) (proofsFor J) name (drop i (factTurns (ruleFor J r .facts) (premisesFor J p))) (bindingsIn X R G) (termsIn k e q f))) u d
 
 -- by what the code knows of the kind of step
 pub planned-by : (J : List ℕ) (p r first second count : ℕ) {b b′ : Bool} → b ≡ b′ → Planned J p b r first second count → Planned J p b′ r first second count

@@ -58,6 +58,11 @@ abbrev pub afterProof : Room → Program → List Proof → ℕ → Turn → Lis
 afterProof room prog proofs name (ofFact f p) σ = checkFactMatchesProposition room prog name σ f (claimAt proofs p)
 afterProof room prog proofs name (ofProof p) σ = pure tt
 
+-- After the proof of the first turn that is left, if there is one.
+abbrev pub afterTurn : Room → Program → List Proof → ℕ → List Turn → List Binding → Check (Unit {0})
+afterTurn room prog proofs name [] σ = pure tt
+afterTurn room prog proofs name (t ∷ ts) σ = afterProof room prog proofs name t σ
+
 module _ (room : Room) (prog : Program) (proofs : List Proof) (strict : Bool) (name : ℕ) where
   -- Before the proof: the normal form and a side condition; the bindings then.
   abbrev pub beforeProof : Turn → List Binding → Check (List Binding)
@@ -128,12 +133,16 @@ pub record Plans (J : List ℕ) (p : ℕ) (s : Plan) : Type 0 where
       ≡ checkJustification room (programFor J) (proofsFor J) (contextOf G ps) sub strict p (claimAt (proofsFor J) p) (getD (proofsFor J) p noProof .justification) done u
   pub goes : s .refusal .number ≡ 0 → Planned J p (s .rule) (s .r) (s .first) (s .second) (s .count)
 
--- What a stage does, with the turns that are left: before a proof, after it, or the end of the step; the bindings then.
+-- What a stage does, with the turns that are left: before a proof; or after it, and the end of the step where no other turn is left; the bindings then.
 module _ (room : Room) (prog : Program) (proofs : List Proof) (strict : Bool) (name : ℕ) (ps : List Proposition) (p : ℕ) (q : Proposition) (j : Justification) (h : Option Rule) where
+  abbrev pub endIf : List Turn → List Binding → Check (List Binding)
+  endIf [] σ = endStep room prog proofs ps p q j h σ >>= λ _. pure σ
+  endIf (t ∷ ts) σ = pure σ
+
   abbrev pub stageOf : List Turn → ℕ → List Binding → Check (List Binding)
-  stageOf [] w σ = endStep room prog proofs ps p q j h σ >>= λ _. pure σ
+  stageOf [] w σ = endIf [] σ
   stageOf (t ∷ ts) zero σ = beforeProof room prog proofs strict name t σ
-  stageOf (t ∷ ts) (suc w) σ = afterProof room prog proofs name t σ >>= λ _. pure σ
+  stageOf (t ∷ ts) (suc w) σ = afterProof room prog proofs name t σ >>= λ _. endIf ts σ
 
 -- After it no proof is walked.
 abbrev pub isOver : Program → List Turn → ℕ → Bool

@@ -12,6 +12,7 @@ use normal_form::assert_body_proof_normal_form;
 use normal_form::is_container_side_condition;
 use outcome::Checked;
 use outcome::Refusal;
+use outcome::pass;
 use program::read::claim_at;
 use program::read::justification_at;
 use program::read::premises_at;
@@ -23,7 +24,7 @@ ghost use mathlib.Core.Path.{_≡_};
 ghost use Prim.Native.Nat.{_+_, _≤_, _<_};
 ghost use mathlib.Core.Bool.{true, false};
 ghost use Rattle.model.specs.Fact.{isContainerSideCondition};
-ghost use lib.ListN.{length, getD};
+ghost use lib.ListN.{length, getD, drop};
 ghost use Rattle.model.specs.Layout.{sizesOf};
 ghost use Rattle.termdag.specs.Store.{termsIn, Indexed, roomOf};
 ghost use Rattle.model.specs.Term.{Extends};
@@ -37,7 +38,7 @@ ghost use Rattle.evaluate.specs.Value.{bindingsIn};
 ghost use Rattle.evaluate.specs.Evaluation.{Sane, Checks};
 ghost use Rattle.conditions.specs.Bound.{boundOver};
 ghost use Rattle.turns.specs.Walking.{Ground, Operates};
-ghost use Rattle.turns.specs.Turning.{ofFact, proofOf, noTurn, turnsBy, bindingsBy, beforeProof, RuleStep, Planned, Plans, Advances};
+ghost use Rattle.turns.specs.Turning.{ofFact, proofOf, noTurn, turnsBy, bindingsBy, afterTurn, beforeProof, RuleStep, Planned, Plans, Advances};
 
 // What a step refers to: whether it is a rule's, else the proofs that it needs, at most two.
 pub struct Needs {
@@ -327,7 +328,57 @@ fn over(c: Checked) -> Stage
     }
 }
 
-// Turn i of a rule's step: a fact before its premise or after it, or the head.
+// Fact i of a rule after its premise, if there is one.
+fn after_premise(
+    job: &[u32],
+    globals: &[u32],
+    bound: &[u32],
+    pairs: &[u32],
+    skinds: &mut [u32],
+    sends: &mut [u32],
+    spool: &mut [u32],
+    index: &mut [u32],
+    fill: Fill,
+    memo: &mut [u32],
+    p: u32,
+    r: usize,
+    name: u32,
+    second: u32,
+    count: usize,
+    i: usize,
+) -> Checked
+    requires { ⌜ Ready (now job) ⌝ }
+    requires { ⌜ Indexed (now skinds) (now sends) (now spool) (now index) fill ⌝ }
+    requires { ⌜ sizesOf (now job) .expressions + sizesOf (now job) .expressions < length (now memo) ⌝ }
+    requires { ⌜ Past (now memo) ⌝ }
+    requires { ⌜ p < sizesOf (now job) .proofs ⌝ }
+    requires { ⌜ Planned (now job) p true r name second count ⌝ }
+    ensures { λ c. ⌜ Checks (now (skinds .entry)) (now (sends .entry)) (now (spool .entry)) (now (index .entry)) fill (now (skinds .exit)) (now (sends .exit)) (now (spool .exit)) (now (index .exit)) (c .fill) (c .refusal) tt (now (memo .exit)) (afterTurn (roomOf (now (skinds .entry)) (now (spool .entry))) (programFor (now (job .entry))) (proofsFor (now (job .entry))) name (drop i (turnsBy (now (job .entry)) p true r name second count)) (bindingsIn (now (bound .entry)) (now (pairs .entry)) (now (globals .entry))) (termsIn (now (skinds .entry)) (now (sends .entry)) (now (spool .entry)) fill)) ⌝ }
+{
+    if count <= i {
+        return pass(0, fill);
+    }
+    let facts = rule_facts_at(job, r);
+    let premises = premises_at(job, wide(p));
+    let q = claim_at(job, wide(premises[i]));
+    check_fact_matches_proposition(
+        job,
+        bound,
+        pairs,
+        globals,
+        name,
+        skinds,
+        sends,
+        spool,
+        index,
+        fill,
+        memo,
+        facts[i],
+        q,
+    )
+}
+
+// Turn i of a rule's step: a fact before its premise or after it; after the last, and where there is none, the head.
 fn advance_rule(
     job: &[u32],
     strict: bool,
@@ -358,29 +409,9 @@ fn advance_rule(
     requires { ⌜ i ≤ count ⌝ }
     ensures { λ c. ⌜ Advances (now (job .entry)) strict (now (found .entry)) (now (globals .entry)) (now (unions .entry)) p true r name second count (now (bound .entry)) (now (skinds .entry)) (now (sends .entry)) (now (spool .entry)) (now (index .entry)) fill (now (scratch .entry)) i walked (now (skinds .exit)) (now (sends .exit)) (now (spool .exit)) (now (index .exit)) c (now (memo .exit)) (now (scratch .exit)) ⌝ }
 {
-    let facts = rule_facts_at(job, r);
     let pairs = substitution_at(job, wide(p));
-    if count <= i {
-        let q = claim_at(job, wide(p));
-        let c = skinds.len();
-        let d = c + words_for(c);
-        return over(check_rule_produces_equality(
-            job,
-            bound,
-            pairs,
-            globals,
-            skinds,
-            sends,
-            spool,
-            index,
-            fill,
-            memo,
-            &mut scratch[c..d],
-            r,
-            q,
-        ));
-    }
-    if walked == 0 {
+    if (walked == 0) & (i < count) {
+        let facts = rule_facts_at(job, r);
         return before_premise(
             job,
             strict,
@@ -398,21 +429,47 @@ fn advance_rule(
             facts[i],
         );
     }
-    let premises = premises_at(job, wide(p));
-    let q = claim_at(job, wide(premises[i]));
-    over(check_fact_matches_proposition(
+    let cells = skinds.len();
+    let d = cells + words_for(cells);
+    let c = after_premise(
         job,
+        globals,
         bound,
         pairs,
-        globals,
-        name,
         skinds,
         sends,
         spool,
         index,
         fill,
         memo,
-        facts[i],
+        p,
+        r,
+        name,
+        second,
+        count,
+        i,
+    );
+    let have = c.fill;
+    if c.refusal.number != 0 {
+        return over(c);
+    }
+    if i + 1 < count {
+        return over(c);
+    }
+    let q = claim_at(job, wide(p));
+    over(check_rule_produces_equality(
+        job,
+        bound,
+        pairs,
+        globals,
+        skinds,
+        sends,
+        spool,
+        index,
+        have,
+        memo,
+        &mut scratch[cells..d],
+        r,
         q,
     ))
 }

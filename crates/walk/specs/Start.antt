@@ -1,5 +1,5 @@
 -- How a turn of a step starts.
-use Prim.Native.Nat.{ℕ, _<_, _≤_}
+use Prim.Native.Nat.{ℕ, _+_, _<_, _≤_}
 use mathlib.Core.Path.{_≡_}
 use mathlib.Core.Bool.{Bool, false}
 use mathlib.Core.List.{List}
@@ -18,6 +18,12 @@ pub record Starts (rule : Bool) (count i s : ℕ) : Type 0 where
   pub few : s ≤ 1
   pub walks : s ≡ 1 → (rule ≡ false) × (i < count)
   pub ends : rule ≡ false → (s ≡ 1 → ⊥) → count ≤ i
+
+-- The turn after turn i, settled in state s: after the last proof the step is over.
+pub record Follows (s count i r : ℕ) : Type 0 where
+  pub fresh : s ≡ 0 → r ≡ i + 1
+  pub last : (s ≡ 0 → ⊥) → i + 1 ≡ count → r ≡ i + 2
+  pub more : (i + 1 ≡ count → ⊥) → r ≡ i + 1
 
 -- A fact of the rule of that name that is in normal form and no side condition.
 pub record Ordinary (prog : Program) (name : ℕ) (f : Fact) : Type 0 where

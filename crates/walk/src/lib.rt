@@ -27,7 +27,7 @@ ghost use Rattle.normal_form.specs.Search.{Searched};
 ghost use Rattle.actions.specs.Acting.{effectBindings};
 ghost use Rattle.conditions.specs.Bound.{boundOver};
 ghost use Rattle.turns.specs.Walking.{Ground, Walks, contextOf};
-ghost use Rattle.walk.specs.Start.{Starts, Ordinary, factNumbers, StartsFact};
+ghost use Rattle.walk.specs.Start.{Starts, Follows, Ordinary, factNumbers, StartsFact};
 
 // A proof's word in scratch: its height where it is checked, else 0.
 fn height_noted(scratch: &[u32], at: usize) -> u32
@@ -76,6 +76,21 @@ fn state_at(rule: bool, count: usize, i: usize) -> usize
         return 1;
     }
     0
+}
+
+// The turn after turn i, which was settled in that state. After the last proof of a rule's step the step is over, its head with it.
+fn turn_after(state: usize, count: usize, i: usize) -> usize
+    requires { ⌜ i ≤ count ⌝ }
+    requires { ⌜ count ≤ 16 ⌝ }
+    ensures { λ r. ⌜ Follows state count i r ⌝ }
+{
+    if state == 0 {
+        return i + 1;
+    }
+    if i + 1 == count {
+        return i + 2;
+    }
+    i + 1
 }
 
 // Fact f is in normal form and no side condition, so that nothing is done before its premise is walked.
@@ -229,7 +244,7 @@ fn justify(
         if c.settled {
             let binds = c.binds;
             at = push_binding(&mut bound, at, effect_of(binds));
-            i += 1;
+            i = turn_after(state, count, i);
             state = 0;
             if s.rule {
                 state = fact_state(job, found, s.first, s.r, count, i);
