@@ -36,9 +36,9 @@ use Rattle.turns.specs.declared.Stage.{Stage}
 use Rattle.turns.proofs.Stages.{fact-turn}
 use Rattle.turns.proofs.Tying.{sane-substitution}
 use Rattle.turns.specs.Walking.{Ground, Walks, contextOf}
-use Rattle.walk.specs.Start.{Starts, Ordinary, factNumbers, StartsFact}
+use Rattle.walk.specs.Start.{Starts, Follows, Ordinary, factNumbers, StartsFact}
 use Rattle.walk.proofs.Justifying.{height-for, height-few}
-use Rattle.turns.specs.Turning.{Turn, ofFact, ofProof, proofOf, noTurn, isSettled, followedTurns, beforeProof, afterProof, walkProof, takeTurns, endStep, finishStep, stageOf, isOver, turnsBy, headBy, bindingsBy, Planned, Plans, Advances}
+use Rattle.turns.specs.Turning.{Turn, ofFact, ofProof, proofOf, noTurn, isSettled, followedTurns, beforeProof, afterProof, walkProof, takeTurns, endStep, endIf, finishStep, stageOf, isOver, turnsBy, headBy, bindingsBy, Planned, Plans, Advances}
 use Rattle.turns.proofs.Walking.{walks-here, walks-then, walks-stop, walks-as, walks-passed}
 use Rattle.model.proofs.Sequence.{then-assoc, then-alike}
 
@@ -55,10 +55,14 @@ module _ (room : Room) (prog : Program) (proofs : List Proof) (strict : Bool) (n
   abbrev pub stagePart : List Turn → ℕ → List Binding × List ℕ → Check (List Binding × List ℕ)
   stagePart ts v b = stageOf room prog proofs strict name ps p q j h ts v (b .0) >>= λ τ. pure (τ, b .1)
 
+  abbrev pub leftOf : List Turn → List Binding × List ℕ → Check (List ℕ)
+  leftOf [] b = pure (b .1)
+  leftOf (t ∷ ts) b = takeTurns room prog proofs strict name sub (t ∷ ts) b >>= finish
+
   abbrev pub nextOf : List Turn → ℕ → List Binding × List ℕ → Check (List ℕ)
   nextOf [] v b = pure (b .1)
   nextOf (t ∷ ts) zero b = walkProof room prog proofs strict name sub t (b .0) (b .1) >>= λ d. takeTurns room prog proofs strict name sub ts d >>= finish
-  nextOf (t ∷ ts) (suc v) b = takeTurns room prog proofs strict name sub ts b >>= finish
+  nextOf (t ∷ ts) (suc v) b = leftOf ts b
 
   abbrev paired : List ℕ → List Binding → Check (List Binding × List ℕ)
   paired d τ = pure (τ, d)
@@ -74,9 +78,12 @@ module _ (room : Room) (prog : Program) (proofs : List Proof) (strict : Bool) (n
   before (refused r s) d w ts = refl
 
   after : (o : Outcome (Unit {0})) (σ : List Binding) (d : List ℕ) (ts : List Turn) → andThen o (λ _. takeTurns room prog proofs strict name sub ts (σ, d) >>= finish)
-      ≡ andThen (andThen (andThen o (λ _. pure σ)) (paired d)) (λ b. takeTurns room prog proofs strict name sub ts b >>= finish)
-  after (ok u s) σ d ts = refl
-  after (refused r s) σ d ts = refl
+      ≡ andThen (andThen (andThen o (λ _. endIf room prog proofs strict name ps p q j h ts σ)) (paired d)) (leftOf ts)
+  unfolding takeTurns
+  after (ok u s) σ d [] = ends (endStep room prog proofs ps p q j h σ s) σ d
+  after (ok u s) σ d (t ∷ ts) = refl
+  after (refused r s) σ d [] = refl
+  after (refused r s) σ d (t ∷ ts) = refl
 
   -- a stage, then what is owed after it
   pub rest-next : (ts : List Turn) (v : ℕ) (b : List Binding × List ℕ) (s : List Term) → restOf ts v b s ≡ andThen (stagePart ts v b s) (nextOf ts v)
@@ -372,15 +379,30 @@ module _ (J : List ℕ) (strict : Bool) (F G U : List ℕ) (p : ℕ) (rule : Boo
             (advance-is (drop i turns) v) (here .walks) n
 
         -- no proof is walked: the next turn, or the end
-        after-over : c .refusal .number ≡ 0 → c .settled ≡ true → i < count → Owes J strict F G U p k₀ e₀ p₀ ix₀ f₀ W₀ k₁ e₁ p₁ ix₁ (c .fill) memo₁ W₁ (boundOver (c .binds) σ) (rest (drop (suc i) turns) 0)
-        after-over n s l = go v (getD turns i noTurn) (left-at l) (sym (here .over n) ∙ s) (advanced n)
+        after-over : c .refusal .number ≡ 0 → c .settled ≡ true → i < count → ((v ≡ 0 → ⊥) → suc i < count) → Owes J strict F G U p k₀ e₀ p₀ ix₀ f₀ W₀ k₁ e₁ p₁ ix₁ (c .fill) memo₁ W₁ (boundOver (c .binds) σ) (rest (drop (suc i) turns) 0)
+        after-over n s l m = go v (getD turns i noTurn) (left-at l) (sym (here .over n) ∙ s) m (advanced n)
           where
-            go : (w : ℕ) (u : Turn) → drop i turns ≡ u ∷ drop (suc i) turns → isOver (programFor J) (drop i turns) w ≡ true
+            go : (w : ℕ) (u : Turn) → drop i turns ≡ u ∷ drop (suc i) turns → isOver (programFor J) (drop i turns) w ≡ true → ((w ≡ 0 → ⊥) → suc i < count)
                 → Owes J strict F G U p k₀ e₀ p₀ ix₀ f₀ W₀ k₁ e₁ p₁ ix₁ (c .fill) memo₁ W₁ (boundOver (c .binds) σ) (next (drop i turns) w)
                 → Owes J strict F G U p k₀ e₀ p₀ ix₀ f₀ W₀ k₁ e₁ p₁ ix₁ (c .fill) memo₁ W₁ (boundOver (c .binds) σ) (rest (drop (suc i) turns) 0)
-            go zero u y o O = owes-as J strict F G U p (subst (λ (ts : List Turn). Owes J strict F G U p k₀ e₀ p₀ ix₀ f₀ W₀ k₁ e₁ p₁ ix₁ (c .fill) memo₁ W₁ (boundOver (c .binds) σ) (next ts 0)) y O)
+            go zero u y o m O = owes-as J strict F G U p (subst (λ (ts : List Turn). Owes J strict F G U p k₀ e₀ p₀ ix₀ f₀ W₀ k₁ e₁ p₁ ix₁ (c .fill) memo₁ W₁ (boundOver (c .binds) σ) (next ts 0)) y O)
                 (settled-is u (drop (suc i) turns) (sym (ap (λ (ts : List Turn). isOver (programFor J) ts 0) y) ∙ o))
-            go (suc w) u y o O = subst (λ (ts : List Turn). Owes J strict F G U p k₀ e₀ p₀ ix₀ f₀ W₀ k₁ e₁ p₁ ix₁ (c .fill) memo₁ W₁ (boundOver (c .binds) σ) (next ts (suc w))) y O
+            go (suc w) u y o m O =
+                let x = left-at (m (λ z. absurd (omega arith))) in
+                subst⁻¹ (λ (ts : List Turn). Owes J strict F G U p k₀ e₀ p₀ ix₀ f₀ W₀ k₁ e₁ p₁ ix₁ (c .fill) memo₁ W₁ (boundOver (c .binds) σ) (rest ts 0)) x
+                (subst (λ (ts : List Turn). Owes J strict F G U p k₀ e₀ p₀ ix₀ f₀ W₀ k₁ e₁ p₁ ix₁ (c .fill) memo₁ W₁ (boundOver (c .binds) σ) (next ts (suc w))) (y ∙ ap (λ (ts : List Turn). u ∷ ts) x) O)
+
+        -- the end came with the last
+        after-last : c .refusal .number ≡ 0 → (v ≡ 0 → ⊥) → suc i ≡ count → Walks J F G U k₀ e₀ p₀ ix₀ f₀ W₀ k₁ e₁ p₁ ix₁ (c .fill) passed memo₁ W₁ (λ y. y) (stepOf J strict F G U p)
+        after-last n z l = go v z (advanced n)
+          where
+            only : drop i turns ≡ getD turns i noTurn ∷ []
+            only = left-at (omega arith) ∙ ap (λ (ts : List Turn). getD turns i noTurn ∷ ts) (drop-of-length-le turns {i = suc i} (let m = S .long in omega arith))
+
+            go : (w : ℕ) → (w ≡ 0 → ⊥) → Owes J strict F G U p k₀ e₀ p₀ ix₀ f₀ W₀ k₁ e₁ p₁ ix₁ (c .fill) memo₁ W₁ (boundOver (c .binds) σ) (next (drop i turns) w)
+                → Walks J F G U k₀ e₀ p₀ ix₀ f₀ W₀ k₁ e₁ p₁ ix₁ (c .fill) passed memo₁ W₁ (λ y. y) (stepOf J strict F G U p)
+            go zero z O = absurd (z refl)
+            go (suc w) z O = owes-none J strict F G U p (subst (λ (ts : List Turn). Owes J strict F G U p k₀ e₀ p₀ ix₀ f₀ W₀ k₁ e₁ p₁ ix₁ (c .fill) memo₁ W₁ (boundOver (c .binds) σ) (next ts (suc w))) only O)
 
         after-end : c .refusal .number ≡ 0 → i ≡ count → Walks J F G U k₀ e₀ p₀ ix₀ f₀ W₀ k₁ e₁ p₁ ix₁ (c .fill) passed memo₁ W₁ (λ y. y) (stepOf J strict F G U p)
         after-end n l = owes-none J strict F G U p (subst (λ (ts : List Turn). Owes J strict F G U p k₀ e₀ p₀ ix₀ f₀ W₀ k₁ e₁ p₁ ix₁ (c .fill) memo₁ W₁ (boundOver (c .binds) σ) (next ts v)) none-left (advanced n))
@@ -411,9 +433,9 @@ module _ (J : List ℕ) (strict : Bool) (F G U : List ℕ) (p : ℕ) (rule : Boo
               go true e = sym (b _) ∙ pushed-bindings (pairsFor J p) G ps
               go false e = ap (λ (w : Binds). boundOver w (bindingsBy J p false (drop at T) G)) (here .plain e)
 
-          pub task-settles : c .refusal .number ≡ 0 → c .settled ≡ true → length T₁ ≡ length T → length memo₁ ≡ length memo → length W₁ ≡ length W → Grown k₀ e₀ p₀ ix₀ f₀ k₁ e₁ p₁ ix₁ (c .fill)
+          task-settles : c .refusal .number ≡ 0 → c .settled ≡ true → ((v ≡ 0 → ⊥) → suc i ≡ count → ⊥) → length T₁ ≡ length T → length memo₁ ≡ length memo → length W₁ ≡ length W → Grown k₀ e₀ p₀ ix₀ f₀ k₁ e₁ p₁ ix₁ (c .fill)
               → Task k₀ e₀ p₀ ix₀ f₀ memo₀ W₀ k₁ e₁ p₁ ix₁ (c .fill) memo₁ W₁ T₁ at₁ most (i + 1) 0
-          task-settles n s lT lMemo lW gr = record {
+          task-settles n s m lT lMemo lW gr = record {
             few = omega arith;
             upto = omega arith;
             full = lT ∙ t .full;
@@ -424,12 +446,60 @@ module _ (J : List ℕ) (strict : Bool) (F G U : List ℕ) (p : ℕ) (rule : Boo
             grown = gr;
             sane = λ u l. subst (λ (ρ : List Binding). Sane (programFor J) ρ (termsIn k₁ e₁ p₁ (c .fill))) bound (here .sane u n);
             owes = λ l _. subst⁻¹ (λ (m : ℕ). Owes J strict F G U p k₀ e₀ p₀ ix₀ f₀ W₀ k₁ e₁ p₁ ix₁ (c .fill) memo₁ W₁ (bindings (drop at₁ T₁)) (rest (drop m turns) 0)) (add-one i)
-                (subst (λ (ρ : List Binding). Owes J strict F G U p k₀ e₀ p₀ ix₀ f₀ W₀ k₁ e₁ p₁ ix₁ (c .fill) memo₁ W₁ ρ (rest (drop (suc i) turns) 0)) bound (after-over n s (omega arith)));
+                (subst (λ (ρ : List Binding). Owes J strict F G U p k₀ e₀ p₀ ix₀ f₀ W₀ k₁ e₁ p₁ ix₁ (c .fill) memo₁ W₁ ρ (rest (drop (suc i) turns) 0)) bound (after-over n s (omega arith) (λ z. not-last (m z) l)));
             due = λ u. absurd (omega arith);
             ends = λ u _. let l = t .ends u v≢1 in omega arith;
             high = ap (λ (m : ℕ). max most (highest (drop m turns))) (add-one i) ∙ ap (max most) (sym (over-high n s)) ∙ t .high;
             ended = λ u. after-end n (omega arith);
           }
+            where
+              not-last : (suc i ≡ count → ⊥) → i + 1 ≤ count → suc i < count
+              not-last x l = by (decLt (suc i) count)
+                where
+                  by : Dec (suc i < count) → suc i < count
+                  by (yes y) = y
+                  by (no y) = absurd (x (omega arith))
+
+          -- its head was done with the last fact
+          task-ends : c .refusal .number ≡ 0 → (v ≡ 0 → ⊥) → suc i ≡ count → length T₁ ≡ length T → length memo₁ ≡ length memo → length W₁ ≡ length W → Grown k₀ e₀ p₀ ix₀ f₀ k₁ e₁ p₁ ix₁ (c .fill)
+              → Task k₀ e₀ p₀ ix₀ f₀ memo₀ W₀ k₁ e₁ p₁ ix₁ (c .fill) memo₁ W₁ T₁ at₁ most (i + 2) 0
+          task-ends n z l lT lMemo lW gr = record {
+            few = omega arith;
+            upto = omega arith;
+            full = lT ∙ t .full;
+            low = let u = ps .most in let w = t .low in omega arith;
+            free = λ u. absurd (omega arith);
+            lenMemo = lMemo ∙ t .lenMemo;
+            lenW = lW ∙ t .lenW;
+            grown = gr;
+            sane = λ _ u. absurd (omega arith);
+            owes = λ u _. absurd (omega arith);
+            due = λ u. absurd (omega arith);
+            ends = λ _ _. omega arith;
+            high = ap (max most) (none (i + 2) (omega arith) ∙ sym (none (reached i v) (reached-late v z v≢1))) ∙ t .high;
+            ended = λ _. after-last n z l;
+          }
+            where
+              none : (m : ℕ) → count ≤ m → highest (drop m turns) ≡ 0
+              none m u = ap highest (drop-of-length-le turns {i = m} (let x = S .long in omega arith))
+
+              reached-late : (w : ℕ) → (w ≡ 0 → ⊥) → (w ≡ 1 → ⊥) → count ≤ reached i w
+              reached-late zero z o = absurd (z refl)
+              reached-late (suc zero) z o = absurd (o refl)
+              reached-late (suc (suc w)) z o = omega arith
+
+          pub task-follows : c .refusal .number ≡ 0 → c .settled ≡ true → {i₁ : ℕ} → Follows v count i i₁ → length T₁ ≡ length T → length memo₁ ≡ length memo → length W₁ ≡ length W → Grown k₀ e₀ p₀ ix₀ f₀ k₁ e₁ p₁ ix₁ (c .fill)
+              → Task k₀ e₀ p₀ ix₀ f₀ memo₀ W₀ k₁ e₁ p₁ ix₁ (c .fill) memo₁ W₁ T₁ at₁ most i₁ 0
+          task-follows n s {i₁} x lT lMemo lW gr = go v refl (decLt i count) (decLt (suc i) count)
+            where
+              at-turn : (m : ℕ) → i₁ ≡ m → Task k₀ e₀ p₀ ix₀ f₀ memo₀ W₀ k₁ e₁ p₁ ix₁ (c .fill) memo₁ W₁ T₁ at₁ most m 0 → Task k₀ e₀ p₀ ix₀ f₀ memo₀ W₀ k₁ e₁ p₁ ix₁ (c .fill) memo₁ W₁ T₁ at₁ most i₁ 0
+              at-turn m u y = subst⁻¹ (λ (j : ℕ). Task k₀ e₀ p₀ ix₀ f₀ memo₀ W₀ k₁ e₁ p₁ ix₁ (c .fill) memo₁ W₁ T₁ at₁ most j 0) u y
+
+              go : (w : ℕ) → v ≡ w → Dec (i < count) → Dec (suc i < count) → Task k₀ e₀ p₀ ix₀ f₀ memo₀ W₀ k₁ e₁ p₁ ix₁ (c .fill) memo₁ W₁ T₁ at₁ most i₁ 0
+              go zero u a b = at-turn (i + 1) (x .fresh u) (task-settles n s (λ z _. z u) lT lMemo lW gr)
+              go (suc w) u (yes a) (no b) = at-turn (i + 2) (x .last (λ z. absurd (omega arith)) (omega arith)) (task-ends n (λ z. absurd (omega arith)) (omega arith) lT lMemo lW gr)
+              go (suc w) u (yes a) (yes b) = at-turn (i + 1) (x .more (λ z. absurd (omega arith))) (task-settles n s (λ _ z. absurd (omega arith)) lT lMemo lW gr)
+              go (suc w) u (no a) b = at-turn (i + 1) (x .more (λ z. absurd (omega arith))) (task-settles n s (λ _ z. absurd (omega arith)) lT lMemo lW gr)
 
         -- its proof is to be walked
         module _ (n : c .refusal .number ≡ 0) (s : c .settled ≡ false) where

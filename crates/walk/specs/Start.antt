@@ -21,6 +21,7 @@ pub record Starts (rule : Bool) (count i s : ℕ) : Type 0 where
 
 -- The turn after turn i, settled in state s: after the last proof the step is over.
 pub record Follows (s count i r : ℕ) : Type 0 where
+  pub least : i + 1 ≤ r
   pub fresh : s ≡ 0 → r ≡ i + 1
   pub last : (s ≡ 0 → ⊥) → i + 1 ≡ count → r ≡ i + 2
   pub more : (i + 1 ≡ count → ⊥) → r ≡ i + 1
