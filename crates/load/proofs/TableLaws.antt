@@ -17,7 +17,7 @@ use Rattle.model.specs.Load.{any, failsFrom, marks, isFirst, sameHead, counts, 
 use Rattle.cells.proofs.Laws.{cell-at, cells-length, cells-fewer, same-cell-eq}
 use Rattle.cells.specs.declared.Found.{Found}
 use Rattle.load.specs.declared.sizes.Sizes.{Sizes as SizesHeld}
-use Rattle.load.specs.Held.{sizesIn, Distinct, countsOf, cellNumber, fixedCounts, alikeBy, firstAmong, tablesFor, cellHeld, Passing, testsFor, firstFound}
+use Rattle.load.specs.Held.{sizesIn, Distinct, countsOf, cellNumber, fixedCounts, alikeBy, firstAmong, tablesFor, cellHeld, Passing, Sound, testsFor, firstFound}
 
 -- a cell of a table is a cell of the job
 pub part-at : (cs : List Cell) (from count i : ℕ) → i < count → getD (part cs from count) i noCell ≡ getD cs (from + i) noCell
@@ -305,6 +305,12 @@ more-pass {K} {E} {P} {z} {round} {k} {n} l A e = record { few = omega arith; pa
     go i false q h =
         let d : n ≡ i = let g = ltb-false i n q in omega arith in
         subst (λ (j : ℕ). true ≡ getD (testsFor round (sizesIn z) (tablesFor K E P z)) k passed j (cellHeld K E P z (cellNumber (sizesIn z) k + j))) d e
+
+-- terms that pass 6 and 7
+pub sound-round : {K E P : List ℕ} {z : SizesHeld} {n : ℕ} → Sound K E P z n → (round : ℕ) → round < 2 → Passing K E P z round 0 n
+sound-round S zero h = S .fit
+sound-round S (suc zero) h = S .refer
+sound-round S (suc (suc k)) h = absurd (omega arith)
 
 -- past cells that pass
 pub found-past : (f : ℕ → Cell → Bool) (t : List Cell) (first n : ℕ) → n ≤ length t → ((i : ℕ) → i < n → true ≡ f i (getD t i noCell))

@@ -140,6 +140,11 @@ pub record Passing (K E P : List ℕ) (z : SizesHeld) (round k n : ℕ) : Type 0
   pub few : n ≤ getD (countsOf (sizesIn z)) k 0
   pub pass : (i : ℕ) → i < n → true ≡ getD (testsFor round (sizesIn z) (tablesFor K E P z)) k passed i (cellHeld K E P z (cellNumber (sizesIn z) k + i))
 
+-- The first n terms pass 6 and 7.
+pub record Sound (K E P : List ℕ) (z : SizesHeld) (n : ℕ) : Type 0 where
+  pub fit : Passing K E P z 0 0 n
+  pub refer : Passing K E P z 1 0 n
+
 -- The refusal that an answer stands for.
 abbrev pub refusalOf : Loaded → Option Refusal
 refusalOf Loaded.Admitted = none

@@ -10,6 +10,7 @@ use crate::sizes::too_large;
 use crate::sizes::wrong_length;
 use crate::tables::fill;
 use crate::tables::first_marked;
+use crate::tables::passing_terms;
 use cells::Found;
 use cells::start;
 use cells::wide;
@@ -61,9 +62,10 @@ pub fn writer_refusal(
     requires { ⌜ Distinct (now kinds) (now ends) (now pool) z distinct ⌝ }
     ensures { λ r. ⌜ refusalOf r ≡ firstRefusal (writerTests (sizesIn z) (tablesFor (now (kinds .entry)) (now (ends .entry)) (now (pool .entry)) z)) ⌝ }
 {
+    let sound = passing_terms(kinds, ends, pool, z);
     let mut round: u32 = 0;
     while round < 4 {
-        let f = first_marked(kinds, ends, pool, z, distinct, wide(round));
+        let f = first_marked(kinds, ends, pool, z, distinct, sound, wide(round));
         if let Found::At(cell) = f {
             return Loaded::Writer(6 + round, cell);
         }

@@ -18,13 +18,13 @@ ghost use mathlib.Core.Bool.{true, false};
 ghost use Prim.Native.Nat.{ℕ, _+_, _<_};
 ghost use lib.ListN.{getD};
 ghost use mathlib.Core.List.{[]};
-ghost use Rattle.model.specs.Load.{counts as operandCounts, failsFrom, marks, setFits, actionFits, passed, fitTests, referTests, validTests, onceTests, primitiveLooksUp, bindsOnce};
+ghost use Rattle.model.specs.Load.{counts as operandCounts, failsFrom, marks, setFits, actionFits, passed, termFits, termRefers, fitTests, referTests, validTests, onceTests, primitiveLooksUp, bindsOnce};
 ghost use Rattle.model.specs.Cell.{cellsOf};
-ghost use Rattle.model.specs.Layout.{cellCount, Tables, tableList};
-ghost use Rattle.model.specs.Layout.{Sizes as SizesOf};
+ghost use Rattle.model.specs.Layout.{cellCount, tableList};
 ghost use Rattle.model.specs.Program.{substitution};
 ghost use Rattle.model.specs.Decode.{readProof};
-ghost use Rattle.load.specs.Held.{sizesIn, fillOf, Limits, Held, Distinct, tablesFor, fixedCounts, alikeBy, firstAmong, cellHeld, Place, Passing, testsFor, firstFound, countsOf, cellNumber};
+ghost use Rattle.model.specs.Term.{readTerm};
+ghost use Rattle.load.specs.Held.{sizesIn, fillOf, Limits, Held, Distinct, Sound, tablesFor, fixedCounts, alikeBy, firstAmong, cellHeld, Place, Passing, testsFor, firstFound, countsOf, cellNumber};
 
 // How much the job's arrays hold.
 pub fn fill(z: Sizes) -> Fill
@@ -310,28 +310,26 @@ pub fn passes(
     once(kinds, ends, pool, z, table, first, i, kind, ws)
 }
 
-// A term passes its test: 6 and 7 are rounds 0 and 1.
-fn term_passes(round: usize, i: usize, kind: u32, ws: &[u32]) -> bool
-    requires { ⌜ round < 2 ⌝ }
-    ensures { λ r. ⌜ ((z : SizesOf) (t : Tables) → r ≡ getD (testsFor round z t) 0 passed i (record { kind = kind; words = now (ws .entry) })) ⌝ }
+// A term passes 6 and 7.
+fn term_passes(i: usize, kind: u32, ws: &[u32]) -> bool
+    ensures { λ r. ⌜ (r ≡ true → (true ≡ termFits (record { kind = kind; words = now (ws .entry) })) × (true ≡ termRefers i (readTerm (record { kind = kind; words = now (ws .entry) })))) ⌝ }
 {
-    if round == 0 {
-        return fit::term_fits(kind, ws);
+    if !fit::term_fits(kind, ws) {
+        return false;
     }
     refer::term_refers(i, kind, ws)
 }
 
-// How many terms, from the first on, pass 6 or 7. There are the most of them, so that they have a loop without a choice of the table.
-fn passing_terms(kinds: &[u32], ends: &[u32], pool: &[u32], z: Sizes, round: usize) -> usize
+// How many terms, from the first on, pass 6 and 7. There are the most of them, so that they have one loop for both, without a choice of the table.
+pub fn passing_terms(kinds: &[u32], ends: &[u32], pool: &[u32], z: Sizes) -> usize
     requires { ⌜ Held (now kinds) (now ends) (now pool) z ⌝ }
-    requires { ⌜ round < 2 ⌝ }
-    ensures { λ r. ⌜ Passing (now (kinds .entry)) (now (ends .entry)) (now (pool .entry)) z round 0 r ⌝ }
+    ensures { λ r. ⌜ Sound (now (kinds .entry)) (now (ends .entry)) (now (pool .entry)) z r ⌝ }
 {
     let f = fill(z);
     let mut i = 0;
     while i < z.terms {
         let ws = words(kinds, ends, pool, f, i);
-        if !term_passes(round, i, kinds[i], ws) {
+        if !term_passes(i, kinds[i], ws) {
             return i;
         }
         i += 1;
@@ -346,6 +344,7 @@ fn passed_first(
     pool: &[u32],
     z: Sizes,
     distinct: usize,
+    sound: usize,
     round: usize,
     table: usize,
     count: usize,
@@ -353,11 +352,12 @@ fn passed_first(
     requires { ⌜ Held (now kinds) (now ends) (now pool) z ⌝ }
     requires { ⌜ count ≡ getD (countsOf (sizesIn z)) table 0 ⌝ }
     requires { ⌜ Distinct (now kinds) (now ends) (now pool) z distinct ⌝ }
+    requires { ⌜ Sound (now kinds) (now ends) (now pool) z sound ⌝ }
     ensures { λ r. ⌜ Passing (now (kinds .entry)) (now (ends .entry)) (now (pool .entry)) z round table r ⌝ }
 {
     if round < 2 {
         if table == 0 {
-            return passing_terms(kinds, ends, pool, z, round);
+            return sound;
         }
         return 0;
     }
@@ -383,6 +383,7 @@ pub fn first_failing(
     pool: &[u32],
     z: Sizes,
     distinct: usize,
+    sound: usize,
     round: usize,
     table: usize,
     first: usize,
@@ -393,9 +394,10 @@ pub fn first_failing(
     requires { ⌜ first ≡ cellNumber (sizesIn z) table ⌝ }
     requires { ⌜ count ≡ getD (countsOf (sizesIn z)) table 0 ⌝ }
     requires { ⌜ Distinct (now kinds) (now ends) (now pool) z distinct ⌝ }
+    requires { ⌜ Sound (now kinds) (now ends) (now pool) z sound ⌝ }
     ensures { λ r. ⌜ r ≡ firstFound first (failsFrom 0 (getD (testsFor round (sizesIn z) (tablesFor (now (kinds .entry)) (now (ends .entry)) (now (pool .entry)) z)) table passed) (getD (tableList (tablesFor (now (kinds .entry)) (now (ends .entry)) (now (pool .entry)) z)) table [])) ⌝ }
 {
-    let mut i = passed_first(kinds, ends, pool, z, distinct, round, table, count);
+    let mut i = passed_first(kinds, ends, pool, z, distinct, sound, round, table, count);
     while i < count {
         if !passes(kinds, ends, pool, z, round, table, first, i) {
             return Found::At(first + i);
@@ -412,10 +414,12 @@ pub fn first_marked(
     pool: &[u32],
     z: Sizes,
     distinct: usize,
+    sound: usize,
     round: usize,
 ) -> Found
     requires { ⌜ Held (now kinds) (now ends) (now pool) z ⌝ }
     requires { ⌜ Distinct (now kinds) (now ends) (now pool) z distinct ⌝ }
+    requires { ⌜ Sound (now kinds) (now ends) (now pool) z sound ⌝ }
     ensures { λ r. ⌜ r ≡ firstFound 0 (marks (testsFor round (sizesIn z) (tablesFor (now (kinds .entry)) (now (ends .entry)) (now (pool .entry)) z)) (tableList (tablesFor (now (kinds .entry)) (now (ends .entry)) (now (pool .entry)) z))) ⌝ }
 {
     let ns = counts(z);
@@ -423,7 +427,18 @@ pub fn first_marked(
     let mut table = 0;
     while table < 10 {
         let n = ns[table];
-        let f = first_failing(kinds, ends, pool, z, distinct, round, table, first, n);
+        let f = first_failing(
+            kinds,
+            ends,
+            pool,
+            z,
+            distinct,
+            sound,
+            round,
+            table,
+            first,
+            n,
+        );
         if let Found::At(_) = f {
             return f;
         }

@@ -11,10 +11,13 @@ use Rattle.load.proofs.writer_refusal.Statement.{statement}
 use Rattle.load.proofs.writer_refusal.Tie as tie
 
 abbrev Inv-loop : tie.InvT-loop
-Inv-loop kinds ends pool z distinct round₀ round = (round ≤ 4) × (firstRefusal (writerTests (sizesIn z) (tablesFor kinds ends pool z)) ≡ firstRefusal (drop round (writerTests (sizesIn z) (tablesFor kinds ends pool z))))
+Inv-loop kinds ends pool z distinct sound round₀ round = (round ≤ 4) × (firstRefusal (writerTests (sizesIn z) (tablesFor kinds ends pool z)) ≡ firstRefusal (drop round (writerTests (sizesIn z) (tablesFor kinds ends pool z))))
 
 abbrev μ-loop : tie.MeasureT-loop
-μ-loop kinds ends pool z distinct round₀ round = 4 - round
+μ-loop kinds ends pool z distinct sound round₀ round = 4 - round
+
+passing-terms-requires : tie.Need-passing-terms-requires Inv-loop μ-loop
+passing-terms-requires c κs = search needs
 
 loop-holds : tie.Need-loop-holds Inv-loop μ-loop
 loop-holds c = (omega arith, refl)
@@ -23,16 +26,16 @@ wide-requires : tie.Need-wide-requires Inv-loop μ-loop
 wide-requires c κs = search needs
 
 first-marked-requires : tie.Need-first-marked-requires Inv-loop μ-loop
-first-marked-requires c κs = c .before .before .before .before .before .before .pre
+first-marked-requires c κs = let h = c .before .before .before .before .before .before .before .pre in (h .0, (h .1, c .before .before .before .passing-terms .ensures))
 
 enum-known-f : tie.Need-enum-known-f Inv-loop μ-loop
 enum-known-f c = search needs
 
-add-t11 : tie.Need-add-t11 Inv-loop μ-loop
-add-t11 c = omega arith
+add-t12 : tie.Need-add-t12 Inv-loop μ-loop
+add-t12 c = omega arith
 
 returns : tie.Need-returns Inv-loop μ-loop
-returns c = let a = c .before .before .before .before .before .before .before .before .before .before .args in
+returns c = let a = c .before .before .before .before .before .before .before .before .before .before .before .args in
     let z = sizesIn (a .z) in
     let t = tablesFor (a .kinds .now) (a .ends .now) (a .pool .now) (a .z) in
     let l = c .before .before .before .before .before .before .loop in
@@ -50,7 +53,7 @@ loop-less : tie.Need-loop-less Inv-loop μ-loop
 loop-less c = omega arith
 
 loop-again : tie.Need-loop-again Inv-loop μ-loop
-loop-again c = let a = c .before .before .before .before .before .before .before .before .before .args in
+loop-again c = let a = c .before .before .before .before .before .before .before .before .before .before .args in
     let z = sizesIn (a .z) in
     let t = tablesFor (a .kinds .now) (a .ends .now) (a .pool .now) (a .z) in
     let l = c .before .before .before .before .before .loop in
@@ -58,7 +61,7 @@ loop-again c = let a = c .before .before .before .before .before .before .before
     (omega arith, l .inv .1 ∙ round-no z t (l .round) (omega arith) (sym e ∙ sym (c .before .before .first-marked .ensures) ∙ c .enum-told .given .1))
 
 returns-2 : tie.Need-returns-2 Inv-loop μ-loop
-returns-2 c = let a = c .before .before .before .before .before .args in
+returns-2 c = let a = c .before .before .before .before .before .before .args in
     let z = sizesIn (a .z) in
     let t = tablesFor (a .kinds .now) (a .ends .now) (a .pool .now) (a .z) in
     let l = c .before .loop in
@@ -70,11 +73,12 @@ writer-refusal-spec =
     (tie.spec
     Inv-loop
     μ-loop
+    passing-terms-requires
     loop-holds
     wide-requires
     first-marked-requires
     enum-known-f
-    add-t11
+    add-t12
     returns
     enum-told
     add-round

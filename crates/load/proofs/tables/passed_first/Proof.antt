@@ -1,4 +1,4 @@
-use Rattle.load.proofs.TableLaws.{valid-other, known-once, once-other, last-round, none-pass}
+use Rattle.load.proofs.TableLaws.{valid-other, known-once, once-other, last-round, none-pass, sound-round}
 use Rattle.model.proofs.Tests.{or-left, or-right}
 use borrow.Author.Tests.{eqb-false}
 use native.Mathlib.Omega.{arith}
@@ -18,11 +18,10 @@ module _ (k : ℕ) (e : (eqb k 6 || eqb k 7) ≡ false) where
   seven : k ≡ 7 → ⊥
   seven = eqb-false k 7 (or-right (eqb k 6) (eqb k 7) e)
 
-passing-terms-requires : tie.Need-passing-terms-requires
-passing-terms-requires c κs = search needs
-
 returns : tie.Need-returns
-returns c = let a = c .before .before .before .before .before .before .args in subst⁻¹ (λ (k : ℕ). Passing (a .kinds .now) (a .ends .now) (a .pool .now) (a .z) (a .round) k (c .passing-terms .result)) (c .before .if2 .taken) (c .passing-terms .ensures)
+returns c = let s = c .before .before in
+    let a = s .args in
+    subst⁻¹ (λ (k : ℕ). Passing (a .kinds .now) (a .ends .now) (a .pool .now) (a .z) (a .round) k (a .sound)) (c .if2 .taken) (sound-round (s .pre .1 .1 .1) (a .round) (c .before .if1 .taken))
 
 returns-2 : tie.Need-returns-2
 returns-2 c = none-pass
@@ -31,7 +30,7 @@ returns-3 : tie.Need-returns-3
 returns-3 c = none-pass
 
 returns-4 : tie.Need-returns-4
-returns-4 c = let s = c .before .before .before .before .before .before in
+returns-4 c = let s = c .before .before .before in
     let a = s .args in
     let k = a .table in
     let e = c .before .if3 .left in
@@ -45,9 +44,9 @@ returns-5 : tie.Need-returns-5
 returns-5 c = none-pass
 
 returns-6 : tie.Need-returns-6
-returns-6 c = let s = c .before .before .before .before .before .before .before .before in
+returns-6 c = let s = c .before .before .before .before .before in
     let a = s .args in
-    let D = s .pre .1 .1 in
+    let D = s .pre .1 .1 .0 in
     let last = last-round (a .round) (sizesIn (a .z)) (tablesFor (a .kinds .now) (a .ends .now) (a .pool .now) (a .z)) (λ e. omega arith) (λ e. omega arith) (c .before .before .if4 .left) in
     record {
       few = rw (c .if6 .taken) (D .few);
@@ -55,7 +54,7 @@ returns-6 c = let s = c .before .before .before .before .before .before .before 
     }
 
 returns-7 : tie.Need-returns-7
-returns-7 c = let s = c .before .before .before .before .before .before .before .before in
+returns-7 c = let s = c .before .before .before .before .before in
     let a = s .args in
     let k = a .table in
     let e = c .before .before .before .if3 .left in
@@ -67,4 +66,4 @@ returns-7 c = let s = c .before .before .before .before .before .before .before 
     }
 
 pub passed-first-spec : {M : Type 1} → statement M
-passed-first-spec = tie.close (tie.spec passing-terms-requires returns returns-2 returns-3 returns-4 returns-5 returns-6 returns-7)
+passed-first-spec = tie.close (tie.spec returns returns-2 returns-3 returns-4 returns-5 returns-6 returns-7)
