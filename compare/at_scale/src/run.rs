@@ -5,6 +5,7 @@ use std::sync::atomic::{AtomicU64, Ordering};
 use std::thread;
 
 use job::modes::PLAIN;
+use oracle::on_deep_stack;
 
 use crate::call::{Call, Judge, Left};
 use crate::difference::{Difference, difference};
@@ -13,8 +14,6 @@ use crate::variants::{Source, Variant, calls};
 
 /// Seeds that a thread takes at a time.
 const CHUNK: u64 = 64;
-/// More than the deepest job takes: 4,096 rule steps one under another.
-const STACK: usize = 32 << 20;
 
 /// A difference and how to come by it.
 #[derive(Clone, PartialEq, Eq, Debug)]
@@ -83,12 +82,9 @@ where
     let end = first + count;
     let threads = thread::available_parallelism().map_or(1, usize::from);
     thread::scope(|scope| {
-        let spawn = |_| {
-            thread::Builder::new()
-                .stack_size(STACK)
-                .spawn_scoped(scope, || compare_chunks(&next, end, done, &library))
-                .expect("a thread")
-        };
+        // The deepest job, 4,096 rule steps one under another, takes less than that stack by either side.
+        let spawn =
+            |_| scope.spawn(|| on_deep_stack(|| compare_chunks(&next, end, done, &library)));
         let workers: Vec<_> = (0..threads).map(spawn).collect();
         let tallies = workers
             .into_iter()

@@ -1,5 +1,6 @@
 //! One function from a job to the eight words and the words of the store.
 
+use std::cell::Cell;
 use std::thread;
 use std::time::{Duration, Instant};
 
@@ -127,12 +128,23 @@ fn is_shallow(words: &[u32]) -> bool {
     })
 }
 
-/// Runs on a thread whose stack is large enough for any job.
+thread_local! {
+    /// This thread's stack is large enough for any job.
+    static IS_DEEP: Cell<bool> = const { Cell::new(false) };
+}
+
+/// Runs on a thread whose stack is large enough for any job: this one, if it is such a thread.
 pub fn on_deep_stack<R: Send>(run: impl FnOnce() -> R + Send) -> R {
+    if IS_DEEP.get() {
+        return run();
+    }
     thread::scope(|scope| {
         thread::Builder::new()
             .stack_size(DEEP_STACK)
-            .spawn_scoped(scope, run)
+            .spawn_scoped(scope, || {
+                IS_DEEP.set(true);
+                run()
+            })
             .expect("a thread")
             .join()
             .expect("a judge that returns")
