@@ -14,9 +14,9 @@ use borrow.Author.Tests.{eq-eqb, ne-eqb, eqb-true, eqb-false}
 use Rattle.model.specs.Layout.{sizesOf}
 use Rattle.model.specs.Term.{Term}
 use Rattle.model.specs.Cell.{Cell, noCell}
-use Rattle.model.specs.Program.{Head, Expr, Program}
+use Rattle.model.specs.Program.{Head, Expr, Fact, Program}
 use Rattle.model.specs.Decode.{readHead, argumentsBy, exprIn, exprOf}
-use Rattle.model.specs.Check.{firstOf}
+use Rattle.model.specs.Check.{ok, firstOf}
 use Rattle.model.specs.Fact as fact
 use Rattle.model.specs.Fact.{isFunc, isPrimitive, isContainerPrimitive, primitiveNonNormalArg, containerPrimitiveNotSideCondition, offenceIf, argumentOffence, offence, offences, factOffence, noOffence, assertBodyProofNormalForm, isContainerSideCondition}
 use Rattle.model.proofs.Fuel.{expr-node}
@@ -26,7 +26,7 @@ use Rattle.decode.specs.declared.Head.{Head as HeadView}
 use Rattle.decode.specs.declared.Fact.{Fact as FactView}
 use Rattle.program.specs.Ready.{tablesFor, Ready, programFor}
 use Rattle.program.specs.Read.{HeadAt, ArgumentsAt, FactAt, exprFor, factFor}
-use Rattle.normal_form.specs.Search.{offenceOf, offenceBy, offenceIn, SearchedTo, Searched}
+use Rattle.normal_form.specs.Search.{offenceOf, offenceBy, offenceIn, containerIn, SearchedTo, Searched, Ordinary}
 use Rattle.normal_form.specs.declared.Offence.{Offence}
 
 -- what a word says
@@ -102,6 +102,10 @@ pub fact-by : {J : List ℕ} {n i : ℕ} {f g : FactView} → FactAt J n f → n
 fact-by {J} {n} {i} {f} A q p =
     ap (factOf (exprFor J) i) (sym p) ∙ subst (λ (j : ℕ). factOf (exprFor J) j f ≡ factFor J j) q (A .is)
 
+-- half a word is low
+pub low-half : (J : List ℕ) (j : ℕ) → Ready J → j < sizesOf J .expressions → 2 * j + 2 < 32768
+low-half J j R l = let m = R .held .limits .expressions in omega arith
+
 -- the tests' outcomes
 pub says-first : (j : ℕ) (a b : Bool) → a ≡ true → offenceIn (2 * j + 1) ≡ firstOf (offenceIf a (primitiveNonNormalArg j)) (offenceIf b (containerPrimitiveNotSideCondition j))
 says-first j a b e = first-kind j ∙ ap (λ (x : Bool). firstOf (offenceIf x (primitiveNonNormalArg j)) (offenceIf b (containerPrimitiveNotSideCondition j))) (sym e)
@@ -111,6 +115,17 @@ says-second j a b e f = second-kind j ∙ ap₂ (λ (x y : Bool). firstOf (offen
 
 pub says-none : (j : ℕ) (a b : Bool) → a ≡ false → b ≡ false → offenceIn 0 ≡ firstOf (offenceIf a (primitiveNonNormalArg j)) (offenceIf b (containerPrimitiveNotSideCondition j))
 says-none j a b e f = sym word-none ∙ ap₂ (λ (x y : Bool). firstOf (offenceIf x (primitiveNonNormalArg j)) (offenceIf y (containerPrimitiveNotSideCondition j))) (sym e) (sym f)
+
+-- a word that is 0
+zero-half : {w : ℕ} → w ≡ 0 → 0 ≡ w / 2
+zero-half e = ap (λ (n : ℕ). n / 2) (sym e)
+
+zero-calls : {w : ℕ} → w ≡ 0 → false ≡ containerIn w
+zero-calls e = ap containerIn (sym e)
+
+no-offence : (prog : Program) (f : Fact) (rule : ℕ) (s : List Term) → offenceIn 0 ≡ factOffence prog f → assertBodyProofNormalForm prog rule f s ≡ ok tt s
+unfolding assertBodyProofNormalForm
+no-offence prog f rule s h = ap (λ (o : Option fact.Offence). noOffence rule o s) (sym (word-none ∙ h))
 
 -- what is left of an expression's arguments
 module _ (J : List ℕ) where
@@ -130,12 +145,12 @@ module _ (J : List ℕ) where
 
   -- one argument after another
   module _ (h : Head) (xs F : List ℕ) (e k a n w : ℕ) (S : SearchedTo J e F) (l : k < length xs) (lower : getD xs k 0 < e) (at : n ≡ getD xs k 0)
-      (s : offenceIn a ≡ argumentOffence (programFor J) h (exprFor J (getD xs k 0))) (v : offenceIn w ≡ firstOf (offenceIn a) (offenceIn (getD F n 0))) where
+      (s : offenceIn a ≡ argumentOffence (programFor J) h (exprFor J (getD xs k 0))) (v : offenceIn w ≡ firstOf (offenceIn a) (offenceIn (getD F n 0 / 2))) where
     rest-step : rest h xs k ≡ firstOf (offenceIn w) (rest h xs (k + 1))
     unfolding offences
     rest-step =
         let x = getD xs k 0 in
-        let inside : offenceIn (getD F n 0) ≡ offence (exprFor J x) (programFor J) = ap (λ (i : ℕ). offenceIn (getD F i 0)) at ∙ S .says x lower in
+        let inside : offenceIn (getD F n 0 / 2) ≡ offence (exprFor J x) (programFor J) = ap (λ (i : ℕ). offenceIn (getD F i 0 / 2)) at ∙ S .says x lower in
         ap (λ (ys : List ℕ). offences (argumentsBy (exprFor J) ys) (programFor J) h) (drop-cons xs k 0 l)
         ∙ first-both (argumentOffence (programFor J) h (exprFor J x)) (offence (exprFor J x) (programFor J)) (rest h xs (suc k))
         ∙ ap₂ (λ (o : Option fact.Offence) (i : ℕ). firstOf o (rest h xs i)) (sym (v ∙ ap₂ (λ (o u : Option fact.Offence). firstOf o u) s inside)) (sym (add-one k))
@@ -148,19 +163,25 @@ module _ (J : List ℕ) where
 
   -- one expression after another
   pub searched-none : (F : List ℕ) → SearchedTo J 0 F
-  searched-none F = record { long = omega arith; says = λ e h. absurd (omega arith) }
+  searched-none F = record { long = omega arith; low = λ e h. absurd (omega arith); says = λ e h. absurd (omega arith); calls = λ e h. absurd (omega arith) }
 
-  pub searched-more : (F : List ℕ) (n w : ℕ) → SearchedTo J n F → n < length F → offenceIn w ≡ offence (exprFor J n) (programFor J) → SearchedTo J (n + 1) (set F n w)
-  searched-more F n w S l s = record {
+  pub searched-more : (F : List ℕ) (n w : ℕ) → SearchedTo J n F → n < length F → w < 65536 → offenceIn (w / 2) ≡ offence (exprFor J n) (programFor J)
+      → containerIn w ≡ isContainerPrimitive (programFor J) (fact.headOf (exprFor J n)) → SearchedTo J (n + 1) (set F n w)
+  searched-more F n w S l o s k = record {
     long = simp length-set (omega arith);
-    says = λ e h. go e h (decLt e n);
+    low = λ e h. below (λ _ v. v < 65536) (S .low) o e h;
+    says = λ e h. below (λ i v. offenceIn (v / 2) ≡ offence (exprFor J i) (programFor J)) (S .says) s e h;
+    calls = λ e h. below (λ i v. containerIn v ≡ isContainerPrimitive (programFor J) (fact.headOf (exprFor J i))) (S .calls) k e h;
   }
     where
-      go : (e : ℕ) → e < n + 1 → Dec (e < n) → offenceIn (getD (set F n w) e 0) ≡ offence (exprFor J e) (programFor J)
-      go e h (yes q) = ap offenceIn (getD-set-other F n e w 0 (λ i. omega arith)) ∙ S .says e q
-      go e h (no q) =
-          let i : n ≡ e = omega arith in
-          subst (λ (x : ℕ). offenceIn (getD (set F n w) x 0) ≡ offence (exprFor J x) (programFor J)) i (ap offenceIn (getD-set-same F n w 0 l) ∙ s)
+      below : (P : ℕ → ℕ → Type 0) → ((e : ℕ) → e < n → P e (getD F e 0)) → P n w → (e : ℕ) → e < n + 1 → P e (getD (set F n w) e 0)
+      below P old new e h = go (decLt e n)
+        where
+          go : Dec (e < n) → P e (getD (set F n w) e 0)
+          go (yes q) = subst (P e) (sym (getD-set-other F n e w 0 (λ i. omega arith))) (old e q)
+          go (no q) =
+              let i : n ≡ e = omega arith in
+              subst (λ (x : ℕ). P x (getD (set F n w) x 0)) i (subst (P n) (sym (getD-set-same F n w 0 l)) new)
 
   -- the head of an expression
   pub container-by : (e : ℕ) (h g : HeadView) (b : Bool) → HeadAt J e h → h ≡ g → b ≡ isContainerPrimitive (programFor J) (headOf g)
@@ -172,29 +193,52 @@ module _ (J : List ℕ) where
     fact-is : (g : FactView) → f ≡ g → factOf (exprFor J) i g ≡ factFor J i
     fact-is g q = fact-by A refl q
 
-    pub equal-offence : (F : List ℕ) (l r n m w : ℕ) → f ≡ FactView.Equal l r → Searched J F → n ≡ l → m ≡ r → offenceIn w ≡ firstOf (offenceIn (getD F n 0)) (offenceIn (getD F m 0))
-        → offenceIn w ≡ factOffence (programFor J) (factFor J i)
+    -- the words of its sides
+    pub left-read : (F : List ℕ) (l r n : ℕ) → f ≡ FactView.Equal l r → Searched J F → n ≡ l → n < length F
+    left-read F l r n q S en = omega (arith, A .equal l r q .0, S .long, en)
+
+    pub right-read : (F : List ℕ) (l r n : ℕ) → f ≡ FactView.Equal l r → Searched J F → n ≡ r → n < length F
+    right-read F l r n q S en = omega (arith, A .equal l r q .1, S .long, en)
+
+    pub bare-read : (F : List ℕ) (e n : ℕ) → f ≡ FactView.Bare e → Searched J F → n ≡ e → n < length F
+    bare-read F e n q S en = omega (arith, A .bare e q, S .long, en)
+
+    pub equal-offence : (F : List ℕ) (l r n m w : ℕ) → f ≡ FactView.Equal l r → Searched J F → n ≡ l → m ≡ r
+        → offenceIn w ≡ firstOf (offenceIn (getD F n 0 / 2)) (offenceIn (getD F m 0 / 2)) → offenceIn w ≡ factOffence (programFor J) (factFor J i)
     equal-offence F l r n m w q S en em s =
         let b = A .equal l r q in
-        let x : offenceIn (getD F n 0) ≡ offence (exprFor J l) (programFor J) = ap (λ (k : ℕ). offenceIn (getD F k 0)) en ∙ S .says l (b .0) in
-        let y : offenceIn (getD F m 0) ≡ offence (exprFor J r) (programFor J) = ap (λ (k : ℕ). offenceIn (getD F k 0)) em ∙ S .says r (b .1) in
+        let x : offenceIn (getD F n 0 / 2) ≡ offence (exprFor J l) (programFor J) = ap (λ (k : ℕ). offenceIn (getD F k 0 / 2)) en ∙ S .says l (b .0) in
+        let y : offenceIn (getD F m 0 / 2) ≡ offence (exprFor J r) (programFor J) = ap (λ (k : ℕ). offenceIn (getD F k 0 / 2)) em ∙ S .says r (b .1) in
         s ∙ ap₂ (λ (o u : Option fact.Offence). firstOf o u) x y ∙ ap (factOffence (programFor J)) (fact-is (FactView.Equal l r) q)
 
-    pub bare-offence : (F : List ℕ) (e n : ℕ) → f ≡ FactView.Bare e → Searched J F → n ≡ e → offenceIn (getD F n 0) ≡ factOffence (programFor J) (factFor J i)
+    pub bare-offence : (F : List ℕ) (e n : ℕ) → f ≡ FactView.Bare e → Searched J F → n ≡ e → offenceIn (getD F n 0 / 2) ≡ factOffence (programFor J) (factFor J i)
     bare-offence F e n q S en =
-        ap (λ (k : ℕ). offenceIn (getD F k 0)) en ∙ S .says e (A .bare e q) ∙ ap (factOffence (programFor J)) (fact-is (FactView.Bare e) q)
+        ap (λ (k : ℕ). offenceIn (getD F k 0 / 2)) en ∙ S .says e (A .bare e q) ∙ ap (factOffence (programFor J)) (fact-is (FactView.Bare e) q)
 
-    pub equal-side : (l r n m : ℕ) {a b : Bool} → f ≡ FactView.Equal l r → n ≡ l → m ≡ r
-        → a ≡ isContainerPrimitive (programFor J) (fact.headOf (exprFor J n)) → b ≡ isContainerPrimitive (programFor J) (fact.headOf (exprFor J m))
+    pub equal-side : (F : List ℕ) (l r n m : ℕ) {a b : Bool} → f ≡ FactView.Equal l r → Searched J F → n ≡ l → m ≡ r → a ≡ containerIn (getD F n 0) → b ≡ containerIn (getD F m 0)
         → (a || b) ≡ isContainerSideCondition (programFor J) (factFor J i)
-    equal-side l r n m {a} {b} q en em ea eb =
-        let at : ℕ → Bool = λ k. isContainerPrimitive (programFor J) (fact.headOf (exprFor J k)) in
-        ap₂ (λ (x y : Bool). x || y) (ea ∙ ap at en) (eb ∙ ap at em) ∙ ap (isContainerSideCondition (programFor J)) (fact-is (FactView.Equal l r) q)
+    equal-side F l r n m {a} {b} q S en em ea eb =
+        let w = A .equal l r q in
+        let at : ℕ → Bool = λ k. containerIn (getD F k 0) in
+        ap₂ (λ (x y : Bool). x || y) (ea ∙ ap at en ∙ S .calls l (w .0)) (eb ∙ ap at em ∙ S .calls r (w .1)) ∙ ap (isContainerSideCondition (programFor J)) (fact-is (FactView.Equal l r) q)
 
-    pub bare-side : (e n : ℕ) {a : Bool} → f ≡ FactView.Bare e → n ≡ e → a ≡ isContainerPrimitive (programFor J) (fact.headOf (exprFor J n))
+    pub bare-side : (F : List ℕ) (e n : ℕ) {a : Bool} → f ≡ FactView.Bare e → Searched J F → n ≡ e → a ≡ containerIn (getD F n 0)
         → a ≡ isContainerSideCondition (programFor J) (factFor J i)
-    bare-side e n q en ea =
-        ea ∙ ap (λ (k : ℕ). isContainerPrimitive (programFor J) (fact.headOf (exprFor J k))) en ∙ ap (isContainerSideCondition (programFor J)) (fact-is (FactView.Bare e) q)
+    bare-side F e n q S en ea =
+        ea ∙ ap (λ (k : ℕ). containerIn (getD F k 0)) en ∙ S .calls e (A .bare e q) ∙ ap (isContainerSideCondition (programFor J)) (fact-is (FactView.Bare e) q)
+
+    -- words that are 0
+    pub equal-ordinary : (F : List ℕ) (l r n m : ℕ) → f ≡ FactView.Equal l r → Searched J F → n ≡ l → m ≡ r → getD F n 0 ≡ 0 → getD F m 0 ≡ 0 → Ordinary (programFor J) (factFor J i)
+    equal-ordinary F l r n m q S en em zn zm = record {
+      premised = sym (equal-side F l r n m q S en em (zero-calls zn) (zero-calls zm));
+      normal = λ rule s. no-offence (programFor J) (factFor J i) rule s (equal-offence F l r n m 0 q S en em (word-second 0 _ refl ∙ ap₂ (λ (a b : ℕ). firstOf (offenceIn a) (offenceIn b)) (zero-half zn) (zero-half zm)));
+    }
+
+    pub bare-ordinary : (F : List ℕ) (e n : ℕ) → f ≡ FactView.Bare e → Searched J F → n ≡ e → getD F n 0 ≡ 0 → Ordinary (programFor J) (factFor J i)
+    bare-ordinary F e n q S en z = record {
+      premised = sym (bare-side F e n q S en (zero-calls z));
+      normal = λ rule s. no-offence (programFor J) (factFor J i) rule s (ap offenceIn (zero-half z) ∙ bare-offence F e n q S en);
+    }
 
 -- normal form, by the offence that was found
 pub normal-form : (J : List ℕ) (rule : ℕ) (s : List Term) {n i : ℕ} {o g : Offence} → offenceOf o ≡ factOffence (programFor J) (factFor J n) → n ≡ i → o ≡ g

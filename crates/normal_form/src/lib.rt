@@ -12,7 +12,8 @@ use program::read::fact_at;
 use program::read::head_at;
 ghost use mathlib.Core.Path.{_≡_};
 ghost use mathlib.Core.List.{List};
-ghost use Prim.Native.Nat.{_≤_, _<_};
+ghost use mathlib.Core.Bool.{true};
+ghost use Prim.Native.Nat.{ℕ, _/_, _≤_, _<_};
 ghost use lib.ListN.{length};
 ghost use Rattle.model.specs.Layout.{sizesOf};
 ghost use Rattle.model.specs.Term.{Term};
@@ -23,7 +24,7 @@ ghost use Rattle.decode.specs.View.{headOf};
 ghost use Rattle.outcome.specs.Does.{outcomeOf};
 ghost use Rattle.program.specs.Ready.{Ready, programFor, optionOf};
 ghost use Rattle.program.specs.Read.{exprFor, factFor};
-ghost use Rattle.normal_form.specs.Search.{offenceOf, offenceIn, SearchedTo, Searched};
+ghost use Rattle.normal_form.specs.Search.{offenceOf, offenceIn, containerIn, SearchedTo, Searched, Ordinary};
 
 // An argument, by its expression number, that is not in proof normal form, or none.
 pub enum Offence {
@@ -32,7 +33,7 @@ pub enum Offence {
     ContainerPrimitiveNotSideCondition(u32),
 }
 
-// The offence that a word says.
+// The offence that half a word of the table says.
 fn read_offence(w: u32) -> Offence
     ensures { λ r. ⌜ offenceOf r ≡ offenceIn w ⌝ }
 {
@@ -45,9 +46,10 @@ fn read_offence(w: u32) -> Offence
     Offence::ContainerPrimitiveNotSideCondition(w / 2 - 1)
 }
 
-// The first offence of two words.
+// The first offence of two halves.
 fn first_of(a: u32, b: u32) -> u32
-    ensures { λ r. ⌜ offenceIn r ≡ firstOf (offenceIn a) (offenceIn b) ⌝ }
+    ensures says { λ r. ⌜ offenceIn r ≡ firstOf (offenceIn a) (offenceIn b) ⌝ }
+    ensures low { λ r. ⌜ ((n : ℕ) → a < n → b < n → r < n) ⌝ }
 {
     if a == 0 {
         return b;
@@ -120,7 +122,8 @@ pub fn variable_of(job: &[u32], e: u32) -> Looked
 fn argument_offence(job: &[u32], h: Head, j: u32) -> u32
     requires { ⌜ Ready (now job) ⌝ }
     requires { ⌜ j < sizesOf (now job) .expressions ⌝ }
-    ensures { λ r. ⌜ offenceIn r ≡ argumentOffence (programFor (now (job .entry))) (headOf h) (exprFor (now (job .entry)) j) ⌝ }
+    ensures says { λ r. ⌜ offenceIn r ≡ argumentOffence (programFor (now (job .entry))) (headOf h) (exprFor (now (job .entry)) j) ⌝ }
+    ensures low { λ r. ⌜ r < 32768 ⌝ }
 {
     let g = head_at(job, wide(j));
     let func = is_func(g);
@@ -134,19 +137,20 @@ fn argument_offence(job: &[u32], h: Head, j: u32) -> u32
     0
 }
 
-// The first offence in expression e, by the words of the expressions before it.
+// The first offence in expression e, by the words of the expressions before it: half a word.
 fn first_offence(job: &[u32], found: &[u32], e: usize) -> u32
     requires { ⌜ Ready (now job) ⌝ }
     requires { ⌜ SearchedTo (now job) e (now found) ⌝ }
     requires { ⌜ e < sizesOf (now job) .expressions ⌝ }
-    ensures { λ r. ⌜ offenceIn r ≡ offence (exprFor (now (job .entry)) e) (programFor (now (job .entry))) ⌝ }
+    ensures says { λ r. ⌜ offenceIn r ≡ offence (exprFor (now (job .entry)) e) (programFor (now (job .entry))) ⌝ }
+    ensures low { λ r. ⌜ r < 32768 ⌝ }
 {
     let h = head_at(job, e);
     let args = arguments_at(job, e);
     let mut k = 0;
     while k < args.len() {
         let j = args[k];
-        let w = first_of(argument_offence(job, h, j), found[wide(j)]);
+        let w = first_of(argument_offence(job, h, j), found[wide(j)] / 2);
         if w != 0 {
             return w;
         }
@@ -155,7 +159,27 @@ fn first_offence(job: &[u32], found: &[u32], e: usize) -> u32
     0
 }
 
-// Fills the table: for each expression the word of the first offence in it.
+// The word of an expression: twice what its first offence says, and 1 more for a call of a container's primitive.
+fn word_of(offence: u32, container: bool) -> u32
+    requires { ⌜ offence < 32768 ⌝ }
+    ensures half { λ r. ⌜ r / 2 ≡ offence ⌝ }
+    ensures calls { λ r. ⌜ containerIn r ≡ container ⌝ }
+    ensures low { λ r. ⌜ r < 65536 ⌝ }
+{
+    if container {
+        return 2 * offence + 1;
+    }
+    2 * offence
+}
+
+// A word is that of a call of a container's primitive.
+fn calls_container(w: u32) -> bool
+    ensures { λ r. ⌜ r ≡ containerIn w ⌝ }
+{
+    w % 2 == 1
+}
+
+// Fills the table: a word for each expression.
 pub fn find_offences(job: &[u32], found: &mut [u32])
     requires { ⌜ Ready (now job) ⌝ }
     requires { ⌜ sizesOf (now job) .expressions ≤ length (now found) ⌝ }
@@ -164,7 +188,8 @@ pub fn find_offences(job: &[u32], found: &mut [u32])
     let count = size(job, EXPRESSIONS);
     let mut e = 0;
     while e < count {
-        found[e] = first_offence(job, found, e);
+        let offence = first_offence(job, found, e);
+        found[e] = word_of(offence, is_container_primitive(job, e));
         e += 1;
     }
 }
@@ -178,8 +203,8 @@ fn fact_offence(job: &[u32], found: &[u32], i: usize) -> Offence
 {
     let f = fact_at(job, i);
     match f {
-        Fact::Equal(l, r) => read_offence(first_of(found[wide(l)], found[wide(r)])),
-        Fact::Bare(e) => read_offence(found[wide(e)]),
+        Fact::Equal(l, r) => read_offence(first_of(found[wide(l)] / 2, found[wide(r)] / 2)),
+        Fact::Bare(e) => read_offence(found[wide(e)] / 2),
     }
 }
 
@@ -211,18 +236,33 @@ pub fn assert_body_proof_normal_form(job: &[u32], found: &[u32], rule: u32, i: u
 }
 
 // A fact with a container primitive at the top is a side condition.
-pub fn is_container_side_condition(job: &[u32], i: usize) -> bool
+pub fn is_container_side_condition(job: &[u32], found: &[u32], i: usize) -> bool
     requires { ⌜ Ready (now job) ⌝ }
+    requires { ⌜ Searched (now job) (now found) ⌝ }
     requires { ⌜ i < sizesOf (now job) .facts ⌝ }
     ensures { λ r. ⌜ r ≡ isContainerSideCondition (programFor (now (job .entry))) (factFor (now (job .entry)) i) ⌝ }
 {
     let f = fact_at(job, i);
     match f {
         Fact::Equal(l, r) => {
-            let left = is_container_primitive(job, wide(l));
-            let right = is_container_primitive(job, wide(r));
+            let left = calls_container(found[wide(l)]);
+            let right = calls_container(found[wide(r)]);
             left | right
         }
-        Fact::Bare(e) => is_container_primitive(job, wide(e)),
+        Fact::Bare(e) => calls_container(found[wide(e)]),
+    }
+}
+
+// Fact i is in normal form and no side condition, as the words of its sides are 0.
+pub fn is_ordinary(job: &[u32], found: &[u32], i: usize) -> bool
+    requires { ⌜ Ready (now job) ⌝ }
+    requires { ⌜ Searched (now job) (now found) ⌝ }
+    requires { ⌜ i < sizesOf (now job) .facts ⌝ }
+    ensures { λ b. ⌜ (b ≡ true → Ordinary (programFor (now (job .entry))) (factFor (now (job .entry)) i)) ⌝ }
+{
+    let f = fact_at(job, i);
+    match f {
+        Fact::Equal(l, r) => (found[wide(l)] == 0) & (found[wide(r)] == 0),
+        Fact::Bare(e) => found[wide(e)] == 0,
     }
 }

@@ -280,7 +280,7 @@ fn before_premise(
             fill,
         };
     }
-    if !is_container_side_condition(job, wide(i)) {
+    if !is_container_side_condition(job, found, wide(i)) {
         return Stage {
             refusal: offence,
             settled: false,

@@ -36,7 +36,8 @@ use Rattle.turns.specs.declared.Stage.{Stage}
 use Rattle.turns.proofs.Stages.{fact-turn}
 use Rattle.turns.proofs.Tying.{sane-substitution}
 use Rattle.turns.specs.Walking.{Ground, Walks, contextOf}
-use Rattle.walk.specs.Start.{Starts, Follows, Ordinary, factNumbers, StartsFact}
+use Rattle.normal_form.specs.Search.{Ordinary}
+use Rattle.walk.specs.Start.{Starts, Follows, factNumbers, StartsFact}
 use Rattle.walk.proofs.Justifying.{height-for, height-few}
 use Rattle.turns.specs.Turning.{Turn, ofFact, ofProof, proofOf, noTurn, isSettled, followedTurns, beforeProof, afterProof, walkProof, takeTurns, endStep, endIf, finishStep, stageOf, isOver, turnsBy, headBy, bindingsBy, Planned, Plans, Advances}
 use Rattle.turns.proofs.Walking.{walks-here, walks-then, walks-stop, walks-as, walks-passed}
@@ -313,14 +314,14 @@ module _ (J : List ℕ) (strict : Bool) (F G U : List ℕ) (p : ℕ) (rule : Boo
       ordinary-turn true e P l = head-eq-of-cons-eq (sym (drop-cons (turnsBy J p true r first second count) i noTurn (let m = P .long in omega arith)) ∙ fact-turn P l refl refl)
       ordinary-turn false e P l = absurd (true≢false (sym e))
 
-      module _ (l : i < count) (o : Ordinary (programFor J) first (factFor J (getD (factNumbers J r) i 0))) where
+      module _ (l : i < count) (o : Ordinary (programFor J) (factFor J (getD (factNumbers J r) i 0))) where
         abbrev due-turn : Turn
         due-turn = getD turns i noTurn
 
         quiet-before : (room : Room) (σ : List Binding) (s : List Term) → beforeProof room (programFor J) (proofsFor J) strict first due-turn σ s ≡ ok σ s
         quiet-before room σ s =
             ap (λ (u : Turn). beforeProof room (programFor J) (proofsFor J) strict first u σ s) (ordinary-turn rule is S l)
-            ∙ ap (λ (x : Outcome (Unit {0})). andThen x (λ _. choose (isContainerSideCondition (programFor J) fact) (checkSideCondition room (programFor J) first σ strict fact) (pure σ))) (o .normal s)
+            ∙ ap (λ (x : Outcome (Unit {0})). andThen x (λ _. choose (isContainerSideCondition (programFor J) fact) (checkSideCondition room (programFor J) first σ strict fact) (pure σ))) (o .normal first s)
             ∙ ap (λ (b : Bool). choose b (checkSideCondition room (programFor J) first σ strict fact) (pure σ) s) (o .premised)
           where
             fact : Fact
@@ -350,10 +351,10 @@ module _ (J : List ℕ) (strict : Bool) (F G U : List ℕ) (p : ℕ) (rule : Boo
           ended = λ u. absurd (omega arith);
         }
 
-      pub task-fact : {s : ℕ} → StartsFact J first r count i s → Task k₀ e₀ p₀ ix₀ f₀ memo₀ W₀ k e q ix f memo W T at most i s
+      pub task-fact : {s : ℕ} → StartsFact J r count i s → Task k₀ e₀ p₀ ix₀ f₀ memo₀ W₀ k e q ix f memo W T at most i s
       task-fact {s} x = go s (x .few) (x .walks)
         where
-          go : (s : ℕ) → s ≤ 1 → (s ≡ 1 → (i < count) × Ordinary (programFor J) first (factFor J (getD (factNumbers J r) i 0))) → Task k₀ e₀ p₀ ix₀ f₀ memo₀ W₀ k e q ix f memo W T at most i s
+          go : (s : ℕ) → s ≤ 1 → (s ≡ 1 → (i < count) × Ordinary (programFor J) (factFor J (getD (factNumbers J r) i 0))) → Task k₀ e₀ p₀ ix₀ f₀ memo₀ W₀ k e q ix f memo W T at most i s
           go zero l w = t
           go (suc zero) l w = task-due (w refl .0) (w refl .1)
           go (suc (suc s)) l w = absurd (omega arith)

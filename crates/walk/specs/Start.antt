@@ -5,13 +5,10 @@ use mathlib.Core.Bool.{Bool, false}
 use mathlib.Core.List.{List}
 use lib.ListN.{getD}
 use Rattle.model.specs.Cell.{noCell}
-use Rattle.model.specs.Term.{Term}
-use Rattle.model.specs.Program.{Program, Fact}
 use Rattle.model.specs.Decode.{ruleFacts}
-use Rattle.model.specs.Check.{ok}
-use Rattle.model.specs.Fact.{assertBodyProofNormalForm, isContainerSideCondition}
 use Rattle.program.specs.Ready.{tablesFor, programFor}
 use Rattle.program.specs.Read.{factFor}
+use Rattle.normal_form.specs.Search.{Ordinary}
 
 -- 1 where its proof is walked at once, as in a step that is no rule's; else 0.
 pub record Starts (rule : Bool) (count i s : ℕ) : Type 0 where
@@ -26,16 +23,11 @@ pub record Follows (s count i r : ℕ) : Type 0 where
   pub last : (s ≡ 0 → ⊥) → i + 1 ≡ count → r ≡ i + 2
   pub more : (i + 1 ≡ count → ⊥) → r ≡ i + 1
 
--- A fact of the rule of that name that is in normal form and no side condition.
-pub record Ordinary (prog : Program) (name : ℕ) (f : Fact) : Type 0 where
-  pub premised : isContainerSideCondition prog f ≡ false
-  pub normal : (s : List Term) → assertBodyProofNormalForm prog name f s ≡ ok tt s
-
 -- The numbers of the facts of rule r.
 abbrev pub factNumbers : List ℕ → ℕ → List ℕ
 factNumbers J r = ruleFacts (getD (tablesFor J .rules) r noCell)
 
 -- In a rule's step: 1 where its fact is ordinary, so that its premise is walked at once; else 0.
-pub record StartsFact (J : List ℕ) (name r count i s : ℕ) : Type 0 where
+pub record StartsFact (J : List ℕ) (r count i s : ℕ) : Type 0 where
   pub few : s ≤ 1
-  pub walks : s ≡ 1 → (i < count) × Ordinary (programFor J) name (factFor J (getD (factNumbers J r) i 0))
+  pub walks : s ≡ 1 → (i < count) × Ordinary (programFor J) (factFor J (getD (factNumbers J r) i 0))

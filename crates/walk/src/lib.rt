@@ -4,8 +4,7 @@ use actions::push_binding;
 use cells::wide;
 use conditions::Binds;
 use index::Fill;
-use normal_form::assert_body_proof_normal_form;
-use normal_form::is_container_side_condition;
+use normal_form::is_ordinary;
 use outcome::Checked;
 use outcome::pass;
 use program::read::rule_facts_at;
@@ -27,7 +26,7 @@ ghost use Rattle.normal_form.specs.Search.{Searched};
 ghost use Rattle.actions.specs.Acting.{effectBindings};
 ghost use Rattle.conditions.specs.Bound.{boundOver};
 ghost use Rattle.turns.specs.Walking.{Ground, Walks, contextOf};
-ghost use Rattle.walk.specs.Start.{Starts, Follows, Ordinary, factNumbers, StartsFact};
+ghost use Rattle.walk.specs.Start.{Starts, Follows, factNumbers, StartsFact};
 
 // A proof's word in scratch: its height where it is checked, else 0.
 fn height_noted(scratch: &[u32], at: usize) -> u32
@@ -93,33 +92,19 @@ fn turn_after(state: usize, count: usize, i: usize) -> usize
     i + 1
 }
 
-// Fact f is in normal form and no side condition, so that nothing is done before its premise is walked.
-fn is_ordinary(job: &[u32], found: &[u32], name: u32, f: u32) -> bool
-    requires { ⌜ Ready (now job) ⌝ }
-    requires { ⌜ Searched (now job) (now found) ⌝ }
-    requires { ⌜ f < sizesOf (now job) .facts ⌝ }
-    ensures { λ b. ⌜ (b ≡ true → Ordinary (programFor (now (job .entry))) name (factFor (now (job .entry)) f)) ⌝ }
-{
-    if is_container_side_condition(job, wide(f)) {
-        return false;
-    }
-    let offence = assert_body_proof_normal_form(job, found, name, f);
-    offence.number == 0
-}
-
 // How turn i of a rule's step starts: 1 where its fact is ordinary; else 0.
-fn fact_state(job: &[u32], found: &[u32], name: u32, r: usize, count: usize, i: usize) -> usize
+fn fact_state(job: &[u32], found: &[u32], r: usize, count: usize, i: usize) -> usize
     requires { ⌜ Ready (now job) ⌝ }
     requires { ⌜ Searched (now job) (now found) ⌝ }
     requires { ⌜ r < sizesOf (now job) .rules ⌝ }
     requires { ⌜ count ≤ length (factNumbers (now job) r) ⌝ }
-    ensures { λ s. ⌜ StartsFact (now (job .entry)) name r count i s ⌝ }
+    ensures { λ s. ⌜ StartsFact (now (job .entry)) r count i s ⌝ }
 {
     if count <= i {
         return 0;
     }
     let facts = rule_facts_at(job, r);
-    if is_ordinary(job, found, name, facts[i]) {
+    if is_ordinary(job, found, wide(facts[i])) {
         return 1;
     }
     0
@@ -164,7 +149,7 @@ fn justify(
     let mut i = 0;
     let mut state = state_at(s.rule, count, i);
     if s.rule {
-        state = fact_state(job, found, s.first, s.r, count, i);
+        state = fact_state(job, found, s.r, count, i);
     }
     while i <= count {
         if state == 1 {
@@ -247,7 +232,7 @@ fn justify(
             i = turn_after(state, count, i);
             state = 0;
             if s.rule {
-                state = fact_state(job, found, s.first, s.r, count, i);
+                state = fact_state(job, found, s.r, count, i);
             }
             continue;
         }

@@ -4,7 +4,8 @@ use mathlib.Core.Bool.{_&&_}
 use Rattle.model.specs.Fact.{isFunc}
 use Rattle.decode.specs.View.{headOf}
 use Rattle.program.specs.Ready.{tablesFor, programFor}
-use Rattle.normal_form.proofs.Laws.{argument-by, says-first, says-second, says-none}
+use native.Mathlib.Omega.{arith}
+use Rattle.normal_form.proofs.Laws.{low-half, argument-by, says-first, says-second, says-none}
 use Rattle.normal_form.proofs.argument_offence.Statement.{statement}
 use Rattle.normal_form.proofs.argument_offence.Tie as tie
 
@@ -36,7 +37,8 @@ returns : tie.Need-returns
 returns c = let a = c .before .before .before .before .before .before .before .before .args in
     let prog = programFor (a .job .now) in
     let by = argument-by (tablesFor (a .job .now) .expressions) (a .j) prog (headOf (a .h)) (headOf (c .before .before .before .before .before .head-at .result)) (c .before .before .before .before .before .before .wide .ensures) (c .before .before .before .wide2 .ensures) (c .before .before .before .before .before .head-at .ensures .is) (c .before .is-primitive .ensures) (c .before .before .before .before .is-func .ensures) refl (c .before .before .is-container-primitive .ensures) in
-    says-first (a .j) _ (isFunc (headOf (a .h)) && c .before .before .is-container-primitive .result) (c .if1 .taken) ∙ by
+    let l = low-half (a .job .now) (a .j) (c .before .before .before .before .before .before .before .before .pre .0) (c .before .before .before .before .before .before .before .before .pre .1) in
+    (says-first (a .j) _ (isFunc (headOf (a .h)) && c .before .before .is-container-primitive .result) (c .if1 .taken) ∙ by, omega arith)
 
 is-func-requires-2 : tie.Need-is-func-requires-2
 is-func-requires-2 c κs = search needs
@@ -51,13 +53,14 @@ returns-2 : tie.Need-returns-2
 returns-2 c = let a = c .before .before .before .before .before .before .before .before .before .before .args in
     let prog = programFor (a .job .now) in
     let by = argument-by (tablesFor (a .job .now) .expressions) (a .j) prog (headOf (a .h)) (headOf (c .before .before .before .before .before .before .before .head-at .result)) (c .before .before .before .before .before .before .before .before .wide .ensures) (c .before .before .before .before .before .wide2 .ensures) (c .before .before .before .before .before .before .before .head-at .ensures .is) (c .before .before .before .is-primitive .ensures) (c .before .before .before .before .before .before .is-func .ensures) (c .before .is-func2 .ensures) (c .before .before .before .before .is-container-primitive .ensures) in
-    says-second (a .j) _ _ (c .before .before .if1 .left) (c .if2 .taken) ∙ by
+    let l = low-half (a .job .now) (a .j) (c .before .before .before .before .before .before .before .before .before .before .pre .0) (c .before .before .before .before .before .before .before .before .before .before .pre .1) in
+    (says-second (a .j) _ _ (c .before .before .if1 .left) (c .if2 .taken) ∙ by, omega arith)
 
 returns-3 : tie.Need-returns-3
 returns-3 c = let a = c .before .before .before .before .before .before .before .before .before .before .args in
     let prog = programFor (a .job .now) in
     let by = argument-by (tablesFor (a .job .now) .expressions) (a .j) prog (headOf (a .h)) (headOf (c .before .before .before .before .before .before .before .head-at .result)) (c .before .before .before .before .before .before .before .before .wide .ensures) (c .before .before .before .before .before .wide2 .ensures) (c .before .before .before .before .before .before .before .head-at .ensures .is) (c .before .before .before .is-primitive .ensures) (c .before .before .before .before .before .before .is-func .ensures) (c .before .is-func2 .ensures) (c .before .before .before .before .is-container-primitive .ensures) in
-    says-none (a .j) _ _ (c .before .before .if1 .left) (c .if2 .left) ∙ by
+    (says-none (a .j) _ _ (c .before .before .if1 .left) (c .if2 .left) ∙ by, omega arith)
 
 pub argument-offence-spec : {M : Type 1} → statement M
 argument-offence-spec =

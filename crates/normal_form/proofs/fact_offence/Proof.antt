@@ -55,7 +55,7 @@ read-offence-requires-2 c κs = search needs
 
 returns : tie.Need-returns
 returns c = let a = c .before .before .before .before .before .before .before .before .before .before .before .before .args in
-    c .read-offence .ensures ∙ equal-offence (a .job .now) (a .i) (c .before .before .before .before .before .before .before .before .before .fact-at .result) (c .before .before .before .before .before .before .before .before .before .fact-at .ensures) (a .found .now) (c .before .before .before .before .before .before .before .f .given .0 .0) (c .before .before .before .before .before .before .before .f .given .0 .1 .0) (c .before .before .before .before .before .wide .result) (c .before .before .before .wide2 .result) (c .before .first-of .result) (c .before .before .before .before .before .before .before .f .given .1) (c .before .before .before .before .before .before .before .before .before .before .before .before .pre .1 .0) (c .before .before .before .before .before .wide .ensures) (c .before .before .before .wide2 .ensures) (c .before .first-of .ensures)
+    c .read-offence .ensures ∙ equal-offence (a .job .now) (a .i) (c .before .before .before .before .before .before .before .before .before .fact-at .result) (c .before .before .before .before .before .before .before .before .before .fact-at .ensures) (a .found .now) (c .before .before .before .before .before .before .before .f .given .0 .0) (c .before .before .before .before .before .before .before .f .given .0 .1 .0) (c .before .before .before .before .before .wide .result) (c .before .before .before .wide2 .result) (c .before .first-of .result) (c .before .before .before .before .before .before .before .f .given .1) (c .before .before .before .before .before .before .before .before .before .before .before .before .pre .1 .0) (c .before .before .before .before .before .wide .ensures) (c .before .before .before .wide2 .ensures) (c .before .first-of .ensures .0)
 
 returns-2 : tie.Need-returns-2
 returns-2 c = let a = c .before .before .before .before .before .before .before .before .before .args in

@@ -1,10 +1,10 @@
-use mathlib.Core.Path.{_≡_, refl, subst}
+use mathlib.Core.Path.{_≡_, refl, ap, subst, _∙_}
 use native.Mathlib.Omega.{arith}
 use Prim.Native.Nat.{ℕ, _-_, _≤_}
 use lib.ListN.{length, length-set}
 use borrow.Author.Needs.{needs}
 use Rattle.model.specs.Layout.{sizesOf}
-use Rattle.normal_form.specs.Search.{SearchedTo}
+use Rattle.normal_form.specs.Search.{offenceIn, SearchedTo}
 use Rattle.normal_form.proofs.Laws.{searched-none, searched-more}
 use Rattle.normal_form.proofs.find_offences.Statement.{statement}
 use Rattle.normal_form.proofs.find_offences.Tie as tie
@@ -25,6 +25,12 @@ loop-holds c = let a = c .before .before .before .args in
 first-offence-requires : tie.Need-first-offence-requires Inv-loop μ-loop
 first-offence-requires c κs = (c .before .before .before .before .before .before .pre .0, (c .before .before .loop .inv .1, omega arith))
 
+is-container-primitive-requires : tie.Need-is-container-primitive-requires Inv-loop μ-loop
+is-container-primitive-requires c κs = (c .before .before .before .before .before .before .before .pre .0, omega arith)
+
+word-of-requires : tie.Need-word-of-requires Inv-loop μ-loop
+word-of-requires c κs = c .before .first-offence .ensures .1
+
 mul-found : tie.Need-mul-found Inv-loop μ-loop
 mul-found c = omega arith
 
@@ -38,9 +44,10 @@ loop-less : tie.Need-loop-less Inv-loop μ-loop
 loop-less c = omega arith
 
 loop-again : tie.Need-loop-again Inv-loop μ-loop
-loop-again c = let a = c .before .before .before .before .before .before .before .args in
-    let l = c .before .before .before .loop in
-    (omega arith, searched-more (a .job .now) (l .found) (l .e) (c .first-offence .result) (l .inv .1) (omega arith) (c .first-offence .ensures), simp length-set (l .inv .2))
+loop-again c = let a = c .before .before .before .before .before .before .before .before .before .args in
+    let l = c .before .before .before .before .before .loop in
+    let w = c .word-of .ensures in
+    (omega arith, searched-more (a .job .now) (l .found) (l .e) (c .word-of .result) (l .inv .1) (omega arith) (w .1 .1) (ap offenceIn (w .0) ∙ c .before .before .first-offence .ensures .0) (w .1 .0 ∙ c .before .is-container-primitive .ensures), simp length-set (l .inv .2))
 
 same-length : tie.Need-same-length Inv-loop μ-loop
 same-length c = c .before .loop .inv .2
@@ -60,6 +67,8 @@ find-offences-spec =
     size-requires
     loop-holds
     first-offence-requires
+    is-container-primitive-requires
+    word-of-requires
     mul-found
     slice-write-found
     add-e

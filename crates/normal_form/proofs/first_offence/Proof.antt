@@ -54,8 +54,10 @@ first-of-requires c κs = search needs
 returns : tie.Need-returns Inv-loop μ-loop
 returns c = let a = c .before .before .before .before .before .before .before .before .before .before .before .before .args in
     let xs = c .before .before .before .before .before .before .before .before .arguments-at .result .now in
-    let k = c .before .before .before .before .before .before .before .loop .k in
-    rest-yes (a .job .now) (headOf (c .before .before .before .before .before .before .before .before .before .head-at .result)) xs (a .found .now) (a .e) k (c .before .before .before .before .argument-offence .result) (c .before .before .before .wide .result) (c .before .first-of .result) (c .before .before .before .before .before .before .before .before .before .before .before .before .pre .1 .0) (c .before .before .before .before .before .before .loop-test .taken) (c .before .before .before .before .before .before .before .before .arguments-at .ensures .lower k (c .before .before .before .before .before .before .loop-test .taken)) (c .before .before .before .wide .ensures) (c .before .before .before .before .argument-offence .ensures) (c .before .first-of .ensures) (c .if1 .taken) ∙ c .before .before .before .before .before .before .before .loop .inv .1
+    let k = c .before .before .before .before .before .before .before .loop .k in (
+      rest-yes (a .job .now) (headOf (c .before .before .before .before .before .before .before .before .before .head-at .result)) xs (a .found .now) (a .e) k (c .before .before .before .before .argument-offence .result) (c .before .before .before .wide .result) (c .before .first-of .result) (c .before .before .before .before .before .before .before .before .before .before .before .before .pre .1 .0) (c .before .before .before .before .before .before .loop-test .taken) (c .before .before .before .before .before .before .before .before .arguments-at .ensures .lower k (c .before .before .before .before .before .before .loop-test .taken)) (c .before .before .before .wide .ensures) (c .before .before .before .before .argument-offence .ensures .0) (c .before .first-of .ensures .0) (c .if1 .taken) ∙ c .before .before .before .before .before .before .before .loop .inv .1,
+      c .before .first-of .ensures .1 32768 (c .before .before .before .before .argument-offence .ensures .1) (omega (arith, c .before .before .before .before .before .before .before .before .before .before .before .before .pre .1 .0 .low (c .before .before .before .wide .result) (omega (arith, c .before .before .before .before .before .before .before .before .arguments-at .ensures .lower k (c .before .before .before .before .before .before .loop-test .taken), c .before .before .before .wide .ensures)))),
+    )
 
 add-k : tie.Need-add-k Inv-loop μ-loop
 add-k c = omega arith
@@ -67,11 +69,11 @@ loop-again : tie.Need-loop-again Inv-loop μ-loop
 loop-again c = let a = c .before .before .before .before .before .before .before .before .before .before .before .before .args in
     let xs = c .before .before .before .before .before .before .before .before .arguments-at .result .now in
     let k = c .before .before .before .before .before .before .before .loop .k in
-    (omega arith, rest-no (a .job .now) (headOf (c .before .before .before .before .before .before .before .before .before .head-at .result)) xs (a .found .now) (a .e) k (c .before .before .before .before .argument-offence .result) (c .before .before .before .wide .result) (c .before .first-of .result) (c .before .before .before .before .before .before .before .before .before .before .before .before .pre .1 .0) (c .before .before .before .before .before .before .loop-test .taken) (c .before .before .before .before .before .before .before .before .arguments-at .ensures .lower k (c .before .before .before .before .before .before .loop-test .taken)) (c .before .before .before .wide .ensures) (c .before .before .before .before .argument-offence .ensures) (c .before .first-of .ensures) (c .if1 .left) ∙ c .before .before .before .before .before .before .before .loop .inv .1)
+    (omega arith, rest-no (a .job .now) (headOf (c .before .before .before .before .before .before .before .before .before .head-at .result)) xs (a .found .now) (a .e) k (c .before .before .before .before .argument-offence .result) (c .before .before .before .wide .result) (c .before .first-of .result) (c .before .before .before .before .before .before .before .before .before .before .before .before .pre .1 .0) (c .before .before .before .before .before .before .loop-test .taken) (c .before .before .before .before .before .before .before .before .arguments-at .ensures .lower k (c .before .before .before .before .before .before .loop-test .taken)) (c .before .before .before .wide .ensures) (c .before .before .before .before .argument-offence .ensures .0) (c .before .first-of .ensures .0) (c .if1 .left) ∙ c .before .before .before .before .before .before .before .loop .inv .1)
 
 returns-2 : tie.Need-returns-2 Inv-loop μ-loop
 returns-2 c = let a = c .before .before .before .before .before .before .args in
-    rest-none (a .job .now) (headOf (c .before .before .before .head-at .result)) (c .before .before .arguments-at .result .now) (c .before .loop .k) (c .loop-test .left) ∙ c .before .loop .inv .1
+    (rest-none (a .job .now) (headOf (c .before .before .before .head-at .result)) (c .before .before .arguments-at .result .now) (c .before .loop .k) (c .loop-test .left) ∙ c .before .loop .inv .1, omega arith)
 
 pub first-offence-spec : {M : Type 1} → statement M
 first-offence-spec =

@@ -5,7 +5,7 @@ use native.Mathlib.Omega.{arith}
 use lib.ListN.{length, getD}
 use Rattle.program.specs.Ready.{programFor}
 use Rattle.program.specs.Read.{factFor}
-use Rattle.walk.specs.Start.{Ordinary}
+use Rattle.normal_form.specs.Search.{Ordinary}
 use borrow.Author.Needs.{needs}
 use Rattle.walk.proofs.fact_state.Statement.{statement}
 use Rattle.walk.proofs.fact_state.Tie as tie
