@@ -28,7 +28,7 @@ wide-requires : tie.Need-wide-requires
 wide-requires c κs = search needs
 
 is-container-side-condition-requires : tie.Need-is-container-side-condition-requires
-is-container-side-condition-requires c κs = let pre = c .before .before .before .before .before .before .before .before .before .before .before .before .before .before .pre in let w = c .wide .ensures in let h = pre .1 .1 .1 .1 .1 .0 in (pre .0, omega arith)
+is-container-side-condition-requires c κs = let pre = c .before .before .before .before .before .before .before .before .before .before .before .before .before .before .pre in let w = c .wide .ensures in let h = pre .1 .1 .1 .1 .1 .0 in (pre .0, (pre .1 .0, omega arith))
 
 returns-2 : tie.Need-returns-2
 returns-2 c = let a = c .before .before .before .before .before .before .before .before .before .before .before .before .before .before .before .before .args in let pre = c .before .before .before .before .before .before .before .before .before .before .before .before .before .before .before .before .pre in let b = sym (c .before .is-container-side-condition .ensures ∙ ap (λ (i : ℕ). isContainerSideCondition (programFor (a .job .now)) (factFor (a .job .now) i)) (c .before .before .wide .ensures)) ∙ not-true _ (c .if2 .taken) in (checks-here (pre .1 .1 .0) (pre .1 .1 .1 .1 .0) (before-waits (roomOf (a .skinds .now) (a .spool .now)) (programFor (a .job .now)) (proofsFor (a .job .now)) (a .strict) (a .name) (factFor (a .job .now) (a .i)) 0 (bindingsIn (a .bound .now) (a .pairs .now) (a .globals .now)) (termsIn (a .skinds .now) (a .sends .now) (a .spool .now) (a .fill)) (c .before .before .before .before .before .assert-body-proof-normal-form .result) (c .before .before .before .before .before .assert-body-proof-normal-form .ensures) (c .before .before .before .if1 .left) b), (λ _. sym b, (λ _. (extends-same, pre .1 .1 .1 .1 .1 .1), λ _. refl)))
