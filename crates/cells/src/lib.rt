@@ -1,4 +1,4 @@
-// A table of cells in three arrays of words: reading a cell, comparing, and adding one. Nothing above speaks of ends and offsets.
+// A table of cells in three arrays of words: reading a cell, comparing, and adding one. Above, only loading and the search for a name speak of ends.
 ghost use mathlib.Core.Path.{_≡_};
 ghost use mathlib.Core.Bool.{true, false};
 ghost use Prim.Native.Nat.{_+_, _-_, _≤_, _<_};

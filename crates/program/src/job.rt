@@ -1,4 +1,4 @@
-// The words of an admitted job: its tables, and their cells. Nothing behind loading but this knows where they stand.
+// The words of an admitted job: its tables, and their cells. Behind loading this alone knows where they stand.
 use cells::Fill;
 use cells::wide;
 use cells::words;
@@ -79,6 +79,15 @@ fn fill(job: &[u32]) -> Fill
     }
 }
 
+// The number of all cells.
+pub fn cell_count(job: &[u32]) -> usize
+    requires { ⌜ Held (now job) ⌝ }
+    ensures { λ r. ⌜ r ≡ cellCount (sizesOf (now (job .entry))) ⌝ }
+{
+    let f = fill(job);
+    f.cells
+}
+
 // The number of the first cell of a table, counted from the end of all cells.
 fn first_behind(job: &[u32], table: usize) -> usize
     requires { ⌜ Held (now job) ⌝ }
@@ -118,7 +127,7 @@ fn kinds(job: &[u32], count: usize) -> &[u32]
 }
 
 // The ends of all cells.
-fn ends(job: &[u32], count: usize) -> &[u32]
+pub fn ends(job: &[u32], count: usize) -> &[u32]
     requires { ⌜ Held (now job) ⌝ }
     requires { ⌜ count ≡ cellCount (sizesOf (now job)) ⌝ }
     ensures { λ r. ⌜ now r ≡ endsOf (now (job .entry)) ⌝ }
@@ -129,7 +138,7 @@ fn ends(job: &[u32], count: usize) -> &[u32]
 }
 
 // The pool.
-fn pool(job: &[u32], count: usize) -> &[u32]
+pub fn pool(job: &[u32], count: usize) -> &[u32]
     requires { ⌜ Held (now job) ⌝ }
     requires { ⌜ count ≡ cellCount (sizesOf (now job)) ⌝ }
     ensures { λ r. ⌜ now r ≡ poolOf (now (job .entry)) ⌝ }

@@ -7,9 +7,12 @@ use crate::job::NORMALISERS;
 use crate::job::PRIMITIVES;
 use crate::job::ROWS;
 use crate::job::RULES;
+use crate::job::cell_count;
 use crate::job::cell_words;
+use crate::job::ends;
 use crate::job::first;
 use crate::job::kind_at;
+use crate::job::pool;
 use crate::job::size;
 use crate::job::words_at;
 use cell_tests::words::at;
@@ -64,7 +67,7 @@ pub fn lookup_pairs(ws: &[u32], name: u32) -> Looked
     Looked::None
 }
 
-// Of the first `count` cells of a table, the place of the first of that name.
+// Of the first `count` cells of a table, the place of the first of that name. The end of one cell is the start of the next.
 fn first_named(job: &[u32], table: usize, count: usize, name: u32) -> Found
     requires { ⌜ Held (now job) ⌝ }
     requires { ⌜ table < 10 ⌝ }
@@ -72,11 +75,17 @@ fn first_named(job: &[u32], table: usize, count: usize, name: u32) -> Found
     ensures { λ r. ⌜ FindsCell (take count (tableFor (now (job .entry)) table)) count name r ⌝ }
 {
     let start = first(job, table);
+    let n = cell_count(job);
+    let all_ends = ends(job, n);
+    let all_words = pool(job, n);
+    let mut from = cells::start(all_ends, start);
     let mut i = 0;
     while i < count {
-        if at(cell_words(job, start + i), 0) == name {
+        let to = wide(all_ends[start + i]);
+        if at(&all_words[from..to], 0) == name {
             return Found::At(i);
         }
+        from = to;
         i += 1;
     }
     Found::Nothing

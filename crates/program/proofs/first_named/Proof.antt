@@ -1,53 +1,89 @@
-use mathlib.Core.Path.{_≡_, refl, sym, ap, _∙_}
+use mathlib.Core.Path.{_≡_, refl, sym, _∙_}
 use mathlib.Core.List.{map}
-use Prim.Native.Nat.{_-_, _≤_}
+use Prim.Native.Nat.{_+_, _-_, _≤_}
 use native.Mathlib.Omega.{arith}
 use lib.Dec.{eqb}
-use lib.ListN.{getD, take, drop}
-use lib.Seq.{getD-take}
+use lib.ListN.{length, take, drop}
 use borrow.Author.Needs.{needs}
 use borrow.Author.Tests.{eq-eqb, ne-eqb}
-use Rattle.model.specs.Cell.{Cell, noCell}
+use Rattle.model.specs.Cell.{startOf}
+use Rattle.model.specs.Layout.{endsOf}
 use Rattle.model.specs.Decode.{word}
 use Rattle.load.specs.Held.{firstFound}
 use Rattle.program.specs.Ready.{tableFor, firstNamed}
-use Rattle.program.proofs.Words.{inside, cell-in}
+use Rattle.program.proofs.Words.{inside-from, name-in, first-end, has-end, span-first, span-within, span-words, span-next}
 use Rattle.program.proofs.Laws.{mark-yes, mark-no, mark-end, at-within, none-within, front-long}
 use Rattle.program.proofs.first_named.Statement.{statement}
 use Rattle.program.proofs.first_named.Tie as tie
 
 abbrev Inv-loop : tie.InvT-loop
-Inv-loop job table count name start i₀ i = (i ≤ count) × (firstNamed (take count (tableFor job table)) name
+Inv-loop job table count name start n all-ends all-words from₀ i₀ from i = (i ≤ count) × (from ≡ startOf (endsOf job) (start + i)) × (firstNamed (take count (tableFor job table)) name
     ≡ firstFound i (map (λ c. eqb (word c 0) name) (drop i (take count (tableFor job table)))))
 
 abbrev μ-loop : tie.MeasureT-loop
-μ-loop job table count name start i₀ i = count - i
+μ-loop job table count name start n all-ends all-words from₀ i₀ from i = count - i
 
 first-requires : tie.Need-first-requires Inv-loop μ-loop
 first-requires c κs = search needs
 
+cell-count-requires : tie.Need-cell-count-requires Inv-loop μ-loop
+cell-count-requires c κs = search needs
+
+ends-requires : tie.Need-ends-requires Inv-loop μ-loop
+ends-requires c κs = search needs
+
+pool-requires : tie.Need-pool-requires Inv-loop μ-loop
+pool-requires c κs = search needs
+
+start-requires : tie.Need-start-requires Inv-loop μ-loop
+start-requires c κs = first-end (c .before .before .before .before .before .pre .0) (c .before .ends .ensures) (c .before .before .before .before .before .args .table) (c .before .before .before .before .before .pre .1 .0) (c .before .before .before .first .ensures)
+
 loop-holds : tie.Need-loop-holds Inv-loop μ-loop
-loop-holds c = (omega arith, refl)
+loop-holds c = (omega arith, span-first (c .before .before .before .before .before .before .args .job .now) (c .before .before .ends .ensures) _ (c .start .ensures), refl)
 
-add-cell-words : tie.Need-add-cell-words Inv-loop μ-loop
-add-cell-words c = omega (arith, inside (c .before .before .before .before .args .job .now) (c .before .before .before .before .args .table) (c .before .before .before .before .pre .1 .0) (c .before .loop .i) (omega arith), c .before .before .first .ensures, c .before .before .before .before .pre .0 .long)
+add-wide : tie.Need-add-wide Inv-loop μ-loop
+add-wide c = omega (arith, inside-from (c .before .before .before .before .before .before .before .before .args .job .now) (c .before .before .before .before .before .before .before .before .args .table) (c .before .before .before .before .before .before .before .before .pre .1 .0) (c .before .loop .i) (omega arith) (c .before .before .before .before .before .before .first .ensures), c .before .before .before .before .before .before .before .before .pre .0 .long)
 
-cell-words-requires : tie.Need-cell-words-requires Inv-loop μ-loop
-cell-words-requires c κs = (c .before .before .before .before .pre .0, omega (arith, inside (c .before .before .before .before .args .job .now) (c .before .before .before .before .args .table) (c .before .before .before .before .pre .1 .0) (c .before .loop .i) (omega arith), c .before .before .first .ensures))
+mul-wide : tie.Need-mul-wide Inv-loop μ-loop
+mul-wide c = omega (arith, inside-from (c .before .before .before .before .before .before .before .before .args .job .now) (c .before .before .before .before .before .before .before .before .args .table) (c .before .before .before .before .before .before .before .before .pre .1 .0) (c .before .loop .i) (omega arith) (c .before .before .before .before .before .before .first .ensures), c .before .before .before .before .before .before .before .before .pre .0 .long)
+
+shared-slice-read-wide : tie.Need-shared-slice-read-wide Inv-loop μ-loop
+shared-slice-read-wide c = has-end (c .before .before .before .before .before .before .before .before .before .pre .0) (c .before .before .before .before .before .before .before .first .result + c .before .before .loop .i) (inside-from (c .before .before .before .before .before .before .before .before .before .args .job .now) (c .before .before .before .before .before .before .before .before .before .args .table) (c .before .before .before .before .before .before .before .before .before .pre .1 .0) (c .before .before .loop .i) (omega arith) (c .before .before .before .before .before .before .before .first .ensures)) (c .before .before .before .before .before .ends .ensures)
+
+wide-requires : tie.Need-wide-requires Inv-loop μ-loop
+wide-requires c κs = search needs
+
+-- the words of cell i lie in the pool
+span-of : (c : tie.After-wide Inv-loop μ-loop) → (c .before .before .before .loop .from ≤ c .wide .result) × (c .wide .result ≤ length (c .before .before .before .before .before .pool .result .now))
+span-of c = let i = inside-from (c .before .before .before .before .before .before .before .before .before .before .args .job .now) (c .before .before .before .before .before .before .before .before .before .before .args .table) (c .before .before .before .before .before .before .before .before .before .before .pre .1 .0) (c .before .before .before .loop .i) (omega arith) (c .before .before .before .before .before .before .before .before .first .ensures) in
+    span-within (c .before .before .before .before .before .before .before .before .before .before .pre .0) (c .before .before .before .before .before .before .before .before .first .result + c .before .before .before .loop .i) i (c .before .before .before .before .before .before .ends .ensures) (c .before .before .before .loop .inv .1) (c .wide .ensures) (c .before .before .before .before .before .pool .ensures)
+
+mul-at : tie.Need-mul-at Inv-loop μ-loop
+mul-at c = omega (arith, span-of c)
+
+sub-at : tie.Need-sub-at Inv-loop μ-loop
+sub-at c = omega (arith, span-of c)
+
+part-at-start : tie.Need-part-at-start Inv-loop μ-loop
+part-at-start c = omega (arith, span-of c)
+
+part-at-end : tie.Need-part-at-end Inv-loop μ-loop
+part-at-end c = omega (arith, span-of c)
 
 at-requires : tie.Need-at-requires Inv-loop μ-loop
 at-requires c κs = search needs
 
 returns : tie.Need-returns Inv-loop μ-loop
-returns c = let a = c .before .before .before .before .before .before .before .args in
+returns c = let a = c .before .before .before .before .before .before .before .before .before .before .before .before .before .args in
     let J = a .job .now in
-    let l = c .before .before .before .before .loop in
+    let l = c .before .before .before .before .before .before .loop in
+    let k = c .before .before .before .before .before .before .before .before .before .before .before .first .result + l .i in
     let t = take (a .count) (tableFor J (a .table)) in
-    let long = front-long J (a .table) (c .before .before .before .before .before .before .before .pre .1 .0) (a .count) (c .before .before .before .before .before .before .before .pre .1 .1) in
-    let there = cell-in J (a .table) (c .before .before .before .before .before .before .before .pre .1 .0) (l .i) (omega arith) (c .before .before .before .before .before .first .ensures) ∙ sym (getD-take (a .count) (tableFor J (a .table)) (l .i) noCell (omega arith)) in
-    let name : c .before .at .result ≡ word (getD t (l .i) noCell) 0 = c .before .at .ensures ∙ ap (λ us. getD us 0 0) (c .before .before .cell-words .ensures) ∙ ap (λ (x : Cell). word x 0) there in
+    let long = front-long J (a .table) (c .before .before .before .before .before .before .before .before .before .before .before .before .before .pre .1 .0) (a .count) (c .before .before .before .before .before .before .before .before .before .before .before .before .before .pre .1 .1) in
+    let i = inside-from J (a .table) (c .before .before .before .before .before .before .before .before .before .before .before .before .before .pre .1 .0) (l .i) (omega arith) (c .before .before .before .before .before .before .before .before .before .before .before .first .ensures) in
+    let name = name-in J (a .table) (c .before .before .before .before .before .before .before .before .before .before .before .before .before .pre .1 .0) (l .i) (omega arith) {n = a .count} (omega arith) (c .before .before .before .before .before .before .before .before .before .before .before .first .ensures) (span-words (c .before .before .before .before .before .before .before .before .before .before .before .before .before .pre .0) k i (c .before .before .before .before .before .before .before .before .before .ends .ensures) (l .inv .1) (c .before .before .before .wide .ensures) (c .before .before .before .before .before .before .before .before .pool .ensures)) (c .before .at .ensures) in
     record {
-      is = mark-yes (λ x. eqb (word x 0) (a .name)) t (l .i) (omega arith) (eq-eqb _ (a .name) (sym name ∙ c .if1 .taken)) ∙ sym (l .inv .1);
+      is = mark-yes (λ x. eqb (word x 0) (a .name)) t (l .i) (omega arith) (eq-eqb _ (a .name) (sym name ∙ c .if1 .taken)) ∙ sym (l .inv .2);
       within = λ j. at-within (omega arith);
     }
 
@@ -58,23 +94,27 @@ loop-less : tie.Need-loop-less Inv-loop μ-loop
 loop-less c = omega arith
 
 loop-again : tie.Need-loop-again Inv-loop μ-loop
-loop-again c = let a = c .before .before .before .before .before .before .before .args in
+loop-again c = let a = c .before .before .before .before .before .before .before .before .before .before .before .before .before .args in
     let J = a .job .now in
-    let l = c .before .before .before .before .loop in
+    let l = c .before .before .before .before .before .before .loop in
+    let k = c .before .before .before .before .before .before .before .before .before .before .before .first .result + l .i in
     let t = take (a .count) (tableFor J (a .table)) in
-    let long = front-long J (a .table) (c .before .before .before .before .before .before .before .pre .1 .0) (a .count) (c .before .before .before .before .before .before .before .pre .1 .1) in
-    let there = cell-in J (a .table) (c .before .before .before .before .before .before .before .pre .1 .0) (l .i) (omega arith) (c .before .before .before .before .before .first .ensures) ∙ sym (getD-take (a .count) (tableFor J (a .table)) (l .i) noCell (omega arith)) in
-    let name : c .before .at .result ≡ word (getD t (l .i) noCell) 0 = c .before .at .ensures ∙ ap (λ us. getD us 0 0) (c .before .before .cell-words .ensures) ∙ ap (λ (x : Cell). word x 0) there in
-    (omega arith, l .inv .1 ∙ mark-no (λ x. eqb (word x 0) (a .name)) t (l .i) (omega arith) (ne-eqb _ (a .name) (λ e. c .if1 .left (name ∙ e))))
+    let long = front-long J (a .table) (c .before .before .before .before .before .before .before .before .before .before .before .before .before .pre .1 .0) (a .count) (c .before .before .before .before .before .before .before .before .before .before .before .before .before .pre .1 .1) in
+    let i = inside-from J (a .table) (c .before .before .before .before .before .before .before .before .before .before .before .before .before .pre .1 .0) (l .i) (omega arith) (c .before .before .before .before .before .before .before .before .before .before .before .first .ensures) in
+    let name = name-in J (a .table) (c .before .before .before .before .before .before .before .before .before .before .before .before .before .pre .1 .0) (l .i) (omega arith) {n = a .count} (omega arith) (c .before .before .before .before .before .before .before .before .before .before .before .first .ensures) (span-words (c .before .before .before .before .before .before .before .before .before .before .before .before .before .pre .0) k i (c .before .before .before .before .before .before .before .before .before .ends .ensures) (l .inv .1) (c .before .before .before .wide .ensures) (c .before .before .before .before .before .before .before .before .pool .ensures)) (c .before .at .ensures) in (
+      omega arith,
+      span-next (c .before .before .before .before .before .before .before .before .before .before .before .before .before .pre .0) k i (c .before .before .before .before .before .before .before .before .before .ends .ensures) (l .inv .1) (c .before .before .before .wide .ensures) (omega arith),
+      l .inv .2 ∙ mark-no (λ x. eqb (word x 0) (a .name)) t (l .i) (omega arith) (ne-eqb _ (a .name) (λ e. c .if1 .left (name ∙ e))),
+    )
 
 returns-2 : tie.Need-returns-2 Inv-loop μ-loop
-returns-2 c = let a = c .before .before .before .before .args in
+returns-2 c = let a = c .before .before .before .before .before .before .before .before .args in
     let J = a .job .now in
     let l = c .before .loop in
     let t = take (a .count) (tableFor J (a .table)) in
-    let long = front-long J (a .table) (c .before .before .before .before .pre .1 .0) (a .count) (c .before .before .before .before .pre .1 .1) in
+    let long = front-long J (a .table) (c .before .before .before .before .before .before .before .before .pre .1 .0) (a .count) (c .before .before .before .before .before .before .before .before .pre .1 .1) in
     record {
-      is = mark-end (λ x. eqb (word x 0) (a .name)) t (l .i) (omega arith) ∙ sym (l .inv .1);
+      is = mark-end (λ x. eqb (word x 0) (a .name)) t (l .i) (omega arith) ∙ sym (l .inv .2);
       within = λ j. none-within;
     }
 
@@ -85,9 +125,19 @@ first-named-spec =
     Inv-loop
     μ-loop
     first-requires
+    cell-count-requires
+    ends-requires
+    pool-requires
+    start-requires
     loop-holds
-    add-cell-words
-    cell-words-requires
+    add-wide
+    mul-wide
+    shared-slice-read-wide
+    wide-requires
+    mul-at
+    sub-at
+    part-at-start
+    part-at-end
     at-requires
     returns
     add-i
