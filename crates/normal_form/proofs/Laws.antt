@@ -116,6 +116,10 @@ says-second j a b e f = second-kind j ∙ ap₂ (λ (x y : Bool). firstOf (offen
 pub says-none : (j : ℕ) (a b : Bool) → a ≡ false → b ≡ false → offenceIn 0 ≡ firstOf (offenceIf a (primitiveNonNormalArg j)) (offenceIf b (containerPrimitiveNotSideCondition j))
 says-none j a b e f = sym word-none ∙ ap₂ (λ (x y : Bool). firstOf (offenceIf x (primitiveNonNormalArg j)) (offenceIf y (containerPrimitiveNotSideCondition j))) (sym e) (sym f)
 
+-- the word of an expression is in the table
+pub word-read : {J F : List ℕ} {e n : ℕ} → Searched J F → e < sizesOf J .expressions → n ≡ e → n < length F
+word-read S l q = omega (arith, S .long, l, q)
+
 -- a word that is 0
 zero-half : {w : ℕ} → w ≡ 0 → 0 ≡ w / 2
 zero-half e = ap (λ (n : ℕ). n / 2) (sym e)
@@ -192,16 +196,6 @@ module _ (J : List ℕ) where
   module _ (i : ℕ) (f : FactView) (A : FactAt J i f) where
     fact-is : (g : FactView) → f ≡ g → factOf (exprFor J) i g ≡ factFor J i
     fact-is g q = fact-by A refl q
-
-    -- the words of its sides
-    pub left-read : (F : List ℕ) (l r n : ℕ) → f ≡ FactView.Equal l r → Searched J F → n ≡ l → n < length F
-    left-read F l r n q S en = omega (arith, A .equal l r q .0, S .long, en)
-
-    pub right-read : (F : List ℕ) (l r n : ℕ) → f ≡ FactView.Equal l r → Searched J F → n ≡ r → n < length F
-    right-read F l r n q S en = omega (arith, A .equal l r q .1, S .long, en)
-
-    pub bare-read : (F : List ℕ) (e n : ℕ) → f ≡ FactView.Bare e → Searched J F → n ≡ e → n < length F
-    bare-read F e n q S en = omega (arith, A .bare e q, S .long, en)
 
     pub equal-offence : (F : List ℕ) (l r n m w : ℕ) → f ≡ FactView.Equal l r → Searched J F → n ≡ l → m ≡ r
         → offenceIn w ≡ firstOf (offenceIn (getD F n 0 / 2)) (offenceIn (getD F m 0 / 2)) → offenceIn w ≡ factOffence (programFor J) (factFor J i)

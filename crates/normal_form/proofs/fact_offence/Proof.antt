@@ -1,7 +1,6 @@
 use borrow.Author.Needs.{needs}
 use mathlib.Core.Path.{_∙_}
-use native.Mathlib.Omega.{arith}
-use Rattle.normal_form.proofs.Laws.{equal-offence, bare-offence}
+use Rattle.normal_form.proofs.Laws.{word-read, equal-offence, bare-offence}
 use Rattle.normal_form.proofs.fact_offence.Statement.{statement}
 use Rattle.normal_form.proofs.fact_offence.Tie as tie
 
@@ -18,8 +17,7 @@ mul-first-of : tie.Need-mul-first-of
 mul-first-of c = search needs
 
 shared-slice-read-first-of : tie.Need-shared-slice-read-first-of
-shared-slice-read-first-of c = let b = c .before .before .before .before .before .fact-at .ensures .equal (c .before .before .before .f .given .0 .0) (c .before .before .before .f .given .0 .1 .0) (c .before .before .before .f .given .1) in
-    omega (arith, b .0, c .before .wide .ensures, c .before .before .before .before .before .before .before .before .pre .1 .0 .long)
+shared-slice-read-first-of c = word-read (c .before .before .before .before .before .before .before .before .pre .1 .0) (c .before .before .before .before .before .fact-at .ensures .equal (c .before .before .before .f .given .0 .0) (c .before .before .before .f .given .0 .1 .0) (c .before .before .before .f .given .1) .0) (c .before .wide .ensures)
 
 wide-requires-2 : tie.Need-wide-requires-2
 wide-requires-2 c κs = search needs
@@ -28,8 +26,7 @@ mul-first-of-2 : tie.Need-mul-first-of-2
 mul-first-of-2 c = search needs
 
 shared-slice-read-first-of-2 : tie.Need-shared-slice-read-first-of-2
-shared-slice-read-first-of-2 c = let b = c .before .before .before .before .before .before .before .fact-at .ensures .equal (c .before .before .before .before .before .f .given .0 .0) (c .before .before .before .before .before .f .given .0 .1 .0) (c .before .before .before .before .before .f .given .1) in
-    omega (arith, b .1, c .before .wide2 .ensures, c .before .before .before .before .before .before .before .before .before .before .pre .1 .0 .long)
+shared-slice-read-first-of-2 c = word-read (c .before .before .before .before .before .before .before .before .before .before .pre .1 .0) (c .before .before .before .before .before .before .before .fact-at .ensures .equal (c .before .before .before .before .before .f .given .0 .0) (c .before .before .before .before .before .f .given .0 .1 .0) (c .before .before .before .before .before .f .given .1) .1) (c .before .wide2 .ensures)
 
 first-of-requires : tie.Need-first-of-requires
 first-of-requires c κs = search needs
@@ -47,8 +44,7 @@ mul-read-offence : tie.Need-mul-read-offence
 mul-read-offence c = search needs
 
 shared-slice-read-read-offence : tie.Need-shared-slice-read-read-offence
-shared-slice-read-read-offence c = let b = c .before .before .before .before .before .fact-at .ensures .bare (c .before .before .before .f2 .given .0 .0) (c .before .before .before .f2 .given .1) in
-    omega (arith, b, c .before .wide3 .ensures, c .before .before .before .before .before .before .before .before .pre .1 .0 .long)
+shared-slice-read-read-offence c = word-read (c .before .before .before .before .before .before .before .before .pre .1 .0) (c .before .before .before .before .before .fact-at .ensures .bare (c .before .before .before .f2 .given .0 .0) (c .before .before .before .f2 .given .1)) (c .before .wide3 .ensures)
 
 read-offence-requires-2 : tie.Need-read-offence-requires-2
 read-offence-requires-2 c κs = search needs

@@ -1,5 +1,5 @@
 use borrow.Author.Needs.{needs}
-use Rattle.normal_form.proofs.Laws.{left-read, right-read, bare-read, equal-side, bare-side}
+use Rattle.normal_form.proofs.Laws.{word-read, equal-side, bare-side}
 use Rattle.normal_form.proofs.is_container_side_condition.Statement.{statement}
 use Rattle.normal_form.proofs.is_container_side_condition.Tie as tie
 
@@ -16,8 +16,7 @@ mul-calls-container : tie.Need-mul-calls-container
 mul-calls-container c = search needs
 
 shared-slice-read-calls-container : tie.Need-shared-slice-read-calls-container
-shared-slice-read-calls-container c = let a = c .before .before .before .before .before .before .before .before .args in
-    left-read (a .job .now) (a .i) (c .before .before .before .before .before .fact-at .result) (c .before .before .before .before .before .fact-at .ensures) (a .found .now) (c .before .before .before .f .given .0 .0) (c .before .before .before .f .given .0 .1 .0) (c .before .wide .result) (c .before .before .before .f .given .1) (c .before .before .before .before .before .before .before .before .pre .1 .0) (c .before .wide .ensures)
+shared-slice-read-calls-container c = word-read (c .before .before .before .before .before .before .before .before .pre .1 .0) (c .before .before .before .before .before .fact-at .ensures .equal (c .before .before .before .f .given .0 .0) (c .before .before .before .f .given .0 .1 .0) (c .before .before .before .f .given .1) .0) (c .before .wide .ensures)
 
 calls-container-requires : tie.Need-calls-container-requires
 calls-container-requires c κs = search needs
@@ -29,8 +28,7 @@ mul-calls-container-2 : tie.Need-mul-calls-container-2
 mul-calls-container-2 c = search needs
 
 shared-slice-read-calls-container-2 : tie.Need-shared-slice-read-calls-container-2
-shared-slice-read-calls-container-2 c = let a = c .before .before .before .before .before .before .before .before .before .before .before .args in
-    right-read (a .job .now) (a .i) (c .before .before .before .before .before .before .before .before .fact-at .result) (c .before .before .before .before .before .before .before .before .fact-at .ensures) (a .found .now) (c .before .before .before .before .before .before .f .given .0 .0) (c .before .before .before .before .before .before .f .given .0 .1 .0) (c .before .wide2 .result) (c .before .before .before .before .before .before .f .given .1) (c .before .before .before .before .before .before .before .before .before .before .before .pre .1 .0) (c .before .wide2 .ensures)
+shared-slice-read-calls-container-2 c = word-read (c .before .before .before .before .before .before .before .before .before .before .before .pre .1 .0) (c .before .before .before .before .before .before .before .before .fact-at .ensures .equal (c .before .before .before .before .before .before .f .given .0 .0) (c .before .before .before .before .before .before .f .given .0 .1 .0) (c .before .before .before .before .before .before .f .given .1) .1) (c .before .wide2 .ensures)
 
 calls-container-requires-2 : tie.Need-calls-container-requires-2
 calls-container-requires-2 c κs = search needs
@@ -45,8 +43,7 @@ mul-calls-container-3 : tie.Need-mul-calls-container-3
 mul-calls-container-3 c = search needs
 
 shared-slice-read-calls-container-3 : tie.Need-shared-slice-read-calls-container-3
-shared-slice-read-calls-container-3 c = let a = c .before .before .before .before .before .before .before .before .args in
-    bare-read (a .job .now) (a .i) (c .before .before .before .before .before .fact-at .result) (c .before .before .before .before .before .fact-at .ensures) (a .found .now) (c .before .before .before .f2 .given .0 .0) (c .before .wide3 .result) (c .before .before .before .f2 .given .1) (c .before .before .before .before .before .before .before .before .pre .1 .0) (c .before .wide3 .ensures)
+shared-slice-read-calls-container-3 c = word-read (c .before .before .before .before .before .before .before .before .pre .1 .0) (c .before .before .before .before .before .fact-at .ensures .bare (c .before .before .before .f2 .given .0 .0) (c .before .before .before .f2 .given .1)) (c .before .wide3 .ensures)
 
 calls-container-requires-3 : tie.Need-calls-container-requires-3
 calls-container-requires-3 c κs = search needs

@@ -3,7 +3,7 @@ use lib.ListN.{getD}
 use borrow.Author.Needs.{needs}
 use borrow.Author.Tests.{eqb-true}
 use Rattle.model.proofs.Tests.{and-left, and-right}
-use Rattle.normal_form.proofs.Laws.{left-read, right-read, bare-read, equal-ordinary, bare-ordinary}
+use Rattle.normal_form.proofs.Laws.{word-read, equal-ordinary, bare-ordinary}
 use Rattle.normal_form.proofs.is_ordinary.Statement.{statement}
 use Rattle.normal_form.proofs.is_ordinary.Tie as tie
 
@@ -20,8 +20,7 @@ mul-result : tie.Need-mul-result
 mul-result c = search needs
 
 shared-slice-read-result : tie.Need-shared-slice-read-result
-shared-slice-read-result c = let a = c .before .before .before .before .before .before .before .before .args in
-    left-read (a .job .now) (a .i) (c .before .before .before .before .before .fact-at .result) (c .before .before .before .before .before .fact-at .ensures) (a .found .now) (c .before .before .before .f .given .0 .0) (c .before .before .before .f .given .0 .1 .0) (c .before .wide .result) (c .before .before .before .f .given .1) (c .before .before .before .before .before .before .before .before .pre .1 .0) (c .before .wide .ensures)
+shared-slice-read-result c = word-read (c .before .before .before .before .before .before .before .before .pre .1 .0) (c .before .before .before .before .before .fact-at .ensures .equal (c .before .before .before .f .given .0 .0) (c .before .before .before .f .given .0 .1 .0) (c .before .before .before .f .given .1) .0) (c .before .wide .ensures)
 
 wide-requires-2 : tie.Need-wide-requires-2
 wide-requires-2 c κs = search needs
@@ -30,8 +29,7 @@ mul-result-2 : tie.Need-mul-result-2
 mul-result-2 c = search needs
 
 shared-slice-read-result-2 : tie.Need-shared-slice-read-result-2
-shared-slice-read-result-2 c = let a = c .before .before .before .before .before .before .before .before .before .before .args in
-    right-read (a .job .now) (a .i) (c .before .before .before .before .before .before .before .fact-at .result) (c .before .before .before .before .before .before .before .fact-at .ensures) (a .found .now) (c .before .before .before .before .before .f .given .0 .0) (c .before .before .before .before .before .f .given .0 .1 .0) (c .before .wide2 .result) (c .before .before .before .before .before .f .given .1) (c .before .before .before .before .before .before .before .before .before .before .pre .1 .0) (c .before .wide2 .ensures)
+shared-slice-read-result-2 c = word-read (c .before .before .before .before .before .before .before .before .before .before .pre .1 .0) (c .before .before .before .before .before .before .before .fact-at .ensures .equal (c .before .before .before .before .before .f .given .0 .0) (c .before .before .before .before .before .f .given .0 .1 .0) (c .before .before .before .before .before .f .given .1) .1) (c .before .wide2 .ensures)
 
 enum-known-f-2 : tie.Need-enum-known-f-2
 enum-known-f-2 c = search needs
@@ -43,8 +41,7 @@ mul-result-3 : tie.Need-mul-result-3
 mul-result-3 c = search needs
 
 shared-slice-read-result-3 : tie.Need-shared-slice-read-result-3
-shared-slice-read-result-3 c = let a = c .before .before .before .before .before .before .before .before .args in
-    bare-read (a .job .now) (a .i) (c .before .before .before .before .before .fact-at .result) (c .before .before .before .before .before .fact-at .ensures) (a .found .now) (c .before .before .before .f2 .given .0 .0) (c .before .wide3 .result) (c .before .before .before .f2 .given .1) (c .before .before .before .before .before .before .before .before .pre .1 .0) (c .before .wide3 .ensures)
+shared-slice-read-result-3 c = word-read (c .before .before .before .before .before .before .before .before .pre .1 .0) (c .before .before .before .before .before .fact-at .ensures .bare (c .before .before .before .f2 .given .0 .0) (c .before .before .before .f2 .given .1)) (c .before .wide3 .ensures)
 
 returns : tie.Need-returns
 returns c = let a = c .before .before .before .before .before .before .before .before .before .before .args in

@@ -1,13 +1,13 @@
 use mathlib.Core.Path.{_≡_, refl, sym, _∙_}
 use mathlib.Core.List.{map}
-use Prim.Native.Nat.{_+_, _-_, _≤_}
+use Prim.Native.Nat.{_+_, _-_, _≤_, _<_}
 use native.Mathlib.Omega.{arith}
 use lib.Dec.{eqb}
-use lib.ListN.{length, take, drop}
+use lib.ListN.{length, getD, take, drop}
 use borrow.Author.Needs.{needs}
 use borrow.Author.Tests.{eq-eqb, ne-eqb}
-use Rattle.model.specs.Cell.{startOf}
-use Rattle.model.specs.Layout.{endsOf}
+use Rattle.model.specs.Cell.{noCell, startOf}
+use Rattle.model.specs.Layout.{sizesOf, cellCount, endsOf}
 use Rattle.model.specs.Decode.{word}
 use Rattle.load.specs.Held.{firstFound}
 use Rattle.program.specs.Ready.{tableFor, firstNamed}
@@ -73,17 +73,23 @@ part-at-end c = omega (arith, span-of c)
 at-requires : tie.Need-at-requires Inv-loop μ-loop
 at-requires c κs = search needs
 
+-- cell i is one of the job's, and what was read is its name
+inside-of : (c : tie.After-at Inv-loop μ-loop) → c .before .before .before .before .before .before .before .before .before .before .first .result + c .before .before .before .before .before .loop .i < cellCount (sizesOf (c .before .before .before .before .before .before .before .before .before .before .before .before .args .job .now))
+inside-of c = inside-from (c .before .before .before .before .before .before .before .before .before .before .before .before .args .job .now) (c .before .before .before .before .before .before .before .before .before .before .before .before .args .table) (c .before .before .before .before .before .before .before .before .before .before .before .before .pre .1 .0) (c .before .before .before .before .before .loop .i) (omega arith) (c .before .before .before .before .before .before .before .before .before .before .first .ensures)
+
+name-of : (c : tie.After-at Inv-loop μ-loop) → c .at .result ≡ word (getD (take (c .before .before .before .before .before .before .before .before .before .before .before .before .args .count) (tableFor (c .before .before .before .before .before .before .before .before .before .before .before .before .args .job .now) (c .before .before .before .before .before .before .before .before .before .before .before .before .args .table))) (c .before .before .before .before .before .loop .i) noCell) 0
+name-of c = let a = c .before .before .before .before .before .before .before .before .before .before .before .before .args in
+    name-in (a .job .now) (a .table) (c .before .before .before .before .before .before .before .before .before .before .before .before .pre .1 .0) (c .before .before .before .before .before .loop .i) (omega arith) {n = a .count} (omega arith) (c .before .before .before .before .before .before .before .before .before .before .first .ensures)
+    (span-words (c .before .before .before .before .before .before .before .before .before .before .before .before .pre .0) (c .before .before .before .before .before .before .before .before .before .before .first .result + c .before .before .before .before .before .loop .i) (inside-of c) (c .before .before .before .before .before .before .before .before .ends .ensures) (c .before .before .before .before .before .loop .inv .1) (c .before .before .wide .ensures) (c .before .before .before .before .before .before .before .pool .ensures)) (c .at .ensures)
+
 returns : tie.Need-returns Inv-loop μ-loop
 returns c = let a = c .before .before .before .before .before .before .before .before .before .before .before .before .before .args in
     let J = a .job .now in
     let l = c .before .before .before .before .before .before .loop in
-    let k = c .before .before .before .before .before .before .before .before .before .before .before .first .result + l .i in
     let t = take (a .count) (tableFor J (a .table)) in
     let long = front-long J (a .table) (c .before .before .before .before .before .before .before .before .before .before .before .before .before .pre .1 .0) (a .count) (c .before .before .before .before .before .before .before .before .before .before .before .before .before .pre .1 .1) in
-    let i = inside-from J (a .table) (c .before .before .before .before .before .before .before .before .before .before .before .before .before .pre .1 .0) (l .i) (omega arith) (c .before .before .before .before .before .before .before .before .before .before .before .first .ensures) in
-    let name = name-in J (a .table) (c .before .before .before .before .before .before .before .before .before .before .before .before .before .pre .1 .0) (l .i) (omega arith) {n = a .count} (omega arith) (c .before .before .before .before .before .before .before .before .before .before .before .first .ensures) (span-words (c .before .before .before .before .before .before .before .before .before .before .before .before .before .pre .0) k i (c .before .before .before .before .before .before .before .before .before .ends .ensures) (l .inv .1) (c .before .before .before .wide .ensures) (c .before .before .before .before .before .before .before .before .pool .ensures)) (c .before .at .ensures) in
     record {
-      is = mark-yes (λ x. eqb (word x 0) (a .name)) t (l .i) (omega arith) (eq-eqb _ (a .name) (sym name ∙ c .if1 .taken)) ∙ sym (l .inv .2);
+      is = mark-yes (λ x. eqb (word x 0) (a .name)) t (l .i) (omega arith) (eq-eqb _ (a .name) (sym (name-of (c .before)) ∙ c .if1 .taken)) ∙ sym (l .inv .2);
       within = λ j. at-within (omega arith);
     }
 
@@ -97,14 +103,11 @@ loop-again : tie.Need-loop-again Inv-loop μ-loop
 loop-again c = let a = c .before .before .before .before .before .before .before .before .before .before .before .before .before .args in
     let J = a .job .now in
     let l = c .before .before .before .before .before .before .loop in
-    let k = c .before .before .before .before .before .before .before .before .before .before .before .first .result + l .i in
     let t = take (a .count) (tableFor J (a .table)) in
-    let long = front-long J (a .table) (c .before .before .before .before .before .before .before .before .before .before .before .before .before .pre .1 .0) (a .count) (c .before .before .before .before .before .before .before .before .before .before .before .before .before .pre .1 .1) in
-    let i = inside-from J (a .table) (c .before .before .before .before .before .before .before .before .before .before .before .before .before .pre .1 .0) (l .i) (omega arith) (c .before .before .before .before .before .before .before .before .before .before .before .first .ensures) in
-    let name = name-in J (a .table) (c .before .before .before .before .before .before .before .before .before .before .before .before .before .pre .1 .0) (l .i) (omega arith) {n = a .count} (omega arith) (c .before .before .before .before .before .before .before .before .before .before .before .first .ensures) (span-words (c .before .before .before .before .before .before .before .before .before .before .before .before .before .pre .0) k i (c .before .before .before .before .before .before .before .before .before .ends .ensures) (l .inv .1) (c .before .before .before .wide .ensures) (c .before .before .before .before .before .before .before .before .pool .ensures)) (c .before .at .ensures) in (
+    let long = front-long J (a .table) (c .before .before .before .before .before .before .before .before .before .before .before .before .before .pre .1 .0) (a .count) (c .before .before .before .before .before .before .before .before .before .before .before .before .before .pre .1 .1) in (
       omega arith,
-      span-next (c .before .before .before .before .before .before .before .before .before .before .before .before .before .pre .0) k i (c .before .before .before .before .before .before .before .before .before .ends .ensures) (l .inv .1) (c .before .before .before .wide .ensures) (omega arith),
-      l .inv .2 ∙ mark-no (λ x. eqb (word x 0) (a .name)) t (l .i) (omega arith) (ne-eqb _ (a .name) (λ e. c .if1 .left (name ∙ e))),
+      span-next (c .before .before .before .before .before .before .before .before .before .before .before .before .before .pre .0) (c .before .before .before .before .before .before .before .before .before .before .before .first .result + l .i) (inside-of (c .before)) (c .before .before .before .before .before .before .before .before .before .ends .ensures) (l .inv .1) (c .before .before .before .wide .ensures) (omega arith),
+      l .inv .2 ∙ mark-no (λ x. eqb (word x 0) (a .name)) t (l .i) (omega arith) (ne-eqb _ (a .name) (λ e. c .if1 .left (name-of (c .before) ∙ e))),
     )
 
 returns-2 : tie.Need-returns-2 Inv-loop μ-loop
