@@ -72,7 +72,7 @@ fn times(y: u32, x: u32) -> u32
 }
 
 // The mix with one more word.
-fn stir(x: u32, h: u32, w: u32) -> u32
+pub fn stir(x: u32, h: u32, w: u32) -> u32
     ensures { λ r. ⌜ r ≡ stirred x h w ⌝ }
 {
     times(times(wrapping_add_u32(h, w), x), x)
