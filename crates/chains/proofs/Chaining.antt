@@ -93,6 +93,7 @@ module _ {n b i s : ℕ} {T T′ : List ℕ} (e : Linked b n s i T T′) (h : i 
           is = λ _. sym q;
           before = λ j u v _. absurd (omega arith);
         }
+
         other : (t ≡ s → ⊥) → Next slot n t i (getD T (b + t) 0)
         other p = record {
           least = omega (arith, c .slots t l .least);

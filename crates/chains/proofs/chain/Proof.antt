@@ -57,7 +57,7 @@ loop-again c = let a = c .before .before .before .before .before .before .before
     let e = c .before .before .link .ensures in
     let s = c .before .before .before .before .slot-of .result in
     let q : s ≡ slot i = c .before .before .before .before .slot-of .ensures .0
-        ∙ ap₂ (keySlot (a .x) (a .n)) (c .before .before .before .before .before .before .at .ensures ∙ ap (λ (us : List ℕ). getD us 0 0) (c .before .before .before .before .before .before .before .words .ensures)) (c .before .before .before .before .before .key-arguments .ensures ∙ ap (keyArguments (a .rows)) (c .before .before .before .before .before .before .before .words .ensures)) in
+    ∙ ap₂ (keySlot (a .x) (a .n)) (c .before .before .before .before .before .before .at .ensures ∙ ap (λ (us : List ℕ). getD us 0 0) (c .before .before .before .before .before .before .before .words .ensures)) (c .before .before .before .before .before .key-arguments .ensures ∙ ap (keyArguments (a .rows)) (c .before .before .before .before .before .before .before .words .ensures)) in
     let back : c .before .before .before .before .before .before .before .before .before .loop .i ≡ suc i = omega (arith, c .before .before .before .before .before .before .before .before .loop-test .taken) in
     let h : i < a .n = omega (arith, l .2, c .before .before .before .before .before .before .before .before .loop-test .taken) in
     (chained-more e h (c .before .before .before .before .slot-of .ensures .1) q (subst (λ (m : ℕ). Chained slot (a .n) (a .b) m (c .before .before .before .before .before .before .before .before .before .loop .table)) back (l .0)), within-linked e h (c .before .before .before .before .slot-of .ensures .1) (l .1), omega arith)
