@@ -185,8 +185,8 @@ module _ {same : ℕ → ℕ → Bool} {n i : ℕ} (d : Differs same n i) where
       differ = λ k j l m. elim (eq-or-ne k i) [ inl u ↦ rw u (differs-next f x e j (omega arith)) | inr u ↦ d .differ k j (omega arith) m ];
     }
 
-    differs-last : (f : Found) → FirstHit (λ j. same j i) n f → foundBefore f i ≡ true → (j : ℕ) × (j < i) × (same j i ≡ true)
-    differs-last (Found.At k) y e = (k, ltb-true k i e, y .there k refl .1)
+    differs-last : (f : Found) → FirstHit (λ j. same j i) n f → foundBefore f i ≡ true → (j : ℕ) × (j < i) × FirstHit (λ j. same j i) n (Found.At j)
+    differs-last (Found.At k) y e = (k, ltb-true k i e, y)
     differs-last Found.Nothing y e = never e
 
     pub differs-again : foundBefore f i ≡ true → Differ same n i

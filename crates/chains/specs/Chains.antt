@@ -77,4 +77,4 @@ foundBefore Found.Nothing i = false
 pub record Differ (same : ℕ → ℕ → Bool) (n r : ℕ) : Type 0 where
   pub low : r ≤ n
   pub differ : (i j : ℕ) → i < r → j < i → same j i ≡ false
-  pub again : r < n → (j : ℕ) × (j < r) × (same j r ≡ true)
+  pub again : r < n → (j : ℕ) × (j < r) × FirstHit (λ i. same i r) n (Found.At j)

@@ -68,7 +68,7 @@ pub fn first(job: &[u32], table: usize) -> usize
 }
 
 // How much the job's arrays hold: it is as long as its sizes say.
-fn fill(job: &[u32]) -> Fill
+pub fn fill(job: &[u32]) -> Fill
     requires { ⌜ Held (now job) ⌝ }
     ensures { λ r. ⌜ r ≡ fillFor (now (job .entry)) ⌝ }
 {
@@ -105,7 +105,7 @@ fn first_behind(job: &[u32], table: usize) -> usize
 }
 
 // The number of the first cell of a table, by the side with fewer sizes to read.
-fn nearest_first(job: &[u32], table: usize) -> usize
+pub fn nearest_first(job: &[u32], table: usize) -> usize
     requires { ⌜ Held (now job) ⌝ }
     requires { ⌜ table < 10 ⌝ }
     ensures { λ r. ⌜ r ≡ cellNumber (sizesOf (now (job .entry))) table ⌝ }
@@ -117,7 +117,7 @@ fn nearest_first(job: &[u32], table: usize) -> usize
 }
 
 // The kinds of all cells.
-fn kinds(job: &[u32], count: usize) -> &[u32]
+pub fn kinds(job: &[u32], count: usize) -> &[u32]
     requires { ⌜ Held (now job) ⌝ }
     requires { ⌜ count ≡ cellCount (sizesOf (now job)) ⌝ }
     ensures { λ r. ⌜ now r ≡ kindsOf (now (job .entry)) ⌝ }

@@ -11,11 +11,12 @@ use Rattle.model.specs.Layout.{sizesOf}
 use Rattle.model.specs.Program.{Row}
 use Rattle.model.specs.Decode.{readRow}
 use Rattle.model.specs.Evaluate.{rowValue}
 use Rattle.program.specs.Ready.{tablesFor, programFor}
 use Rattle.program.proofs.Words.{inside, words-in}
-use Rattle.program.proofs.Laws.{table-long, look-yes, look-no, look-end, row-looks, row-test, rows-read, row-words}
-use Rattle.program.proofs.row_value.Statement.{statement}
-use Rattle.program.proofs.row_value.Tie as tie
+use Rattle.program.proofs.Laws.{table-long, rows-read, row-words}
+use Rattle.lookups.proofs.Laws.{look-yes, look-no, look-end, row-looks, row-test}
+use Rattle.lookups.proofs.scan_rows.Statement.{statement}
+use Rattle.lookups.proofs.scan_rows.Tie as tie
 
 abbrev Inv-loop : tie.InvT-loop
 Inv-loop job p args count start i₀ i = (i ≤ count) × (rowValue (programFor job .rows) p args ≡ rowValue (map readRow (drop i (tablesFor job .rows))) p args)
@@ -84,8 +85,8 @@ returns-2 c = let a = c .before .before .before .before .before .before .args in
     let l = c .before .loop in
     look-end (row-looks (a .p) (a .args .now)) (tablesFor J .rows) (l .i) (omega (arith, c .before .before .before .size .ensures)) ∙ sym (l .inv .1)
 
-pub row-value-spec : {M : Type 1} → statement M
-row-value-spec =
+pub scan-rows-spec : {M : Type 1} → statement M
+scan-rows-spec =
     tie.close
     (tie.spec
     Inv-loop

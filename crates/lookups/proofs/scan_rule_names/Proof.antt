@@ -11,10 +11,11 @@ use Rattle.model.specs.Layout.{sizesOf}
 use Rattle.model.specs.Program.{bare, idle}
 use Rattle.model.specs.Decode.{word, exprOf}
 use Rattle.model.specs.Walk.{duplicateRuleName}
 use Rattle.program.specs.Ready.{tablesFor, programFor, firstNamed}
-use Rattle.program.proofs.Laws.{table-long, rule-words, ruleFor, rules-read, seen, duplicate-yes, duplicate-no, duplicate-end}
-use Rattle.program.proofs.duplicate_rule_name.Statement.{statement}
-use Rattle.program.proofs.duplicate_rule_name.Tie as tie
+use Rattle.program.proofs.Laws.{table-long, rule-words, ruleFor, rules-read}
+use Rattle.lookups.proofs.Laws.{seen, duplicate-yes, duplicate-no, duplicate-end}
+use Rattle.lookups.proofs.scan_rule_names.Statement.{statement}
+use Rattle.lookups.proofs.scan_rule_names.Tie as tie
 
 abbrev Inv-loop : tie.InvT-loop
 Inv-loop job count i₀ i = (i ≤ count) × (duplicateRuleName [] (programFor job .rules)
@@ -76,8 +77,8 @@ returns-2 c = let J = c .before .before .before .before .args .job .now in
     let l = c .before .loop in
     duplicate-end _ _ (tablesFor J .rules) (l .i) (omega (arith, c .before .before .size .ensures)) ∙ sym (l .inv .1)
 
-pub duplicate-rule-name-spec : {M : Type 1} → statement M
-duplicate-rule-name-spec =
+pub scan-rule-names-spec : {M : Type 1} → statement M
+scan-rule-names-spec =
     tie.close
     (tie.spec
     Inv-loop

@@ -10,11 +10,12 @@ use Rattle.model.specs.Cell.{noCell, startOf}
 use Rattle.model.specs.Layout.{sizesOf, cellCount, endsOf}
 use Rattle.model.specs.Decode.{word}
 use Rattle.load.specs.Held.{firstFound}
 use Rattle.program.specs.Ready.{tableFor, firstNamed}
 use Rattle.program.proofs.Words.{inside-from, name-in, first-end, has-end, span-first, span-within, span-words, span-next}
-use Rattle.program.proofs.Laws.{mark-yes, mark-no, mark-end, at-within, none-within, front-long}
-use Rattle.program.proofs.first_named.Statement.{statement}
-use Rattle.program.proofs.first_named.Tie as tie
+use Rattle.program.proofs.Laws.{front-long}
+use Rattle.lookups.proofs.Laws.{mark-yes, mark-no, mark-end, at-within, none-within}
+use Rattle.lookups.proofs.first_named.Statement.{statement}
+use Rattle.lookups.proofs.first_named.Tie as tie
 
 abbrev Inv-loop : tie.InvT-loop
 Inv-loop job table count name start n all-ends all-words from₀ i₀ from i = (i ≤ count) × (from ≡ startOf (endsOf job) (start + i)) × (firstNamed (take count (tableFor job table)) name

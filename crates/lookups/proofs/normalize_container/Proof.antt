@@ -6,10 +6,10 @@ use Rattle.model.specs.Normalize.{asApp, normalizeApp}
 use Rattle.decode.specs.View.{termOf}
 use Rattle.decode.specs.declared.Term.{Term}
 use Rattle.termdag.specs.Store.{termsIn}
 use Rattle.program.specs.Ready.{programFor}
-use Rattle.program.proofs.Laws.{normal-view}
-use Rattle.program.proofs.normalize_container.Statement.{statement}
-use Rattle.program.proofs.normalize_container.Tie as tie
+use Rattle.lookups.proofs.Laws.{normal-view}
+use Rattle.lookups.proofs.normalize_container.Statement.{statement}
+use Rattle.lookups.proofs.normalize_container.Tie as tie
 
 wide-requires : tie.Need-wide-requires
 wide-requires c κs = search needs
@@ -33,7 +33,7 @@ normalize-app-requires : tie.Need-normalize-app-requires
 normalize-app-requires c κs = search needs
 
 returns : tie.Need-returns
-returns c = let a = c .before .before .before .before .before .before .before .before .before .args in
+returns c = let a = c .before .before .before .before .before .before .before .before .before .before .args in
     let prog = programFor (a .job .now) in
     let s = termsIn (a .skinds .now) (a .sends .now) (a .spool .now) (a .sfill) in
     let xs = c .before .before .children .result .now in
@@ -41,7 +41,7 @@ returns c = let a = c .before .before .before .before .before .before .before .b
     (ap (λ (r : Term). normalizeApp room prog (a .t) (asApp (some (termOf r xs))) s) (c .enum-told .given .1))
 
 returns-2 : tie.Need-returns-2
-returns-2 c = let a = c .before .before .before .before .before .before .before .before .before .args in
+returns-2 c = let a = c .before .before .before .before .before .before .before .before .before .before .args in
     let prog = programFor (a .job .now) in
     let s = termsIn (a .skinds .now) (a .sends .now) (a .spool .now) (a .sfill) in
     let xs = c .before .before .children .result .now in
@@ -49,7 +49,7 @@ returns-2 c = let a = c .before .before .before .before .before .before .before 
     (ap (λ (r : Term). normalizeApp room prog (a .t) (asApp (some (termOf r xs))) s) (c .enum-told2 .given .1))
 
 returns-3 : tie.Need-returns-3
-returns-3 c = let a = c .before .before .before .before .before .before .before .before .before .before .before .args in
+returns-3 c = let a = c .before .before .before .before .before .before .before .before .before .before .before .before .args in
     let prog = programFor (a .job .now) in
     let s = termsIn (a .skinds .now) (a .sends .now) (a .spool .now) (a .sfill) in
     let xs = c .before .before .before .before .children .result .now in
