@@ -22,6 +22,7 @@ ghost use Rattle.termdag.specs.Store.{termsIn, Indexed, roomOf};
 ghost use Rattle.memo.specs.Memo.{Past};
 ghost use Rattle.outcome.specs.Does.{outcomeOf};
 ghost use Rattle.program.specs.Ready.{Ready, programFor, optionOf};
+ghost use Rattle.lookups.specs.Keyed.{Keyed};
 ghost use Rattle.program.specs.Read.{exprFor, factFor};
 ghost use Rattle.evaluate.specs.Value.{bindingsIn};
 ghost use Rattle.evaluate.specs.Evaluation.{Checks};
@@ -51,6 +52,7 @@ pub struct Condition {
 // `eval_side`: an unbound variable has no value.
 fn eval_side(
     job: &[u32],
+    found: &[u32],
     bound: &[u32],
     pairs: &[u32],
     globals: &[u32],
@@ -64,6 +66,7 @@ fn eval_side(
     e: u32,
 ) -> Side
     requires { ⌜ Ready (now job) ⌝ }
+    requires { ⌜ Keyed (now job) (now found) ⌝ }
     requires { ⌜ Indexed (now skinds) (now sends) (now spool) (now index) fill ⌝ }
     requires { ⌜ sizesOf (now job) .expressions + sizesOf (now job) .expressions < length (now memo) ⌝ }
     requires { ⌜ Past (now memo) ⌝ }
@@ -85,6 +88,7 @@ fn eval_side(
     }
     let r = evaluate(
         job,
+        found,
         bound,
         pairs,
         globals,
@@ -219,6 +223,7 @@ fn binds_nothing(s: Side) -> Condition
 // A side condition that is an equality, in either mode: the left side, then the right one, then both.
 fn check_equality_condition(
     job: &[u32],
+    found: &[u32],
     bound: &[u32],
     pairs: &[u32],
     globals: &[u32],
@@ -234,6 +239,7 @@ fn check_equality_condition(
     right: u32,
 ) -> Condition
     requires { ⌜ Ready (now job) ⌝ }
+    requires { ⌜ Keyed (now job) (now found) ⌝ }
     requires { ⌜ Indexed (now skinds) (now sends) (now spool) (now index) fill ⌝ }
     requires { ⌜ sizesOf (now job) .expressions + sizesOf (now job) .expressions < length (now memo) ⌝ }
     requires { ⌜ Past (now memo) ⌝ }
@@ -243,6 +249,7 @@ fn check_equality_condition(
 {
     let a = eval_side(
         job,
+        found,
         bound,
         pairs,
         globals,
@@ -260,6 +267,7 @@ fn check_equality_condition(
     }
     let b = eval_side(
         job,
+        found,
         bound,
         pairs,
         globals,
@@ -285,6 +293,7 @@ fn check_equality_condition(
 // A side condition that is a bare call: it passes unevaluated; in strict mode it is evaluated as a side is. It binds nothing.
 fn check_bare_condition(
     job: &[u32],
+    found: &[u32],
     strict: bool,
     bound: &[u32],
     pairs: &[u32],
@@ -300,6 +309,7 @@ fn check_bare_condition(
     e: u32,
 ) -> Condition
     requires { ⌜ Ready (now job) ⌝ }
+    requires { ⌜ Keyed (now job) (now found) ⌝ }
     requires { ⌜ Indexed (now skinds) (now sends) (now spool) (now index) fill ⌝ }
     requires { ⌜ sizesOf (now job) .expressions + sizesOf (now job) .expressions < length (now memo) ⌝ }
     requires { ⌜ Past (now memo) ⌝ }
@@ -309,6 +319,7 @@ fn check_bare_condition(
     if strict {
         return binds_nothing(eval_side(
             job,
+            found,
             bound,
             pairs,
             globals,
@@ -336,6 +347,7 @@ fn check_bare_condition(
 // `check_side_condition`: what it binds.
 pub fn check_side_condition(
     job: &[u32],
+    found: &[u32],
     strict: bool,
     bound: &[u32],
     pairs: &[u32],
@@ -350,6 +362,7 @@ pub fn check_side_condition(
     i: u32,
 ) -> Condition
     requires { ⌜ Ready (now job) ⌝ }
+    requires { ⌜ Keyed (now job) (now found) ⌝ }
     requires { ⌜ Indexed (now skinds) (now sends) (now spool) (now index) fill ⌝ }
     requires { ⌜ sizesOf (now job) .expressions + sizesOf (now job) .expressions < length (now memo) ⌝ }
     requires { ⌜ Past (now memo) ⌝ }
@@ -360,6 +373,7 @@ pub fn check_side_condition(
     match fact {
         Fact::Equal(l, r) => check_equality_condition(
             job,
+            found,
             bound,
             pairs,
             globals,
@@ -376,6 +390,7 @@ pub fn check_side_condition(
         ),
         Fact::Bare(e) => check_bare_condition(
             job,
+            found,
             strict,
             bound,
             pairs,

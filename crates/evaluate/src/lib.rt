@@ -4,6 +4,7 @@ use cells::wide;
 use computing::computed;
 use decode::Head;
 use index::Fill;
+use lookups::row_value;
 use outcome::Checked;
 use outcome::add_app;
 use outcome::add_lit;
@@ -15,7 +16,6 @@ use program::lookup_pairs;
 use program::primitive_at;
 use program::read::arguments_at;
 use program::read::head_at;
-use program::row_value;
 ghost use mathlib.Core.Path.{_≡_};
 ghost use mathlib.Core.List.{List, [], _∷_};
 ghost use mathlib.Core.Bool.{cond};
@@ -27,6 +27,7 @@ ghost use Rattle.model.specs.Check.{orRefuse};
 ghost use Rattle.model.specs.Evaluate.{lookup, validated};
 ghost use Rattle.termdag.specs.Store.{termsIn, Indexed, roomOf};
 ghost use Rattle.program.specs.Ready.{Ready, programFor, optionOf};
+ghost use Rattle.lookups.specs.Keyed.{Keyed};
 ghost use Rattle.decode.specs.View.{headOf};
 ghost use Rattle.decode.specs.declared.Head as heads;
 ghost use Rattle.memo.specs.Memo.{Past};
@@ -53,6 +54,7 @@ pub fn lookup(bound: &[u32], pairs: &[u32], globals: &[u32], name: u32) -> Looke
 // A primitive's value, computed or looked up: refusal n where it has no validator, 46 where the validator gives nothing.
 fn validated(
     job: &[u32],
+    found: &[u32],
     n: u32,
     skinds: &mut [u32],
     sends: &mut [u32],
@@ -63,6 +65,7 @@ fn validated(
     args: &[u32],
 ) -> Checked
     requires { ⌜ Ready (now job) ⌝ }
+    requires { ⌜ Keyed (now job) (now found) ⌝ }
     requires { ⌜ Indexed (now skinds) (now sends) (now spool) (now index) fill ⌝ }
     requires { ⌜ p < sizesOf (now job) .primitives ⌝ }
     requires { ⌜ 0 < n ⌝ }
@@ -84,7 +87,7 @@ fn validated(
             args,
         );
     }
-    match row_value(job, p, args) {
+    match row_value(job, found, p, args) {
         Looked::Some(t) => pass(t, fill),
         Looked::None => refuse1(46, primitive.name, fill),
     }
@@ -139,6 +142,7 @@ fn custom_value(
 // The value of an expression from its head and its arguments' values.
 pub fn head_value(
     job: &[u32],
+    found: &[u32],
     bound: &[u32],
     pairs: &[u32],
     globals: &[u32],
@@ -153,6 +157,7 @@ pub fn head_value(
     args: &[u32],
 ) -> Checked
     requires { ⌜ Ready (now job) ⌝ }
+    requires { ⌜ Keyed (now job) (now found) ⌝ }
     requires { ⌜ Indexed (now skinds) (now sends) (now spool) (now index) fill ⌝ }
     requires { ⌜ length (now args) ≤ 16 ⌝ }
     requires { ⌜ ((p : ℕ) → head ≡ heads.Head.Primitive p → p < sizesOf (now job) .primitives) ⌝ }
@@ -165,7 +170,7 @@ pub fn head_value(
         Head::Custom(f) => custom_value(fact, skinds, sends, spool, index, fill, f, args),
         Head::Primitive(p) => {
             let n = no_validator(fact);
-            validated(job, n, skinds, sends, spool, index, fill, p, args)
+            validated(job, found, n, skinds, sends, spool, index, fill, p, args)
         }
     }
 }
@@ -204,6 +209,7 @@ fn known_value(
 // The value of expression e, noted. One that is noted is not evaluated again; the term that it was in an earlier round is looked at first.
 fn eval(
     job: &[u32],
+    found: &[u32],
     bound: &[u32],
     pairs: &[u32],
     globals: &[u32],
@@ -218,6 +224,7 @@ fn eval(
     e: u32,
 ) -> Checked
     requires { ⌜ Ready (now job) ⌝ }
+    requires { ⌜ Keyed (now job) (now found) ⌝ }
     requires { ⌜ Indexed (now skinds) (now sends) (now spool) (now index) fill ⌝ }
     requires { ⌜ e < sizesOf (now job) .expressions ⌝ }
     requires { ⌜ Memo (argumentsFor (now job)) (evalFor fact (now job) rule (bindingsIn (now bound) (now pairs) (now globals)) (roomOf (now skinds) (now spool))) (sizesOf (now job) .expressions) (termsIn (now skinds) (now sends) (now spool) fill) (now memo) ⌝ }
@@ -241,6 +248,7 @@ fn eval(
         }
         let r = eval(
             job,
+            found,
             bound,
             pairs,
             globals,
@@ -264,6 +272,7 @@ fn eval(
     let head = head_at(job, at);
     let r = head_value(
         job,
+        found,
         bound,
         pairs,
         globals,
@@ -284,6 +293,7 @@ fn eval(
 // The value of expression e: in an ordinary fact, or elsewhere.
 pub fn evaluate(
     job: &[u32],
+    found: &[u32],
     bound: &[u32],
     pairs: &[u32],
     globals: &[u32],
@@ -298,6 +308,7 @@ pub fn evaluate(
     e: u32,
 ) -> Checked
     requires { ⌜ Ready (now job) ⌝ }
+    requires { ⌜ Keyed (now job) (now found) ⌝ }
     requires { ⌜ Indexed (now skinds) (now sends) (now spool) (now index) fill ⌝ }
     requires { ⌜ e < sizesOf (now job) .expressions ⌝ }
     requires { ⌜ sizesOf (now job) .expressions + sizesOf (now job) .expressions < length (now memo) ⌝ }
@@ -307,6 +318,7 @@ pub fn evaluate(
     memo::new_round(memo);
     eval(
         job,
+        found,
         bound,
         pairs,
         globals,

@@ -31,6 +31,7 @@ ghost use Rattle.termdag.specs.Store.{termsIn, Indexed, roomOf};
 ghost use Rattle.memo.specs.Memo.{Past};
 ghost use Rattle.outcome.specs.Does.{outcomeOf};
 ghost use Rattle.program.specs.Ready.{Ready, programFor, optionOf};
+ghost use Rattle.lookups.specs.Keyed.{Keyed};
 ghost use Rattle.program.specs.Read.{exprFor, argumentsFor, factFor};
 ghost use Rattle.evaluate.specs.Value.{bindingsIn};
 ghost use Rattle.evaluate.specs.Evaluation.{Checks};
@@ -68,6 +69,7 @@ fn custom_of(job: &[u32], e: u32) -> Looked
 // The values of the arguments of expression e in an ordinary fact, written into `values`.
 fn evaluate_arguments(
     job: &[u32],
+    found: &[u32],
     bound: &[u32],
     pairs: &[u32],
     globals: &[u32],
@@ -82,6 +84,7 @@ fn evaluate_arguments(
     values: &mut [u32],
 ) -> Checked
     requires { ⌜ Ready (now job) ⌝ }
+    requires { ⌜ Keyed (now job) (now found) ⌝ }
     requires { ⌜ Indexed (now skinds) (now sends) (now spool) (now index) fill ⌝ }
     requires { ⌜ sizesOf (now job) .expressions + sizesOf (now job) .expressions < length (now memo) ⌝ }
     requires { ⌜ Past (now memo) ⌝ }
@@ -96,6 +99,7 @@ fn evaluate_arguments(
     while i < count {
         let r = evaluate(
             job,
+            found,
             bound,
             pairs,
             globals,
@@ -135,6 +139,7 @@ fn asks(c: Checked, lhs: u32, rhs: u32) -> Asked
 // What a function fact asks for: the call, the variable's value appended, equal to itself.
 fn wanted_call(
     job: &[u32],
+    found: &[u32],
     bound: &[u32],
     pairs: &[u32],
     globals: &[u32],
@@ -150,6 +155,7 @@ fn wanted_call(
     variable: u32,
 ) -> Asked
     requires { ⌜ Ready (now job) ⌝ }
+    requires { ⌜ Keyed (now job) (now found) ⌝ }
     requires { ⌜ Indexed (now skinds) (now sends) (now spool) (now index) fill ⌝ }
     requires { ⌜ sizesOf (now job) .expressions + sizesOf (now job) .expressions < length (now memo) ⌝ }
     requires { ⌜ Past (now memo) ⌝ }
@@ -163,6 +169,7 @@ fn wanted_call(
     let mut values = [0u32; 17];
     let r = evaluate_arguments(
         job,
+        found,
         bound,
         pairs,
         globals,
@@ -197,6 +204,7 @@ fn wanted_call(
 // What an equality asks for that is no function fact: the values of its sides.
 fn wanted_values(
     job: &[u32],
+    found: &[u32],
     bound: &[u32],
     pairs: &[u32],
     globals: &[u32],
@@ -211,6 +219,7 @@ fn wanted_values(
     right: u32,
 ) -> Asked
     requires { ⌜ Ready (now job) ⌝ }
+    requires { ⌜ Keyed (now job) (now found) ⌝ }
     requires { ⌜ Indexed (now skinds) (now sends) (now spool) (now index) fill ⌝ }
     requires { ⌜ sizesOf (now job) .expressions + sizesOf (now job) .expressions < length (now memo) ⌝ }
     requires { ⌜ Past (now memo) ⌝ }
@@ -220,6 +229,7 @@ fn wanted_values(
 {
     let a = evaluate(
         job,
+        found,
         bound,
         pairs,
         globals,
@@ -238,6 +248,7 @@ fn wanted_values(
     }
     let b = evaluate(
         job,
+        found,
         bound,
         pairs,
         globals,
@@ -257,6 +268,7 @@ fn wanted_values(
 // What a bare fact asks for: its value, equal to itself.
 fn wanted_bare(
     job: &[u32],
+    found: &[u32],
     bound: &[u32],
     pairs: &[u32],
     globals: &[u32],
@@ -271,6 +283,7 @@ fn wanted_bare(
     e: u32,
 ) -> Asked
     requires { ⌜ Ready (now job) ⌝ }
+    requires { ⌜ Keyed (now job) (now found) ⌝ }
     requires { ⌜ Indexed (now skinds) (now sends) (now spool) (now index) fill ⌝ }
     requires { ⌜ sizesOf (now job) .expressions + sizesOf (now job) .expressions < length (now memo) ⌝ }
     requires { ⌜ Past (now memo) ⌝ }
@@ -279,6 +292,7 @@ fn wanted_bare(
 {
     let t = evaluate(
         job,
+        found,
         bound,
         pairs,
         globals,
@@ -316,6 +330,7 @@ fn function_fact(job: &[u32], left: u32, right: u32) -> FunctionCall
 // What an equality asks its premise to prove.
 fn wanted_equality(
     job: &[u32],
+    found: &[u32],
     bound: &[u32],
     pairs: &[u32],
     globals: &[u32],
@@ -331,6 +346,7 @@ fn wanted_equality(
     right: u32,
 ) -> Asked
     requires { ⌜ Ready (now job) ⌝ }
+    requires { ⌜ Keyed (now job) (now found) ⌝ }
     requires { ⌜ Indexed (now skinds) (now sends) (now spool) (now index) fill ⌝ }
     requires { ⌜ sizesOf (now job) .expressions + sizesOf (now job) .expressions < length (now memo) ⌝ }
     requires { ⌜ Past (now memo) ⌝ }
@@ -342,6 +358,7 @@ fn wanted_equality(
     match call {
         FunctionCall::Call(f, x) => wanted_call(
             job,
+            found,
             bound,
             pairs,
             globals,
@@ -358,6 +375,7 @@ fn wanted_equality(
         ),
         FunctionCall::No => wanted_values(
             job,
+            found,
             bound,
             pairs,
             globals,
@@ -377,6 +395,7 @@ fn wanted_equality(
 // What an ordinary fact asks its premise to prove.
 fn wanted(
     job: &[u32],
+    found: &[u32],
     bound: &[u32],
     pairs: &[u32],
     globals: &[u32],
@@ -390,6 +409,7 @@ fn wanted(
     i: u32,
 ) -> Asked
     requires { ⌜ Ready (now job) ⌝ }
+    requires { ⌜ Keyed (now job) (now found) ⌝ }
     requires { ⌜ Indexed (now skinds) (now sends) (now spool) (now index) fill ⌝ }
     requires { ⌜ sizesOf (now job) .expressions + sizesOf (now job) .expressions < length (now memo) ⌝ }
     requires { ⌜ Past (now memo) ⌝ }
@@ -400,6 +420,7 @@ fn wanted(
     match fact {
         Fact::Equal(l, r) => wanted_equality(
             job,
+            found,
             bound,
             pairs,
             globals,
@@ -416,6 +437,7 @@ fn wanted(
         ),
         Fact::Bare(e) => wanted_bare(
             job,
+            found,
             bound,
             pairs,
             globals,
@@ -510,6 +532,7 @@ fn matches(job: &[u32], rule: u32, i: u32, w: Proposition, q: Proposition) -> Re
 // `check_fact_matches_proposition`
 pub fn check_fact_matches_proposition(
     job: &[u32],
+    found: &[u32],
     bound: &[u32],
     pairs: &[u32],
     globals: &[u32],
@@ -524,6 +547,7 @@ pub fn check_fact_matches_proposition(
     q: Proposition,
 ) -> Checked
     requires { ⌜ Ready (now job) ⌝ }
+    requires { ⌜ Keyed (now job) (now found) ⌝ }
     requires { ⌜ Indexed (now skinds) (now sends) (now spool) (now index) fill ⌝ }
     requires { ⌜ sizesOf (now job) .expressions + sizesOf (now job) .expressions < length (now memo) ⌝ }
     requires { ⌜ Past (now memo) ⌝ }
@@ -532,6 +556,7 @@ pub fn check_fact_matches_proposition(
 {
     let w = wanted(
         job,
+        found,
         bound,
         pairs,
         globals,

@@ -1,5 +1,6 @@
 -- Laws of a job's tables: their cells among all cells, and the test of each.
 use mathlib.Core.Path.{_≡_, refl, sym, ap, subst, _∙_}
+use mathlib.Core.Logic.{_⊎_, inl, inr}
 use mathlib.Core.Bool.{Bool, true, false, not, _&&_, _||_}
 use mathlib.Core.List.{List, [], _∷_, _++_}
 use Prim.Native.Nat.{ℕ, zero, suc, _+_, _-_, _≤_, _<_}
@@ -14,10 +15,13 @@ use Rattle.model.specs.Layout.{Sizes, Tables, part, tablesIn, tableList, cellCo
 use Rattle.model.specs.Decode.{readArguments, readPrimitive}
 use Rattle.model.specs.Program.{looksUp}
 use Rattle.model.specs.Load.{any, failsFrom, marks, isFirst, sameHead, counts, isSetCall, setFits, primitiveLooksUp, passed, fitTests, validTests, onceTests}
+use Rattle.model.proofs.Tests.{or-cases, eq-of, and-true}
 use Rattle.cells.proofs.Laws.{cell-at, cells-length, cells-fewer, same-cell-eq}
+use Rattle.cells.specs.declared.Fill.{Fill}
 use Rattle.cells.specs.declared.Found.{Found}
+use Rattle.chains.specs.Chains.{wordsFrom, sameKey, Differ}
 use Rattle.load.specs.declared.sizes.Sizes.{Sizes as SizesHeld}
-use Rattle.load.specs.Held.{sizesIn, Distinct, countsOf, cellNumber, fixedCounts, alikeBy, firstAmong, tablesFor, cellHeld, Passing, Sound, testsFor, firstFound}
+use Rattle.load.specs.Held.{sizesIn, fillOf, Limits, Distinct, countsOf, cellNumber, fixedCounts, alikeBy, firstAmong, tablesFor, cellHeld, Passing, Sound, testsFor, firstFound}
 
 -- a cell of a table is a cell of the job
 pub part-at : (cs : List Cell) (from count i : ℕ) → i < count → getD (part cs from count) i noCell ≡ getD cs (from + i) noCell
@@ -201,36 +205,66 @@ first-in z cs same k first i h e l =
     let c = getD cs (first + i) noCell in
     ap (λ (l : List Cell). not (any (λ x. same x c) l)) (sym (take-take i n (drop first cs) (omega arith))) ∙ ap (λ (l : List Cell). isFirst same l i c) (sym t)
 
+-- a cell of a table is first where each before it differs
+differ-first : (same : Cell → Cell → Bool) (cs : List Cell) (first i : ℕ) → ((j : ℕ) → j < i → same (getD cs (first + j) noCell) (getD cs (first + i) noCell) ≡ false) → true ≡ firstAmong same cs first i
+differ-first same cs first i d =
+    let c = getD cs (first + i) noCell in
+    ap not (sym (earlier-none (λ x. same x c) (take i (drop first cs)) (λ j l. let h : j < i = omega (arith, length-take i (drop first cs)) in ap (λ (x : Cell). same x c) (part-at cs first i j h) ∙ d j h)))
+
+-- and passes 9, where that is the table's test
+once-pass : {K E P : List ℕ} {z : SizesHeld} {n : ℕ} (k : ℕ) → k < 10 → ((t : Tables) → isFirst (alikeBy k) (getD (tableList t) k []) ≡ getD (onceTests t) k passed) → n ≤ getD (countsOf (sizesIn z)) k 0
+    → ((i j : ℕ) → i < n → j < i → alikeBy k (cellHeld K E P z (cellNumber (sizesIn z) k + j)) (cellHeld K E P z (cellNumber (sizesIn z) k + i)) ≡ false) → Passing K E P z 3 k n
+once-pass {K} {E} {P} {z} {n} k h is few d = record {
+  few = few;
+  pass = λ i l.
+      let cs = cellsOf K E P (cellCount (sizesIn z)) in
+      let first = cellNumber (sizesIn z) k in
+      differ-first (alikeBy k) cs first i (λ j. d i j l) ∙ first-in (sizesIn z) cs (alikeBy k) k first i h refl (omega arith) ∙ ap (λ (f : ℕ → Cell → Bool). f i (getD cs (first + i) noCell)) (is (tablesFor K E P z));
+}
+
 -- terms that are known to differ
 module _ {K E P : List ℕ} {z : SizesHeld} {n : ℕ} (D : Distinct K E P z n) where
-  abbrev held : List Cell
-  held = cellsOf K E P (cellCount (sizesIn z))
-
-  differ : (i : ℕ) → i < n → (j : ℕ) → j < length (take i held) → sameCell (getD (take i held) j noCell) (getD held i noCell) ≡ false
-  differ i h j l = go (sameCell (getD (take i held) j noCell) (getD held i noCell)) refl
+  differ : (i j : ℕ) → i < n → j < i → sameCell (cellHeld K E P z (0 + j)) (cellHeld K E P z (0 + i)) ≡ false
+  differ i j h q = go (sameCell (cellHeld K E P z (0 + j)) (cellHeld K E P z (0 + i))) refl
     where
-      go : (t : Bool) → sameCell (getD (take i held) j noCell) (getD held i noCell) ≡ t → t ≡ false
+      go : (t : Bool) → sameCell (cellHeld K E P z (0 + j)) (cellHeld K E P z (0 + i)) ≡ t → t ≡ false
       go false e = refl
       go true e =
           let m = cellCount (sizesIn z) in
           let few : n ≤ m = omega (arith, D .few) in
           let long : length (cellsOf K E P n) ≡ n = cells-length K E P n in
-          let short : length (take i held) ≤ i = simp length-take (omega arith) in
-          let q : j < i = omega arith in
-          let same : getD (cellsOf K E P n) j noCell ≡ getD (cellsOf K E P n) i noCell = cells-fewer K E P n m j few (omega arith) ∙ sym (getD-take i held j noCell q) ∙ same-cell-eq _ _ e ∙ sym (cells-fewer K E P n m i few h) in
-          absurd (omega (arith, D .once .one j i (omega arith) (omega arith) same))
+          let same : getD (cellsOf K E P n) (0 + j) noCell ≡ getD (cellsOf K E P n) (0 + i) noCell = cells-fewer K E P n m (0 + j) few (omega arith) ∙ same-cell-eq _ _ e ∙ sym (cells-fewer K E P n m (0 + i) few (omega arith)) in
+          absurd (omega (arith, D .once .one (0 + j) (0 + i) (omega arith) (omega arith) same))
 
-  known-first : (table first i : ℕ) → table ≡ 0 → first ≡ cellNumber (sizesIn z) table → i < n → true ≡ firstAmong (alikeBy table) held first i
-  known-first table first i t f h =
-      let o : first ≡ 0 = f ∙ ap (cellNumber (sizesIn z)) t in
-      let y : 0 + i ≡ i = omega arith in
-      rw (t, o, y) (ap not (sym (earlier-none (λ x. sameCell x (getD held i noCell)) (take i held) (differ i h))))
+  pub distinct-pass : Passing K E P z 3 0 n
+  distinct-pass = once-pass {K = K} {E = E} {P = P} {z = z} 0 (omega arith) (λ t. refl) (D .few) differ
 
-  pub known-once : (table first i : ℕ) → table ≡ 0 → first ≡ cellNumber (sizesIn z) table → i < n → true ≡ getD (onceTests (tablesFor K E P z)) table passed i (getD held (first + i) noCell)
-  known-once table first i t f h =
-      let l : i < getD (countsOf (sizesIn z)) table 0 = rw t (omega (arith, D .few)) in
-      let g = known-first table first i t f h ∙ first-in (sizesIn z) held (alikeBy table) table first i (omega arith) f l in
-      rw t (rw t at g)
+-- rows and normalisers
+keyed : (k : ℕ) → (eqb k 6 || eqb k 7) ≡ true → (k ≡ 6) ⊎ (k ≡ 7)
+keyed k e = elim (or-cases (eqb k 6) (eqb k 7) e) [ inl p ↦ inl (eq-of k 6 p) | inr p ↦ inr (eq-of k 7 p) ]
+
+pub keyed-table : (k : ℕ) → (eqb k 6 || eqb k 7) ≡ true → k < 10
+keyed-table k e = elim (keyed k e) [ inl p ↦ omega arith | inr p ↦ omega arith ]
+
+pub keyed-few : (z : Sizes) (k : ℕ) → Limits z → (eqb k 6 || eqb k 7) ≡ true → getD (countsOf z) k 0 ≤ 4096
+keyed-few z k l e = elim (keyed k e) [ inl p ↦ rw p (l .rows) | inr p ↦ rw p (l .normalisers) ]
+
+-- those whose keys differ from the keys before them
+abbrev KeysDiffer : List ℕ → List ℕ → List ℕ → SizesHeld → ℕ → ℕ → Type 0
+KeysDiffer K E P z n k = Differ (sameKey (eqb k 6) (wordsFrom K E P (fillOf z) (cellNumber (sizesIn z) k))) (getD (countsOf (sizesIn z)) k 0) n
+
+module _ {K E P : List ℕ} {z : SizesHeld} {n : ℕ} where
+  rows-pass : KeysDiffer K E P z n 6 → Passing K E P z 3 6 n
+  rows-pass d = once-pass 6 (omega arith) (λ t. refl) (d .low) (d .differ)
+
+  normalisers-pass : KeysDiffer K E P z n 7 → Passing K E P z 3 7 n
+  normalisers-pass d = once-pass 7 (omega arith) (λ t. refl) (d .low) (λ i j h q. sym (and-true _) ∙ d .differ i j h q)
+
+  pub keys-pass : (k first count : ℕ) (f : Fill) → (eqb k 6 || eqb k 7) ≡ true → first ≡ cellNumber (sizesIn z) k → count ≡ getD (countsOf (sizesIn z)) k 0 → f ≡ fillOf z
+      → Differ (sameKey (eqb k 6) (wordsFrom K E P f first)) count n → Passing K E P z 3 k n
+  keys-pass k first count f e p q g d =
+      let differing : KeysDiffer K E P z n k = rw (p, q, g) at d in
+      elim (keyed k e) [ inl o ↦ rw o (rows-pass (rw o at differing)) | inr o ↦ rw o (normalisers-pass (rw o at differing)) ]
 
 pub once-other : (t : Tables) (k i : ℕ) (c : Cell) → (k ≡ 9 → ⊥) → (k ≡ 0 → ⊥) → (k ≡ 6 → ⊥) → (k ≡ 7 → ⊥) → true ≡ getD (onceTests t) k passed i c
 once-other t zero i c a b d e = absurd (b refl)
@@ -251,6 +285,12 @@ last-round zero z t a b d = absurd (a refl)
 last-round (suc zero) z t a b d = absurd (b refl)
 last-round (suc (suc zero)) z t a b d = absurd (d refl)
 last-round (suc (suc (suc k))) z t a b d = refl
+
+pub late-pass : {K E P : List ℕ} {z : SizesHeld} {k n : ℕ} (round : ℕ) → (round < 2 → ⊥) → (round ≡ 2 → ⊥) → Passing K E P z 3 k n → Passing K E P z round k n
+late-pass {K} {E} {P} {z} round h d A = record {
+  few = A .few;
+  pass = λ i l. rw (← last-round round (sizesIn z) (tablesFor K E P z) (λ e. h (omega arith)) (λ e. h (omega arith)) d) (A .pass i l);
+}
 
 pub number-count : (z : Sizes) (k : ℕ) → k < 10 → cellNumber z k + getD (countsOf z) k 0 ≤ cellCount z
 number-count z zero h = omega arith

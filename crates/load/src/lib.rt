@@ -57,6 +57,7 @@ pub fn writer_refusal(
     pool: &[u32],
     z: Sizes,
     distinct: usize,
+    multiplier: u32,
 ) -> Loaded
     requires { ⌜ Held (now kinds) (now ends) (now pool) z ⌝ }
     requires { ⌜ Distinct (now kinds) (now ends) (now pool) z distinct ⌝ }
@@ -65,7 +66,16 @@ pub fn writer_refusal(
     let sound = passing_terms(kinds, ends, pool, z);
     let mut round: u32 = 0;
     while round < 4 {
-        let f = first_marked(kinds, ends, pool, z, distinct, sound, wide(round));
+        let f = first_marked(
+            kinds,
+            ends,
+            pool,
+            z,
+            distinct,
+            sound,
+            multiplier,
+            wide(round),
+        );
         if let Found::At(cell) = f {
             return Loaded::Writer(6 + round, cell);
         }
@@ -165,7 +175,7 @@ pub fn load_cells(
     }
     let slots = index.len();
     let distinct = known_terms(kinds, ends, pool, z, index, multiplier);
-    let w = writer_refusal(kinds, ends, pool, z, distinct);
+    let w = writer_refusal(kinds, ends, pool, z, distinct, multiplier);
     match w {
         Loaded::Admitted => {
             let words = start(ends, z.terms);

@@ -13,9 +13,12 @@ use cells::Found;
 use cells::same_words;
 use cells::wide;
 use cells::words;
+use chains::chain;
+use chains::differing;
 ghost use mathlib.Core.Path.{_≡_};
-ghost use mathlib.Core.Bool.{true, false};
+ghost use mathlib.Core.Bool.{true, false, _||_};
 ghost use Prim.Native.Nat.{ℕ, _+_, _<_};
+ghost use lib.Dec.{eqb};
 ghost use lib.ListN.{getD};
 ghost use mathlib.Core.List.{[]};
 ghost use Rattle.model.specs.Load.{counts as operandCounts, failsFrom, marks, setFits, actionFits, passed, termFits, termRefers, fitTests, referTests, validTests, onceTests, primitiveLooksUp, bindsOnce};
@@ -337,7 +340,34 @@ pub fn passing_terms(kinds: &[u32], ends: &[u32], pool: &[u32], z: Sizes) -> usi
     i
 }
 
-// How many cells of a table, from its first on, are known to pass: terms, and all where the round has no test for the table.
+// How many rows or normalisers, from the first on, are known to pass 9, by chains of their keys with the multiplier x: none where there are few, as is_first is quicker then.
+fn known_keys(
+    kinds: &[u32],
+    ends: &[u32],
+    pool: &[u32],
+    z: Sizes,
+    x: u32,
+    table: usize,
+    first: usize,
+    count: usize,
+) -> usize
+    requires { ⌜ Held (now kinds) (now ends) (now pool) z ⌝ }
+    requires { ⌜ (eqb table 6 || eqb table 7) ≡ true ⌝ }
+    requires { ⌜ first ≡ cellNumber (sizesIn z) table ⌝ }
+    requires { ⌜ count ≡ getD (countsOf (sizesIn z)) table 0 ⌝ }
+    ensures { λ r. ⌜ Passing (now (kinds .entry)) (now (ends .entry)) (now (pool .entry)) z 3 table r ⌝ }
+{
+    if count < 64 {
+        return 0;
+    }
+    let f = fill(z);
+    let rows = table == 6;
+    let mut slots = [0u32; 8192];
+    chain(&mut slots, 0, x, kinds, ends, pool, f, first, count, rows);
+    differing(&slots, 0, x, kinds, ends, pool, f, first, count, rows)
+}
+
+// How many cells of a table, from its first on, are known to pass: terms, rows, normalisers, and all where the round has no test for the table.
 fn passed_first(
     kinds: &[u32],
     ends: &[u32],
@@ -345,11 +375,14 @@ fn passed_first(
     z: Sizes,
     distinct: usize,
     sound: usize,
+    multiplier: u32,
     round: usize,
     table: usize,
+    first: usize,
     count: usize,
 ) -> usize
     requires { ⌜ Held (now kinds) (now ends) (now pool) z ⌝ }
+    requires { ⌜ first ≡ cellNumber (sizesIn z) table ⌝ }
     requires { ⌜ count ≡ getD (countsOf (sizesIn z)) table 0 ⌝ }
     requires { ⌜ Distinct (now kinds) (now ends) (now pool) z distinct ⌝ }
     requires { ⌜ Sound (now kinds) (now ends) (now pool) z sound ⌝ }
@@ -362,7 +395,10 @@ fn passed_first(
         return 0;
     }
     if (table == 6) | (table == 7) {
-        return 0;
+        if round == 2 {
+            return 0;
+        }
+        return known_keys(kinds, ends, pool, z, multiplier, table, first, count);
     }
     if round == 2 {
         return count;
@@ -384,6 +420,7 @@ pub fn first_failing(
     z: Sizes,
     distinct: usize,
     sound: usize,
+    multiplier: u32,
     round: usize,
     table: usize,
     first: usize,
@@ -397,7 +434,19 @@ pub fn first_failing(
     requires { ⌜ Sound (now kinds) (now ends) (now pool) z sound ⌝ }
     ensures { λ r. ⌜ r ≡ firstFound first (failsFrom 0 (getD (testsFor round (sizesIn z) (tablesFor (now (kinds .entry)) (now (ends .entry)) (now (pool .entry)) z)) table passed) (getD (tableList (tablesFor (now (kinds .entry)) (now (ends .entry)) (now (pool .entry)) z)) table [])) ⌝ }
 {
-    let mut i = passed_first(kinds, ends, pool, z, distinct, sound, round, table, count);
+    let mut i = passed_first(
+        kinds,
+        ends,
+        pool,
+        z,
+        distinct,
+        sound,
+        multiplier,
+        round,
+        table,
+        first,
+        count,
+    );
     while i < count {
         if !passes(kinds, ends, pool, z, round, table, first, i) {
             return Found::At(first + i);
@@ -415,6 +464,7 @@ pub fn first_marked(
     z: Sizes,
     distinct: usize,
     sound: usize,
+    multiplier: u32,
     round: usize,
 ) -> Found
     requires { ⌜ Held (now kinds) (now ends) (now pool) z ⌝ }
@@ -434,6 +484,7 @@ pub fn first_marked(
             z,
             distinct,
             sound,
+            multiplier,
             round,
             table,
             first,

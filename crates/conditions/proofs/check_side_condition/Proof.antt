@@ -16,13 +16,13 @@ enum-known-fact : tie.Need-enum-known-fact
 enum-known-fact c = search needs
 
 check-equality-condition-requires : tie.Need-check-equality-condition-requires
-check-equality-condition-requires c κs = let p = c .before .before .before .before .before .before .before .before .before .before .before .before .before .before .before .before .before .before .before .pre in let b = c .before .before .before .before .before .before .before .before .fact-at .ensures .equal (c .before .before .before .before .before .before .fact .given .0 .0) (c .before .before .before .before .before .before .fact .given .0 .1 .0) (c .before .before .before .before .before .before .fact .given .1) in (p .0, (p .1 .0, (p .1 .1 .0, (p .1 .1 .1 .0, (b .0, b .1)))))
+check-equality-condition-requires c κs = let p = c .before .before .before .before .before .before .before .before .before .before .before .before .before .before .before .before .before .before .before .before .pre in let b = c .before .before .before .before .before .before .before .before .fact-at .ensures .equal (c .before .before .before .before .before .before .fact .given .0 .0) (c .before .before .before .before .before .before .fact .given .0 .1 .0) (c .before .before .before .before .before .before .fact .given .1) in (p .0, (p .1 .0, (p .1 .1 .0, (p .1 .1 .1 .0, (p .1 .1 .1 .1 .0, (b .0, b .1))))))
 
 enum-known-fact-2 : tie.Need-enum-known-fact-2
 enum-known-fact-2 c = search needs
 
 check-bare-condition-requires : tie.Need-check-bare-condition-requires
-check-bare-condition-requires c κs = let p = c .before .before .before .before .before .before .before .before .before .before .before .before .before .before .before .before .before .before .before .pre in (p .0, (p .1 .0, (p .1 .1 .0, (p .1 .1 .1 .0, c .before .before .before .before .before .before .before .before .fact-at .ensures .bare (c .before .before .before .before .before .before .fact2 .given .0 .0) (c .before .before .before .before .before .before .fact2 .given .1)))))
+check-bare-condition-requires c κs = let p = c .before .before .before .before .before .before .before .before .before .before .before .before .before .before .before .before .before .before .before .before .pre in (p .0, (p .1 .0, (p .1 .1 .0, (p .1 .1 .1 .0, (p .1 .1 .1 .1 .0, c .before .before .before .before .before .before .before .before .fact-at .ensures .bare (c .before .before .before .before .before .before .fact2 .given .0 .0) (c .before .before .before .before .before .before .fact2 .given .1))))))
 
 same-length : tie.Need-same-length
 same-length c = search needs
@@ -40,7 +40,7 @@ same-length-5 : tie.Need-same-length-5
 same-length-5 c = search needs
 
 returns : tie.Need-returns
-returns c = let a = c .before .before .before .before .before .before .before .before .before .before .before .before .before .before .before .before .before .before .before .before .before .before .before .before .before .before .before .before .before .before .args in condition-as (programFor (a .job .now)) (a .rule) (bindingsIn (a .bound .now) (a .pairs .now) (a .globals .now)) (a .strict) (fact-by (c .before .before .before .before .before .before .before .before .before .before .before .before .before .before .before .before .before .before .before .fact-at .ensures) (c .before .before .before .before .before .before .before .before .before .before .before .before .before .before .before .before .before .before .before .before .wide .ensures) (c .before .before .before .before .before .before .before .before .before .before .before .before .before .before .before .before .before .fact .given .1)) (c .before .before .before .before .before .before .before .before .before .before .check-equality-condition .ensures (a .strict))
+returns c = let a = c .before .before .before .before .before .before .before .before .before .before .before .before .before .before .before .before .before .before .before .before .before .before .before .before .before .before .before .before .before .before .before .args in condition-as (programFor (a .job .now)) (a .rule) (bindingsIn (a .bound .now) (a .pairs .now) (a .globals .now)) (a .strict) (fact-by (c .before .before .before .before .before .before .before .before .before .before .before .before .before .before .before .before .before .before .before .fact-at .ensures) (c .before .before .before .before .before .before .before .before .before .before .before .before .before .before .before .before .before .before .before .before .wide .ensures) (c .before .before .before .before .before .before .before .before .before .before .before .before .before .before .before .before .before .fact .given .1)) (c .before .before .before .before .before .before .before .before .before .before .check-equality-condition .ensures (a .strict))
 
 same-length-6 : tie.Need-same-length-6
 same-length-6 c = search needs
@@ -58,7 +58,7 @@ same-length-10 : tie.Need-same-length-10
 same-length-10 c = search needs
 
 returns-2 : tie.Need-returns-2
-returns-2 c = let a = c .before .before .before .before .before .before .before .before .before .before .before .before .before .before .before .before .before .before .before .before .before .before .before .before .before .before .before .before .before .before .args in condition-as (programFor (a .job .now)) (a .rule) (bindingsIn (a .bound .now) (a .pairs .now) (a .globals .now)) (a .strict) (fact-by (c .before .before .before .before .before .before .before .before .before .before .before .before .before .before .before .before .before .before .before .fact-at .ensures) (c .before .before .before .before .before .before .before .before .before .before .before .before .before .before .before .before .before .before .before .before .wide .ensures) (c .before .before .before .before .before .before .before .before .before .before .before .before .before .before .before .before .before .fact2 .given .1)) (c .before .before .before .before .before .before .before .before .before .before .check-bare-condition .ensures)
+returns-2 c = let a = c .before .before .before .before .before .before .before .before .before .before .before .before .before .before .before .before .before .before .before .before .before .before .before .before .before .before .before .before .before .before .before .args in condition-as (programFor (a .job .now)) (a .rule) (bindingsIn (a .bound .now) (a .pairs .now) (a .globals .now)) (a .strict) (fact-by (c .before .before .before .before .before .before .before .before .before .before .before .before .before .before .before .before .before .before .before .fact-at .ensures) (c .before .before .before .before .before .before .before .before .before .before .before .before .before .before .before .before .before .before .before .before .wide .ensures) (c .before .before .before .before .before .before .before .before .before .before .before .before .before .before .before .before .before .fact2 .given .1)) (c .before .before .before .before .before .before .before .before .before .before .check-bare-condition .ensures)
 
 pub check-side-condition-spec : {M : Type 1} → statement M
 check-side-condition-spec =

@@ -27,21 +27,21 @@ use Rattle.program.proofs.read.head_at.Reads as head-at-reads
 use Rattle.evaluate.proofs.+eval.{statement}
 use Rattle.evaluate.proofs.+eval.Tie.{close}
 
-abbrev μ-eval : Measures 9 eval-kinds.ps ℕ
-μ-eval κs a = a .1 .1 .1 .1 .1 .1 .1 .1 .1 .1 .1 .1 .0
+abbrev μ-eval : Measures 10 eval-kinds.ps ℕ
+μ-eval κs a = a .1 .1 .1 .1 .1 .1 .1 .1 .1 .1 .1 .1 .1 .0
 
-abbrev eval-at : ℕ → In 9 eval-kinds.ps
-eval-at t = and 9 eval-kinds.ps (is 9 eval-kinds.ps μ-eval t) eval.Pre
+abbrev eval-at : ℕ → In 10 eval-kinds.ps
+eval-at t = and 10 eval-kinds.ps (is 10 eval-kinds.ps μ-eval t) eval.Pre
 
-abbrev eval-below : ℕ → In 9 eval-kinds.ps
-eval-below t = and 9 eval-kinds.ps (falls 9 eval-kinds.ps _<_ μ-eval t) eval.Pre
+abbrev eval-below : ℕ → In 10 eval-kinds.ps
+eval-below t = and 10 eval-kinds.ps (falls 10 eval-kinds.ps _<_ μ-eval t) eval.Pre
 
 abbrev eval-Inv-loop : eval-lts.InvT-loop
-eval-Inv-loop job bound pairs globals rule fact skinds₀ sends₀ spool₀ index₀ memo₀ e at args count vals₀ have₀ i₀ skinds sends spool index memo vals have i =
+eval-Inv-loop job found bound pairs globals rule fact skinds₀ sends₀ spool₀ index₀ memo₀ e at args count vals₀ have₀ i₀ skinds sends spool index memo vals have i =
     Turn fact (programFor job) rule (bindingsIn bound pairs globals) (sizesOf job .expressions) (argumentsFor job) (headFor job) (exprFor job) e args skinds₀ sends₀ spool₀ index₀ have₀ memo₀ skinds sends spool index have memo vals i
 
 abbrev eval-μ-loop : eval-lts.MeasureT-loop
-eval-μ-loop job bound pairs globals rule fact skinds₀ sends₀ spool₀ index₀ memo₀ e at args count vals₀ have₀ i₀ skinds sends spool index memo vals have i =
+eval-μ-loop job found bound pairs globals rule fact skinds₀ sends₀ spool₀ index₀ memo₀ e at args count vals₀ have₀ i₀ skinds sends spool index memo vals have i =
     length args - i
 
 abbrev R-eval : ℕ → eval-lts.Claims
@@ -51,10 +51,10 @@ eval-wide-requires : (t : ℕ) → eval-lts.Need-wide-requires (R-eval t) (eval-
 eval-wide-requires t c κs = search needs
 
 eval-is-noted-requires : (t : ℕ) → eval-lts.Need-is-noted-requires (R-eval t) (eval-at t) eval.Post eval-Inv-loop eval-μ-loop
-eval-is-noted-requires t c κs = let pre = c .before .before .before .before .before .before .before .before .before .before .before .pre .1 in let l = pre .1 .1 .1 .long in let h = pre .1 .1 .0 in let w = c .before .wide .ensures in omega arith
+eval-is-noted-requires t c κs = let pre = c .before .before .before .before .before .before .before .before .before .before .before .before .pre .1 in let l = pre .1 .1 .1 .1 .long in let h = pre .1 .1 .1 .0 in let w = c .before .wide .ensures in omega arith
 
 eval-value-of-requires : (t : ℕ) → eval-lts.Need-value-of-requires (R-eval t) (eval-at t) eval.Post eval-Inv-loop eval-μ-loop
-eval-value-of-requires t c κs = let pre = c .before .before .before .before .before .before .before .before .before .before .before .before .before .before .pre .1 in let l = pre .1 .1 .1 .long in let h = pre .1 .1 .0 in let w = c .before .before .before .before .wide .ensures in omega arith
+eval-value-of-requires t c κs = let pre = c .before .before .before .before .before .before .before .before .before .before .before .before .before .before .before .pre .1 in let l = pre .1 .1 .1 .1 .long in let h = pre .1 .1 .1 .0 in let w = c .before .before .before .before .wide .ensures in omega arith
 
 eval-pass-requires : (t : ℕ) → eval-lts.Need-pass-requires (R-eval t) (eval-at t) eval.Post eval-Inv-loop eval-μ-loop
 eval-pass-requires t c κs = search needs
@@ -63,13 +63,13 @@ eval-same-length : (t : ℕ) → eval-lts.Need-same-length (R-eval t) (eval-at t
 eval-same-length t c = search needs
 
 eval-returns : (t : ℕ) → eval-lts.Need-returns (R-eval t) (eval-at t) eval.Post eval-Inv-loop eval-μ-loop
-eval-returns t c = let a = c .before .before .before .before .before .before .before .before .before .before .before .before .before .before .before .before .args in let pre = c .before .before .before .before .before .before .before .before .before .before .before .before .before .before .before .before .pre .1 in let prog = programFor (a .job .now) in let σ = bindingsIn (a .bound .now) (a .pairs .now) (a .globals .now) in let args = argumentsFor (a .job .now) in let head = headFor (a .job .now) in let expr = exprFor (a .job .now) in known (a .fact) prog (a .rule) σ (sizesOf (a .job .now) .expressions) args head expr (pre .1 .1 .0) (pre .1 .0) (pre .1 .1 .1) (ap (isNoted (a .memo .now)) (sym (c .before .before .before .before .before .before .wide .ensures)) ∙ sym (c .before .before .before .before .is-noted .ensures) ∙ c .before .before .before .if1 .taken) (c .pass .ensures ∙ ap (λ (v : ℕ). record { refusal = passed; value = v; fill = a .fill }) (c .before .value-of .ensures ∙ ap (valueAt (a .memo .now)) (c .before .before .before .before .before .before .wide .ensures)))
+eval-returns t c = let a = c .before .before .before .before .before .before .before .before .before .before .before .before .before .before .before .before .before .args in let pre = c .before .before .before .before .before .before .before .before .before .before .before .before .before .before .before .before .before .pre .1 in let prog = programFor (a .job .now) in let σ = bindingsIn (a .bound .now) (a .pairs .now) (a .globals .now) in let args = argumentsFor (a .job .now) in let head = headFor (a .job .now) in let expr = exprFor (a .job .now) in known (a .fact) prog (a .rule) σ (sizesOf (a .job .now) .expressions) args head expr (pre .1 .1 .1 .0) (pre .1 .1 .0) (pre .1 .1 .1 .1) (ap (isNoted (a .memo .now)) (sym (c .before .before .before .before .before .before .wide .ensures)) ∙ sym (c .before .before .before .before .is-noted .ensures) ∙ c .before .before .before .if1 .taken) (c .pass .ensures ∙ ap (λ (v : ℕ). record { refusal = passed; value = v; fill = a .fill }) (c .before .value-of .ensures ∙ ap (valueAt (a .memo .now)) (c .before .before .before .before .before .before .wide .ensures)))
 
 eval-arguments-at-requires : (t : ℕ) → eval-lts.Need-arguments-at-requires (R-eval t) (eval-at t) eval.Post eval-Inv-loop eval-μ-loop
-eval-arguments-at-requires t c κs = let pre = c .before .before .before .before .before .before .before .before .before .before .before .before .before .pre .1 in let h = pre .1 .1 .0 in let w = c .before .before .before .wide .ensures in (pre .0, omega arith)
+eval-arguments-at-requires t c κs = let pre = c .before .before .before .before .before .before .before .before .before .before .before .before .before .before .pre .1 in let h = pre .1 .1 .1 .0 in let w = c .before .before .before .wide .ensures in (pre .0, omega arith)
 
 eval-loop-holds : (t : ℕ) → eval-lts.Need-loop-holds (R-eval t) (eval-at t) eval.Post eval-Inv-loop eval-μ-loop
-eval-loop-holds t c = let a = c .before .before .before .before .before .before .before .before .before .before .before .before .before .before .args in let pre = c .before .before .before .before .before .before .before .before .before .before .before .before .before .before .pre .1 in let prog = programFor (a .job .now) in let σ = bindingsIn (a .bound .now) (a .pairs .now) (a .globals .now) in let args = argumentsFor (a .job .now) in let head = headFor (a .job .now) in let expr = exprFor (a .job .now) in start (a .fact) prog (a .rule) σ (sizesOf (a .job .now) .expressions) args head expr (node-for (pre .0) (a .e)) (c .arguments-at .ensures .is ∙ ap args (c .before .before .before .before .wide .ensures)) (pre .1 .0) (pre .1 .1 .1) refl
+eval-loop-holds t c = let a = c .before .before .before .before .before .before .before .before .before .before .before .before .before .before .before .args in let pre = c .before .before .before .before .before .before .before .before .before .before .before .before .before .before .before .pre .1 in let prog = programFor (a .job .now) in let σ = bindingsIn (a .bound .now) (a .pairs .now) (a .globals .now) in let args = argumentsFor (a .job .now) in let head = headFor (a .job .now) in let expr = exprFor (a .job .now) in start (a .fact) prog (a .rule) σ (sizesOf (a .job .now) .expressions) args head expr (node-for (pre .0) (a .e)) (c .arguments-at .ensures .is ∙ ap args (c .before .before .before .before .wide .ensures)) (pre .1 .1 .0) (pre .1 .1 .1 .1) refl
 
 eval-mul-known-value : (t : ℕ) → eval-lts.Need-mul-known-value (R-eval t) (eval-at t) eval.Post eval-Inv-loop eval-μ-loop
 eval-mul-known-value t c = search needs
@@ -78,7 +78,7 @@ eval-shared-slice-read-known-value : (t : ℕ) → eval-lts.Need-shared-slice-re
 eval-shared-slice-read-known-value t c = search needs
 
 eval-known-value-requires : (t : ℕ) → eval-lts.Need-known-value-requires (R-eval t) (eval-at t) eval.Post eval-Inv-loop eval-μ-loop
-eval-known-value-requires t c κs = let pre = c .before .before .before .before .before .before .before .before .before .before .before .before .before .before .before .before .before .before .pre .1 in let l = c .before .before .before .before .arguments-at .ensures .lower (c .before .before .before .loop .i) (search needs) in let w = c .before .before .before .before .before .before .before .before .wide .ensures in let h = pre .1 .1 .0 in let m = c .before .before .before .loop .inv .memo .long in (pre .0, (omega arith, omega arith))
+eval-known-value-requires t c κs = let pre = c .before .before .before .before .before .before .before .before .before .before .before .before .before .before .before .before .before .before .before .pre .1 in let l = c .before .before .before .before .arguments-at .ensures .lower (c .before .before .before .loop .i) (search needs) in let w = c .before .before .before .before .before .before .before .before .wide .ensures in let h = pre .1 .1 .1 .0 in let m = c .before .before .before .loop .inv .memo .long in (pre .0, (omega arith, omega arith))
 
 eval-enum-known-known : (t : ℕ) → eval-lts.Need-enum-known-known (R-eval t) (eval-at t) eval.Post eval-Inv-loop eval-μ-loop
 eval-enum-known-known t c = search needs
@@ -96,7 +96,7 @@ eval-loop-less : (t : ℕ) → eval-lts.Need-loop-less (R-eval t) (eval-at t) ev
 eval-loop-less t c = search needs
 
 eval-loop-again : (t : ℕ) → eval-lts.Need-loop-again (R-eval t) (eval-at t) eval.Post eval-Inv-loop eval-μ-loop
-eval-loop-again t c = let a = c .before .before .before .before .before .before .before .before .before .before .before .before .before .before .before .before .before .before .before .before .before .before .before .before .args in let pre = c .before .before .before .before .before .before .before .before .before .before .before .before .before .before .before .before .before .before .before .before .before .before .before .before .pre .1 in let prog = programFor (a .job .now) in let σ = bindingsIn (a .bound .now) (a .pairs .now) (a .globals .now) in let args = argumentsFor (a .job .now) in let head = headFor (a .job .now) in let expr = exprFor (a .job .now) in turn-known (a .fact) prog (a .rule) σ (sizesOf (a .job .now) .expressions) args head expr (c .before .before .before .before .before .before .before .before .before .loop .inv) (c .before .before .before .before .before .known-value .ensures) (c .before .before .before .before .before .before .before .before .loop-test .taken) (c .before .before .before .before .before .before .before .before .before .before .arguments-at .ensures .is ∙ ap args (c .before .before .before .before .before .before .before .before .before .before .before .before .before .before .wide .ensures)) (c .before .before .before .before .before .before .before .before .before .before .arguments-at .ensures .few) (λ j u. let l = c .before .before .before .before .before .before .before .before .before .before .arguments-at .ensures .lower j u in let w = c .before .before .before .before .before .before .before .before .before .before .before .before .before .before .wide .ensures in let h = pre .1 .1 .0 in omega arith) (node-for (pre .0)) (no-arguments (a .job .now)) (search needs) (c .before .known .given .1)
+eval-loop-again t c = let a = c .before .before .before .before .before .before .before .before .before .before .before .before .before .before .before .before .before .before .before .before .before .before .before .before .before .args in let pre = c .before .before .before .before .before .before .before .before .before .before .before .before .before .before .before .before .before .before .before .before .before .before .before .before .before .pre .1 in let prog = programFor (a .job .now) in let σ = bindingsIn (a .bound .now) (a .pairs .now) (a .globals .now) in let args = argumentsFor (a .job .now) in let head = headFor (a .job .now) in let expr = exprFor (a .job .now) in turn-known (a .fact) prog (a .rule) σ (sizesOf (a .job .now) .expressions) args head expr (c .before .before .before .before .before .before .before .before .before .loop .inv) (c .before .before .before .before .before .known-value .ensures) (c .before .before .before .before .before .before .before .before .loop-test .taken) (c .before .before .before .before .before .before .before .before .before .before .arguments-at .ensures .is ∙ ap args (c .before .before .before .before .before .before .before .before .before .before .before .before .before .before .wide .ensures)) (c .before .before .before .before .before .before .before .before .before .before .arguments-at .ensures .few) (λ j u. let l = c .before .before .before .before .before .before .before .before .before .before .arguments-at .ensures .lower j u in let w = c .before .before .before .before .before .before .before .before .before .before .before .before .before .before .wide .ensures in let h = pre .1 .1 .1 .0 in omega arith) (node-for (pre .0)) (no-arguments (a .job .now)) (search needs) (c .before .known .given .1)
 
 eval-enum-told : (t : ℕ) → eval-lts.Need-enum-told (R-eval t) (eval-at t) eval.Post eval-Inv-loop eval-μ-loop
 eval-enum-told t c = search needs
@@ -108,7 +108,7 @@ eval-shared-slice-read-eval : (t : ℕ) → eval-lts.Need-shared-slice-read-eval
 eval-shared-slice-read-eval t c = search needs
 
 eval-eval-requires : (t : ℕ) → eval-lts.Need-eval-requires (R-eval t) (eval-at t) eval.Post eval-Inv-loop eval-μ-loop
-eval-eval-requires t c κs = let a = c .before .before .before .before .before .before .before .before .before .before .before .before .before .before .before .before .before .before .before .before .before .before .before .before .before .before .before .before .before .args in let pre = c .before .before .before .before .before .before .before .before .before .before .before .before .before .before .before .before .before .before .before .before .before .before .before .before .before .before .before .before .before .pre .1 in let prog = programFor (a .job .now) in let σ = bindingsIn (a .bound .now) (a .pairs .now) (a .globals .now) in let args = argumentsFor (a .job .now) in let head = headFor (a .job .now) in let expr = exprFor (a .job .now) in let l = c .before .before .before .before .before .before .before .before .before .before .before .before .before .before .before .arguments-at .ensures .lower (c .before .before .before .before .before .before .before .before .before .before .before .before .before .before .loop .i) (search needs) in let w = c .before .before .before .before .before .before .before .before .before .before .before .before .before .before .before .before .before .before .before .wide .ensures in let h = pre .1 .1 .0 in (let m = c .before .before .before .before .before .before .before .before .before .before .before .before .before .before .before .before .before .before .before .before .before .before .before .before .before .before .before .before .before .pre .0 in omega arith, (pre .0, (c .before .before .before .before .before .before .before .before .before .before .before .before .before .before .loop .inv .run .grown .indexed, (omega arith, next-memo (a .fact) prog (a .rule) σ (sizesOf (a .job .now) .expressions) args head expr (turn-unknown (a .fact) prog (a .rule) σ (sizesOf (a .job .now) .expressions) args head expr (c .before .before .before .before .before .before .before .before .before .before .before .before .before .before .loop .inv) (c .before .before .before .before .before .before .before .before .before .before .known-value .ensures) (c .before .before .before .before .before .before .enum-told .given .1))))))
+eval-eval-requires t c κs = let a = c .before .before .before .before .before .before .before .before .before .before .before .before .before .before .before .before .before .before .before .before .before .before .before .before .before .before .before .before .before .before .args in let pre = c .before .before .before .before .before .before .before .before .before .before .before .before .before .before .before .before .before .before .before .before .before .before .before .before .before .before .before .before .before .before .pre .1 in let prog = programFor (a .job .now) in let σ = bindingsIn (a .bound .now) (a .pairs .now) (a .globals .now) in let args = argumentsFor (a .job .now) in let head = headFor (a .job .now) in let expr = exprFor (a .job .now) in let l = c .before .before .before .before .before .before .before .before .before .before .before .before .before .before .before .arguments-at .ensures .lower (c .before .before .before .before .before .before .before .before .before .before .before .before .before .before .loop .i) (search needs) in let w = c .before .before .before .before .before .before .before .before .before .before .before .before .before .before .before .before .before .before .before .wide .ensures in let h = pre .1 .1 .1 .0 in (let m = c .before .before .before .before .before .before .before .before .before .before .before .before .before .before .before .before .before .before .before .before .before .before .before .before .before .before .before .before .before .before .pre .0 in omega arith, (pre .0, (pre .1 .0, (c .before .before .before .before .before .before .before .before .before .before .before .before .before .before .loop .inv .run .grown .indexed, (omega arith, next-memo (a .fact) prog (a .rule) σ (sizesOf (a .job .now) .expressions) args head expr (turn-unknown (a .fact) prog (a .rule) σ (sizesOf (a .job .now) .expressions) args head expr (c .before .before .before .before .before .before .before .before .before .before .before .before .before .before .loop .inv) (c .before .before .before .before .before .before .before .before .before .before .known-value .ensures) (c .before .before .before .before .before .before .enum-told .given .1)))))))
 
 eval-same-length-2 : (t : ℕ) → eval-lts.Need-same-length-2 (R-eval t) (eval-at t) eval.Post eval-Inv-loop eval-μ-loop
 eval-same-length-2 t c = c .before .before .before .before .before .before .before .before .before .before .before .before .eval .ensures .does .grown .lenK ∙ c .before .before .before .before .before .before .before .before .before .before .before .before .before .before .before .before .before .before .before .before .before .before .before .before .before .before .before .loop .inv .run .grown .lenK
@@ -123,10 +123,10 @@ eval-same-length-5 : (t : ℕ) → eval-lts.Need-same-length-5 (R-eval t) (eval-
 eval-same-length-5 t c = c .before .before .before .before .before .before .before .before .before .before .before .before .eval .ensures .does .grown .lenI ∙ c .before .before .before .before .before .before .before .before .before .before .before .before .before .before .before .before .before .before .before .before .before .before .before .before .before .before .before .loop .inv .run .grown .lenI
 
 eval-same-length-6 : (t : ℕ) → eval-lts.Need-same-length-6 (R-eval t) (eval-at t) eval.Post eval-Inv-loop eval-μ-loop
-eval-same-length-6 t c = c .before .before .before .before .before .before .before .before .before .before .before .before .eval .kept .1 .1 .1 .1 .1 .1 .1 .1 .1 .1 .1 .0 ∙ c .before .before .before .before .before .before .before .before .before .before .before .before .before .before .before .before .before .before .before .before .before .before .before .known-value .kept .1 .1 .1 .1 .0 ∙ c .before .before .before .before .before .before .before .before .before .before .before .before .before .before .before .before .before .before .before .before .before .before .before .before .before .before .before .loop .inv .lenM
+eval-same-length-6 t c = c .before .before .before .before .before .before .before .before .before .before .before .before .eval .kept .1 .1 .1 .1 .1 .1 .1 .1 .1 .1 .1 .1 .0 ∙ c .before .before .before .before .before .before .before .before .before .before .before .before .before .before .before .before .before .before .before .before .before .before .before .known-value .kept .1 .1 .1 .1 .0 ∙ c .before .before .before .before .before .before .before .before .before .before .before .before .before .before .before .before .before .before .before .before .before .before .before .before .before .before .before .loop .inv .lenM
 
 eval-returns-2 : (t : ℕ) → eval-lts.Need-returns-2 (R-eval t) (eval-at t) eval.Post eval-Inv-loop eval-μ-loop
-eval-returns-2 t c = let a = c .before .before .before .before .before .before .before .before .before .before .before .before .before .before .before .before .before .before .before .before .before .before .before .before .before .before .before .before .before .before .before .before .before .before .before .before .before .before .before .before .before .before .args in let pre = c .before .before .before .before .before .before .before .before .before .before .before .before .before .before .before .before .before .before .before .before .before .before .before .before .before .before .before .before .before .before .before .before .before .before .before .before .before .before .before .before .before .before .pre .1 in let prog = programFor (a .job .now) in let σ = bindingsIn (a .bound .now) (a .pairs .now) (a .globals .now) in let args = argumentsFor (a .job .now) in let head = headFor (a .job .now) in let expr = exprFor (a .job .now) in stops (a .fact) prog (a .rule) σ (sizesOf (a .job .now) .expressions) args head expr (turn-unknown (a .fact) prog (a .rule) σ (sizesOf (a .job .now) .expressions) args head expr (c .before .before .before .before .before .before .before .before .before .before .before .before .before .before .before .before .before .before .before .before .before .before .before .before .before .before .before .loop .inv) (c .before .before .before .before .before .before .before .before .before .before .before .before .before .before .before .before .before .before .before .before .before .before .before .known-value .ensures) (c .before .before .before .before .before .before .before .before .before .before .before .before .before .before .before .before .before .before .before .enum-told .given .1)) (c .before .before .before .before .before .before .before .before .before .before .before .before .before .before .before .before .before .before .before .before .before .before .before .before .before .before .loop-test .taken) (c .before .before .before .before .before .before .before .before .before .before .before .before .eval .ensures) (search needs)
+eval-returns-2 t c = let a = c .before .before .before .before .before .before .before .before .before .before .before .before .before .before .before .before .before .before .before .before .before .before .before .before .before .before .before .before .before .before .before .before .before .before .before .before .before .before .before .before .before .before .before .args in let pre = c .before .before .before .before .before .before .before .before .before .before .before .before .before .before .before .before .before .before .before .before .before .before .before .before .before .before .before .before .before .before .before .before .before .before .before .before .before .before .before .before .before .before .before .pre .1 in let prog = programFor (a .job .now) in let σ = bindingsIn (a .bound .now) (a .pairs .now) (a .globals .now) in let args = argumentsFor (a .job .now) in let head = headFor (a .job .now) in let expr = exprFor (a .job .now) in stops (a .fact) prog (a .rule) σ (sizesOf (a .job .now) .expressions) args head expr (turn-unknown (a .fact) prog (a .rule) σ (sizesOf (a .job .now) .expressions) args head expr (c .before .before .before .before .before .before .before .before .before .before .before .before .before .before .before .before .before .before .before .before .before .before .before .before .before .before .before .loop .inv) (c .before .before .before .before .before .before .before .before .before .before .before .before .before .before .before .before .before .before .before .before .before .before .before .known-value .ensures) (c .before .before .before .before .before .before .before .before .before .before .before .before .before .before .before .before .before .before .before .enum-told .given .1)) (c .before .before .before .before .before .before .before .before .before .before .before .before .before .before .before .before .before .before .before .before .before .before .before .before .before .before .loop-test .taken) (c .before .before .before .before .before .before .before .before .before .before .before .before .eval .ensures) (search needs)
 
 eval-mul-vals-2 : (t : ℕ) → eval-lts.Need-mul-vals-2 (R-eval t) (eval-at t) eval.Post eval-Inv-loop eval-μ-loop
 eval-mul-vals-2 t c = let i = c .before .before .before .before .before .before .before .before .before .before .before .before .before .before .before .before .before .before .before .before .before .before .before .before .before .before .loop-test .taken in let f = c .before .before .before .before .before .before .before .before .before .before .before .before .before .before .before .before .before .before .before .before .before .before .before .before .before .before .before .before .arguments-at .ensures .few in record { fits = omega arith }
@@ -141,10 +141,10 @@ eval-loop-less-2 : (t : ℕ) → eval-lts.Need-loop-less-2 (R-eval t) (eval-at t
 eval-loop-less-2 t c = let h = c .before .before .before .before .before .before .before .before .before .before .before .before .before .before .before .before .before .before .before .before .before .before .before .before .before .before .before .loop-test .taken in omega arith
 
 eval-loop-again-2 : (t : ℕ) → eval-lts.Need-loop-again-2 (R-eval t) (eval-at t) eval.Post eval-Inv-loop eval-μ-loop
-eval-loop-again-2 t c = let a = c .before .before .before .before .before .before .before .before .before .before .before .before .before .before .before .before .before .before .before .before .before .before .before .before .before .before .before .before .before .before .before .before .before .before .before .before .before .before .before .before .before .before .before .args in let pre = c .before .before .before .before .before .before .before .before .before .before .before .before .before .before .before .before .before .before .before .before .before .before .before .before .before .before .before .before .before .before .before .before .before .before .before .before .before .before .before .before .before .before .before .pre .1 in let prog = programFor (a .job .now) in let σ = bindingsIn (a .bound .now) (a .pairs .now) (a .globals .now) in let args = argumentsFor (a .job .now) in let head = headFor (a .job .now) in let expr = exprFor (a .job .now) in turns (a .fact) prog (a .rule) σ (sizesOf (a .job .now) .expressions) args head expr (turn-unknown (a .fact) prog (a .rule) σ (sizesOf (a .job .now) .expressions) args head expr (c .before .before .before .before .before .before .before .before .before .before .before .before .before .before .before .before .before .before .before .before .before .before .before .before .before .before .before .before .loop .inv) (c .before .before .before .before .before .before .before .before .before .before .before .before .before .before .before .before .before .before .before .before .before .before .before .before .known-value .ensures) (c .before .before .before .before .before .before .before .before .before .before .before .before .before .before .before .before .before .before .before .before .enum-told .given .1)) (c .before .before .before .before .before .before .before .before .before .before .before .before .before .before .before .before .before .before .before .before .before .before .before .before .before .before .before .loop-test .taken) (c .before .before .before .before .before .before .before .before .before .before .before .before .before .eval .ensures) (c .before .before .before .before .before .before .before .before .before .before .before .before .before .before .before .before .before .before .before .before .before .before .before .before .before .before .before .before .before .arguments-at .ensures .is ∙ ap args (c .before .before .before .before .before .before .before .before .before .before .before .before .before .before .before .before .before .before .before .before .before .before .before .before .before .before .before .before .before .before .before .before .before .wide .ensures)) (c .before .before .before .before .before .before .before .before .before .before .before .before .before .before .before .before .before .before .before .before .before .before .before .before .before .before .before .before .before .arguments-at .ensures .few) (λ j u. let l = c .before .before .before .before .before .before .before .before .before .before .before .before .before .before .before .before .before .before .before .before .before .before .before .before .before .before .before .before .before .arguments-at .ensures .lower j u in let w = c .before .before .before .before .before .before .before .before .before .before .before .before .before .before .before .before .before .before .before .before .before .before .before .before .before .before .before .before .before .before .before .before .before .wide .ensures in let h = pre .1 .1 .0 in omega arith) (search needs) (search needs)
+eval-loop-again-2 t c = let a = c .before .before .before .before .before .before .before .before .before .before .before .before .before .before .before .before .before .before .before .before .before .before .before .before .before .before .before .before .before .before .before .before .before .before .before .before .before .before .before .before .before .before .before .before .args in let pre = c .before .before .before .before .before .before .before .before .before .before .before .before .before .before .before .before .before .before .before .before .before .before .before .before .before .before .before .before .before .before .before .before .before .before .before .before .before .before .before .before .before .before .before .before .pre .1 in let prog = programFor (a .job .now) in let σ = bindingsIn (a .bound .now) (a .pairs .now) (a .globals .now) in let args = argumentsFor (a .job .now) in let head = headFor (a .job .now) in let expr = exprFor (a .job .now) in turns (a .fact) prog (a .rule) σ (sizesOf (a .job .now) .expressions) args head expr (turn-unknown (a .fact) prog (a .rule) σ (sizesOf (a .job .now) .expressions) args head expr (c .before .before .before .before .before .before .before .before .before .before .before .before .before .before .before .before .before .before .before .before .before .before .before .before .before .before .before .before .loop .inv) (c .before .before .before .before .before .before .before .before .before .before .before .before .before .before .before .before .before .before .before .before .before .before .before .before .known-value .ensures) (c .before .before .before .before .before .before .before .before .before .before .before .before .before .before .before .before .before .before .before .before .enum-told .given .1)) (c .before .before .before .before .before .before .before .before .before .before .before .before .before .before .before .before .before .before .before .before .before .before .before .before .before .before .before .loop-test .taken) (c .before .before .before .before .before .before .before .before .before .before .before .before .before .eval .ensures) (c .before .before .before .before .before .before .before .before .before .before .before .before .before .before .before .before .before .before .before .before .before .before .before .before .before .before .before .before .before .arguments-at .ensures .is ∙ ap args (c .before .before .before .before .before .before .before .before .before .before .before .before .before .before .before .before .before .before .before .before .before .before .before .before .before .before .before .before .before .before .before .before .before .wide .ensures)) (c .before .before .before .before .before .before .before .before .before .before .before .before .before .before .before .before .before .before .before .before .before .before .before .before .before .before .before .before .before .arguments-at .ensures .few) (λ j u. let l = c .before .before .before .before .before .before .before .before .before .before .before .before .before .before .before .before .before .before .before .before .before .before .before .before .before .before .before .before .before .arguments-at .ensures .lower j u in let w = c .before .before .before .before .before .before .before .before .before .before .before .before .before .before .before .before .before .before .before .before .before .before .before .before .before .before .before .before .before .before .before .before .before .wide .ensures in let h = pre .1 .1 .1 .0 in omega arith) (search needs) (search needs)
 
 eval-head-at-requires : (t : ℕ) → eval-lts.Need-head-at-requires (R-eval t) (eval-at t) eval.Post eval-Inv-loop eval-μ-loop
-eval-head-at-requires t c κs = let pre = c .before .before .before .before .before .before .before .before .before .before .before .before .before .before .before .before .pre .1 in let h = pre .1 .1 .0 in let w = c .before .before .before .before .before .before .wide .ensures in (pre .0, omega arith)
+eval-head-at-requires t c κs = let pre = c .before .before .before .before .before .before .before .before .before .before .before .before .before .before .before .before .before .pre .1 in let h = pre .1 .1 .1 .0 in let w = c .before .before .before .before .before .before .wide .ensures in (pre .0, omega arith)
 
 eval-array-share-prefix-vals : (t : ℕ) → eval-lts.Need-array-share-prefix-vals (R-eval t) (eval-at t) eval.Post eval-Inv-loop eval-μ-loop
 eval-array-share-prefix-vals t c = let f = c .before .before .before .before .before .before .before .arguments-at .ensures .few in let h = c .before .before .before .before .before .before .loop .inv .full in omega arith
@@ -153,10 +153,10 @@ eval-slice-aggregate-head-value : (t : ℕ) → eval-lts.Need-slice-aggregate-he
 eval-slice-aggregate-head-value t c = let f = c .before .before .before .before .before .before .before .before .arguments-at .ensures .few in let h = c .before .before .before .before .before .before .before .loop .inv .full in simp length-take (omega arith)
 
 eval-head-value-requires : (t : ℕ) → eval-lts.Need-head-value-requires (R-eval t) (eval-at t) eval.Post eval-Inv-loop eval-μ-loop
-eval-head-value-requires t c κs = let pre = c .before .before .before .before .before .before .before .before .before .before .before .before .before .before .before .before .before .before .before .before .before .before .pre .1 in (pre .0, (c .before .before .before .before .before .before .before .loop .inv .run .grown .indexed, (let f = c .before .before .before .before .before .before .before .before .arguments-at .ensures .few in simp length-take (omega arith), c .before .before .before .before .before .head-at .ensures .primitive)))
+eval-head-value-requires t c κs = let pre = c .before .before .before .before .before .before .before .before .before .before .before .before .before .before .before .before .before .before .before .before .before .before .before .pre .1 in (pre .0, (pre .1 .0, (c .before .before .before .before .before .before .before .loop .inv .run .grown .indexed, (let f = c .before .before .before .before .before .before .before .before .arguments-at .ensures .few in simp length-take (omega arith), c .before .before .before .before .before .head-at .ensures .primitive))))
 
 eval-note-requires : (t : ℕ) → eval-lts.Need-note-requires (R-eval t) (eval-at t) eval.Post eval-Inv-loop eval-μ-loop
-eval-note-requires t c κs = let pre = c .before .before .before .before .before .before .before .before .before .before .before .before .before .before .before .before .before .before .before .before .before .before .before .before .before .before .before .before .before .before .before .before .pre .1 in let l = c .before .before .before .before .before .before .before .before .before .before .before .before .before .before .before .before .before .loop .inv .memo .long in let h = pre .1 .1 .0 in let w = c .before .before .before .before .before .before .before .before .before .before .before .before .before .before .before .before .before .before .before .before .before .before .wide .ensures in omega arith
+eval-note-requires t c κs = let pre = c .before .before .before .before .before .before .before .before .before .before .before .before .before .before .before .before .before .before .before .before .before .before .before .before .before .before .before .before .before .before .before .before .before .pre .1 in let l = c .before .before .before .before .before .before .before .before .before .before .before .before .before .before .before .before .before .loop .inv .memo .long in let h = pre .1 .1 .1 .0 in let w = c .before .before .before .before .before .before .before .before .before .before .before .before .before .before .before .before .before .before .before .before .before .before .wide .ensures in omega arith
 
 eval-same-length-7 : (t : ℕ) → eval-lts.Need-same-length-7 (R-eval t) (eval-at t) eval.Post eval-Inv-loop eval-μ-loop
 eval-same-length-7 t c = c .before .before .before .before .before .before .before .before .before .before .before .before .head-value .ensures .grown .lenK ∙ c .before .before .before .before .before .before .before .before .before .before .before .before .before .before .before .before .before .before .before .before .loop .inv .run .grown .lenK
@@ -174,7 +174,7 @@ eval-same-length-11 : (t : ℕ) → eval-lts.Need-same-length-11 (R-eval t) (eva
 eval-same-length-11 t c = c .before .before .note .kept .0 ∙ c .before .before .before .before .before .before .before .before .before .before .before .before .before .before .before .before .before .before .before .before .loop .inv .lenM
 
 eval-returns-3 : (t : ℕ) → eval-lts.Need-returns-3 (R-eval t) (eval-at t) eval.Post eval-Inv-loop eval-μ-loop
-eval-returns-3 t c = let a = c .before .before .before .before .before .before .before .before .before .before .before .before .before .before .before .before .before .before .before .before .before .before .before .before .before .before .before .before .before .before .before .before .before .before .before .args in let pre = c .before .before .before .before .before .before .before .before .before .before .before .before .before .before .before .before .before .before .before .before .before .before .before .before .before .before .before .before .before .before .before .before .before .before .before .pre .1 in let prog = programFor (a .job .now) in let σ = bindingsIn (a .bound .now) (a .pairs .now) (a .globals .now) in let args = argumentsFor (a .job .now) in let head = headFor (a .job .now) in let expr = exprFor (a .job .now) in finishes (a .fact) prog (a .rule) σ (sizesOf (a .job .now) .expressions) args head expr (c .before .before .before .before .before .before .before .before .before .before .before .before .before .before .before .before .before .before .before .before .loop .inv) (c .before .before .before .before .before .before .before .before .before .before .before .before .before .before .before .before .before .before .before .loop-test .left) (c .before .before .before .before .before .before .before .before .before .before .before .before .before .before .before .before .before .before .before .before .before .arguments-at .ensures .is ∙ ap args (c .before .before .before .before .before .before .before .before .before .before .before .before .before .before .before .before .before .before .before .before .before .before .before .before .before .wide .ensures)) (pre .1 .1 .0) (at-head (a .fact) _ prog (a .rule) σ _ _ (c .before .before .before .before .before .before .before .before .before .before .before .before .before .before .before .before .before .before .head-at .ensures .is ∙ ap head (c .before .before .before .before .before .before .before .before .before .before .before .before .before .before .before .before .before .before .before .before .before .before .before .before .before .wide .ensures)) (c .before .before .before .before .before .before .before .before .before .before .before .before .head-value .ensures)) (c .before .before .note .ensures ∙ ap (λ (k : ℕ). noteAt (c .before .before .before .before .before .before .before .before .before .before .before .before .before .before .before .before .before .before .before .before .loop .memo) k (c .before .before .before .before .before .before .before .before .before .before .before .before .head-value .result .value)) (c .before .before .before .before .before .before .before .before .before .before .before .before .before .before .before .before .before .before .before .before .before .before .before .before .before .wide .ensures))
+eval-returns-3 t c = let a = c .before .before .before .before .before .before .before .before .before .before .before .before .before .before .before .before .before .before .before .before .before .before .before .before .before .before .before .before .before .before .before .before .before .before .before .before .args in let pre = c .before .before .before .before .before .before .before .before .before .before .before .before .before .before .before .before .before .before .before .before .before .before .before .before .before .before .before .before .before .before .before .before .before .before .before .before .pre .1 in let prog = programFor (a .job .now) in let σ = bindingsIn (a .bound .now) (a .pairs .now) (a .globals .now) in let args = argumentsFor (a .job .now) in let head = headFor (a .job .now) in let expr = exprFor (a .job .now) in finishes (a .fact) prog (a .rule) σ (sizesOf (a .job .now) .expressions) args head expr (c .before .before .before .before .before .before .before .before .before .before .before .before .before .before .before .before .before .before .before .before .loop .inv) (c .before .before .before .before .before .before .before .before .before .before .before .before .before .before .before .before .before .before .before .loop-test .left) (c .before .before .before .before .before .before .before .before .before .before .before .before .before .before .before .before .before .before .before .before .before .arguments-at .ensures .is ∙ ap args (c .before .before .before .before .before .before .before .before .before .before .before .before .before .before .before .before .before .before .before .before .before .before .before .before .before .wide .ensures)) (pre .1 .1 .1 .0) (at-head (a .fact) _ prog (a .rule) σ _ _ (c .before .before .before .before .before .before .before .before .before .before .before .before .before .before .before .before .before .before .head-at .ensures .is ∙ ap head (c .before .before .before .before .before .before .before .before .before .before .before .before .before .before .before .before .before .before .before .before .before .before .before .before .before .wide .ensures)) (c .before .before .before .before .before .before .before .before .before .before .before .before .head-value .ensures)) (c .before .before .note .ensures ∙ ap (λ (k : ℕ). noteAt (c .before .before .before .before .before .before .before .before .before .before .before .before .before .before .before .before .before .before .before .before .loop .memo) k (c .before .before .before .before .before .before .before .before .before .before .before .before .head-value .result .value)) (c .before .before .before .before .before .before .before .before .before .before .before .before .before .before .before .before .before .before .before .before .before .before .before .before .before .wide .ensures))
 
 pub +eval-spec : {M : Type 1} → statement M
 +eval-spec = close μ-eval λ t. eval-lts.spec (R-eval t)

@@ -56,7 +56,7 @@ no-validator-requires c κs = search needs
 -- src/lib.rt:179:13
 
 validated-requires : tie.Need-validated-requires
-validated-requires c κs = (c .before .before .before .before .before .before .before .before .before .before .before .before .before .before .before .before .before .pre .0, (c .before .before .before .before .before .before .before .before .before .before .before .before .before .before .before .before .before .pre .1 .0, (c .before .before .before .before .before .before .before .before .before .before .before .before .before .before .before .before .before .pre .1 .1 .1 _ (c .before .before .before .before .before .before .head5 .given .1), number-above (c .before .before .before .before .before .before .before .before .before .before .before .before .before .before .before .before .before .args .fact) (c .before .before .before .before .no-validator .ensures))))
+validated-requires c κs = (c .before .before .before .before .before .before .before .before .before .before .before .before .before .before .before .before .before .before .pre .0, (c .before .before .before .before .before .before .before .before .before .before .before .before .before .before .before .before .before .before .pre .1 .0, (c .before .before .before .before .before .before .before .before .before .before .before .before .before .before .before .before .before .before .pre .1 .1 .0, (c .before .before .before .before .before .before .before .before .before .before .before .before .before .before .before .before .before .before .pre .1 .1 .1 .1 _ (c .before .before .before .before .before .before .head5 .given .1), number-above (c .before .before .before .before .before .before .before .before .before .before .before .before .before .before .before .before .before .before .args .fact) (c .before .before .before .before .no-validator .ensures)))))
 
 -- src/lib.rt:149:1
 
@@ -81,12 +81,12 @@ same-length-4 c = search needs
 -- src/lib.rt:149:1
 
 returns : tie.Need-returns
-returns c = let a = c .before .before .before .before .before .before .before .before .before .before .before .before .before .before .before .before .before .before .before .before .before .before .before .before .before .args in head-does (a .fact) _ _ (a .rule) _ (a .args .now) _ (a .head) _ (c .before .before .before .before .before .before .before .before .before .before .before .before .before .before .head .given .1) (c .before .before .before .before .before .before .before .before .add-lit .ensures)
+returns c = let a = c .before .before .before .before .before .before .before .before .before .before .before .before .before .before .before .before .before .before .before .before .before .before .before .before .before .before .args in head-does (a .fact) _ _ (a .rule) _ (a .args .now) _ (a .head) _ (c .before .before .before .before .before .before .before .before .before .before .before .before .before .before .head .given .1) (c .before .before .before .before .before .before .before .before .add-lit .ensures)
 
 -- src/lib.rt:149:1
 
 returns-2 : tie.Need-returns-2
-returns-2 c = let a = c .before .before .before .before .before .before .before .before .before .before .before .before .before .args in head-does (a .fact) _ _ (a .rule) _ (a .args .now) _ (a .head) _ (c .before .before .head2 .given .1) (variable-does (c .before .before .before .before .before .before .before .before .before .before .before .before .before .pre .1 .0) (c .variable .ensures))
+returns-2 c = let a = c .before .before .before .before .before .before .before .before .before .before .before .before .before .before .args in head-does (a .fact) _ _ (a .rule) _ (a .args .now) _ (a .head) _ (c .before .before .head2 .given .1) (variable-does (c .before .before .before .before .before .before .before .before .before .before .before .before .before .before .pre .1 .1 .0) (c .variable .ensures))
 
 -- src/lib.rt:149:1
 
@@ -111,7 +111,7 @@ same-length-8 c = search needs
 -- src/lib.rt:149:1
 
 returns-3 : tie.Need-returns-3
-returns-3 c = let a = c .before .before .before .before .before .before .before .before .before .before .before .before .before .before .before .before .before .before .before .before .before .before .before .before .before .args in head-does (a .fact) _ _ (a .rule) _ (a .args .now) _ (a .head) _ (c .before .before .before .before .before .before .before .before .before .before .before .before .before .before .head3 .given .1) (c .before .before .before .before .before .before .before .before .add-app .ensures)
+returns-3 c = let a = c .before .before .before .before .before .before .before .before .before .before .before .before .before .before .before .before .before .before .before .before .before .before .before .before .before .before .args in head-does (a .fact) _ _ (a .rule) _ (a .args .now) _ (a .head) _ (c .before .before .before .before .before .before .before .before .before .before .before .before .before .before .head3 .given .1) (c .before .before .before .before .before .before .before .before .add-app .ensures)
 
 -- src/lib.rt:149:1
 
@@ -136,7 +136,7 @@ same-length-12 c = search needs
 -- src/lib.rt:149:1
 
 returns-4 : tie.Need-returns-4
-returns-4 c = let a = c .before .before .before .before .before .before .before .before .before .before .before .before .before .before .before .before .before .before .before .before .before .before .before .before .before .args in head-does (a .fact) _ _ (a .rule) _ (a .args .now) _ (a .head) _ (c .before .before .before .before .before .before .before .before .before .before .before .before .before .before .head4 .given .1) (c .before .before .before .before .before .before .before .before .custom-value .ensures)
+returns-4 c = let a = c .before .before .before .before .before .before .before .before .before .before .before .before .before .before .before .before .before .before .before .before .before .before .before .before .before .before .args in head-does (a .fact) _ _ (a .rule) _ (a .args .now) _ (a .head) _ (c .before .before .before .before .before .before .before .before .before .before .before .before .before .before .head4 .given .1) (c .before .before .before .before .before .before .before .before .custom-value .ensures)
 
 -- src/lib.rt:149:1
 
@@ -161,7 +161,7 @@ same-length-16 c = search needs
 -- src/lib.rt:149:1
 
 returns-5 : tie.Need-returns-5
-returns-5 c = let a = c .before .before .before .before .before .before .before .before .before .before .before .before .before .before .before .before .before .before .before .before .before .before .before .before .before .before .args in head-does (a .fact) _ _ (a .rule) _ (a .args .now) _ (a .head) _ (c .before .before .before .before .before .before .before .before .before .before .before .before .before .before .before .head5 .given .1) (by-number _ (programFor (a .job .now)) _ (a .args .now) _ (c .before .before .before .before .before .before .before .before .before .before .before .before .before .no-validator .ensures) (c .before .before .before .before .before .before .before .before .validated .ensures))
+returns-5 c = let a = c .before .before .before .before .before .before .before .before .before .before .before .before .before .before .before .before .before .before .before .before .before .before .before .before .before .before .before .args in head-does (a .fact) _ _ (a .rule) _ (a .args .now) _ (a .head) _ (c .before .before .before .before .before .before .before .before .before .before .before .before .before .before .before .head5 .given .1) (by-number _ (programFor (a .job .now)) _ (a .args .now) _ (c .before .before .before .before .before .before .before .before .before .before .before .before .before .no-validator .ensures) (c .before .before .before .before .before .before .before .before .validated .ensures))
 
 pub head-value-spec : {M : Type 1} → statement M
 head-value-spec =

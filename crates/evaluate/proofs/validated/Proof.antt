@@ -18,7 +18,7 @@ refuse1-requires : tie.Need-refuse1-requires
 refuse1-requires c κs = search needs
 
 returns : tie.Need-returns
-returns c = let a = c .before .before .before .before .before .before .before .before .before .before .before .args in let prog = programFor (a .job .now) in let q = c .before .before .before .primitive-at .result in let is : primitiveOf q ≡ primitiveAt (prog .primitives) (a .p) = c .before .before .before .primitive-at .ensures ∙ ap (primitiveAt (prog .primitives)) (c .before .before .before .before .wide .ensures) in without-validator prog (a .n) (a .p) (a .args .now) (primitiveOf q) is (c .before .before .before .before .before .before .before .before .before .before .before .pre .1 .0) _ (c .before .before .before .before .before .before .before .before .before .before .before .pre .1 .1 .1) (not-true _ (c .before .if1 .taken)) (c .refuse1 .ensures)
+returns c = let a = c .before .before .before .before .before .before .before .before .before .before .before .before .args in let prog = programFor (a .job .now) in let q = c .before .before .before .primitive-at .result in let is : primitiveOf q ≡ primitiveAt (prog .primitives) (a .p) = c .before .before .before .primitive-at .ensures ∙ ap (primitiveAt (prog .primitives)) (c .before .before .before .before .wide .ensures) in without-validator prog (a .n) (a .p) (a .args .now) (primitiveOf q) is (c .before .before .before .before .before .before .before .before .before .before .before .before .pre .1 .1 .0) _ (c .before .before .before .before .before .before .before .before .before .before .before .before .pre .1 .1 .1 .1) (not-true _ (c .before .if1 .taken)) (c .refuse1 .ensures)
 
 computed-requires : tie.Need-computed-requires
 computed-requires c κs = search needs
@@ -36,7 +36,7 @@ same-length-4 : tie.Need-same-length-4
 same-length-4 c = search needs
 
 returns-2 : tie.Need-returns-2
-returns-2 c = let a = c .before .before .before .before .before .before .before .before .before .before .before .before .before .before .before .before .before .before .before .before .before .before .before .before .before .args in let prog = programFor (a .job .now) in let q = c .before .before .before .before .before .before .before .before .before .before .before .before .before .before .before .before .before .primitive-at .result in let is : primitiveOf q ≡ primitiveAt (prog .primitives) (a .p) = c .before .before .before .before .before .before .before .before .before .before .before .before .before .before .before .before .before .primitive-at .ensures ∙ ap (primitiveAt (prog .primitives)) (c .before .before .before .before .before .before .before .before .before .before .before .before .before .before .before .before .before .before .wide .ensures) in computes-value prog (a .n) (a .p) (a .args .now) (primitiveOf q) is (not-false _ (c .before .before .before .before .before .before .before .before .before .before .before .before .before .before .before .if1 .left)) (c .before .before .before .before .before .before .before .before .before .before .before .before .before .if2 .taken) (c .before .before .before .before .before .before .before .before .computed .ensures)
+returns-2 c = let a = c .before .before .before .before .before .before .before .before .before .before .before .before .before .before .before .before .before .before .before .before .before .before .before .before .before .before .args in let prog = programFor (a .job .now) in let q = c .before .before .before .before .before .before .before .before .before .before .before .before .before .before .before .before .before .primitive-at .result in let is : primitiveOf q ≡ primitiveAt (prog .primitives) (a .p) = c .before .before .before .before .before .before .before .before .before .before .before .before .before .before .before .before .before .primitive-at .ensures ∙ ap (primitiveAt (prog .primitives)) (c .before .before .before .before .before .before .before .before .before .before .before .before .before .before .before .before .before .before .wide .ensures) in computes-value prog (a .n) (a .p) (a .args .now) (primitiveOf q) is (not-false _ (c .before .before .before .before .before .before .before .before .before .before .before .before .before .before .before .if1 .left)) (c .before .before .before .before .before .before .before .before .before .before .before .before .before .if2 .taken) (c .before .before .before .before .before .before .before .before .computed .ensures)
 
 row-value-requires : tie.Need-row-value-requires
 row-value-requires c κs = search needs
@@ -54,10 +54,10 @@ refuse1-requires-2 : tie.Need-refuse1-requires-2
 refuse1-requires-2 c κs = search needs
 
 returns-3 : tie.Need-returns-3
-returns-3 c = let a = c .before .before .before .before .before .before .before .before .before .before .before .before .before .before .before .before .before .args in let prog = programFor (a .job .now) in let q = c .before .before .before .before .before .before .before .before .before .primitive-at .result in let is : primitiveOf q ≡ primitiveAt (prog .primitives) (a .p) = c .before .before .before .before .before .before .before .before .before .primitive-at .ensures ∙ ap (primitiveAt (prog .primitives)) (c .before .before .before .before .before .before .before .before .before .before .wide .ensures) in row-some prog (a .n) (a .p) (a .args .now) (primitiveOf q) is (c .before .before .before .before .before .before .before .before .before .before .before .before .before .before .before .before .before .pre .1 .0) (not-false _ (c .before .before .before .before .before .before .before .if1 .left)) (c .before .before .before .before .before .if2 .left) (c .before .before .before .before .row-value .ensures) _ _ (ap optionOf (sym (c .before .before .t .given .1))) (c .pass .ensures)
+returns-3 c = let a = c .before .before .before .before .before .before .before .before .before .before .before .before .before .before .before .before .before .before .args in let prog = programFor (a .job .now) in let q = c .before .before .before .before .before .before .before .before .before .primitive-at .result in let is : primitiveOf q ≡ primitiveAt (prog .primitives) (a .p) = c .before .before .before .before .before .before .before .before .before .primitive-at .ensures ∙ ap (primitiveAt (prog .primitives)) (c .before .before .before .before .before .before .before .before .before .before .wide .ensures) in row-some prog (a .n) (a .p) (a .args .now) (primitiveOf q) is (c .before .before .before .before .before .before .before .before .before .before .before .before .before .before .before .before .before .before .pre .1 .1 .0) (not-false _ (c .before .before .before .before .before .before .before .if1 .left)) (c .before .before .before .before .before .if2 .left) (c .before .before .before .before .row-value .ensures) _ _ (ap optionOf (sym (c .before .before .t .given .1))) (c .pass .ensures)
 
 returns-4 : tie.Need-returns-4
-returns-4 c = let a = c .before .before .before .before .before .before .before .before .before .before .before .before .before .before .before .before .args in let prog = programFor (a .job .now) in let q = c .before .before .before .before .before .before .before .before .primitive-at .result in let is : primitiveOf q ≡ primitiveAt (prog .primitives) (a .p) = c .before .before .before .before .before .before .before .before .primitive-at .ensures ∙ ap (primitiveAt (prog .primitives)) (c .before .before .before .before .before .before .before .before .before .wide .ensures) in row-none prog (a .n) (a .p) (a .args .now) (primitiveOf q) is (c .before .before .before .before .before .before .before .before .before .before .before .before .before .before .before .before .pre .1 .0) (not-false _ (c .before .before .before .before .before .before .if1 .left)) (c .before .before .before .before .if2 .left) (c .before .before .before .row-value .ensures) _ (ap optionOf (sym (c .before .enum-told .given .1))) (c .refuse12 .ensures)
+returns-4 c = let a = c .before .before .before .before .before .before .before .before .before .before .before .before .before .before .before .before .before .args in let prog = programFor (a .job .now) in let q = c .before .before .before .before .before .before .before .before .primitive-at .result in let is : primitiveOf q ≡ primitiveAt (prog .primitives) (a .p) = c .before .before .before .before .before .before .before .before .primitive-at .ensures ∙ ap (primitiveAt (prog .primitives)) (c .before .before .before .before .before .before .before .before .before .wide .ensures) in row-none prog (a .n) (a .p) (a .args .now) (primitiveOf q) is (c .before .before .before .before .before .before .before .before .before .before .before .before .before .before .before .before .before .pre .1 .1 .0) (not-false _ (c .before .before .before .before .before .before .if1 .left)) (c .before .before .before .before .if2 .left) (c .before .before .before .row-value .ensures) _ (ap optionOf (sym (c .before .enum-told .given .1))) (c .refuse12 .ensures)
 
 pub validated-spec : {M : Type 1} → statement M
 validated-spec =

@@ -10,21 +10,21 @@ use Rattle.facts.proofs.evaluate_arguments.Statement.{statement}
 use Rattle.facts.proofs.evaluate_arguments.Tie as tie
 
 abbrev Inv-loop : tie.InvT-loop
-Inv-loop job bound pairs globals rule skinds₀ sends₀ spool₀ index₀ memo₀ e values₀ args count have₀ i₀ skinds sends spool index memo values have i =
+Inv-loop job found bound pairs globals rule skinds₀ sends₀ spool₀ index₀ memo₀ e values₀ args count have₀ i₀ skinds sends spool index memo values have i =
     Turn job rule (bindingsIn bound pairs globals) e args skinds₀ sends₀ spool₀ index₀ have₀ memo₀ values₀ skinds sends spool index have memo values i
 
 abbrev μ-loop : tie.MeasureT-loop
-μ-loop job bound pairs globals rule skinds₀ sends₀ spool₀ index₀ memo₀ e values₀ args count have₀ i₀ skinds sends spool index memo values have i =
+μ-loop job found bound pairs globals rule skinds₀ sends₀ spool₀ index₀ memo₀ e values₀ args count have₀ i₀ skinds sends spool index memo values have i =
     length args - i
 
 wide-requires : tie.Need-wide-requires Inv-loop μ-loop
 wide-requires c κs = search needs
 
 arguments-at-requires : tie.Need-arguments-at-requires Inv-loop μ-loop
-arguments-at-requires c κs = let p = c .before .before .before .before .before .before .before .before .before .before .before .pre in let w = c .wide .ensures in let h = p .1 .1 .1 .1 .0 in (p .0, omega arith)
+arguments-at-requires c κs = let p = c .before .before .before .before .before .before .before .before .before .before .before .before .pre in let w = c .wide .ensures in let h = p .1 .1 .1 .1 .1 .0 in (p .0, omega arith)
 
 loop-holds : tie.Need-loop-holds Inv-loop μ-loop
-loop-holds c = let a = c .before .before .before .before .before .before .before .before .before .before .before .before .args in let p = c .before .before .before .before .before .before .before .before .before .before .before .before .pre in arguments-start (a .job .now) (a .rule) (bindingsIn (a .bound .now) (a .pairs .now) (a .globals .now)) (c .arguments-at .ensures .is ∙ ap (argumentsFor (a .job .now)) (c .before .wide .ensures)) (p .1 .0) (p .1 .1 .1 .0)
+loop-holds c = let a = c .before .before .before .before .before .before .before .before .before .before .before .before .before .args in let p = c .before .before .before .before .before .before .before .before .before .before .before .before .before .pre in arguments-start (a .job .now) (a .rule) (bindingsIn (a .bound .now) (a .pairs .now) (a .globals .now)) (c .arguments-at .ensures .is ∙ ap (argumentsFor (a .job .now)) (c .before .wide .ensures)) (p .1 .1 .0) (p .1 .1 .1 .1 .0)
 
 mul-evaluate : tie.Need-mul-evaluate Inv-loop μ-loop
 mul-evaluate c = search needs
@@ -33,7 +33,7 @@ shared-slice-read-evaluate : tie.Need-shared-slice-read-evaluate Inv-loop μ-loo
 shared-slice-read-evaluate c = search needs
 
 evaluate-requires : tie.Need-evaluate-requires Inv-loop μ-loop
-evaluate-requires c κs = let a = c .before .before .before .before .before .before .before .before .before .before .before .before .before .before .before .before .before .before .before .before .args in let p = c .before .before .before .before .before .before .before .before .before .before .before .before .before .before .before .before .before .before .before .before .pre in let l = c .before .before .before .before .before .before .before .loop in let inv = l .inv in let x = c .before .before .before .before .before .before .before .before .arguments-at .ensures .lower (l .i) (search needs) in let w = c .before .before .before .before .before .before .before .before .before .wide .ensures in let h = p .1 .1 .1 .1 .0 in let k = inv .lenM in let long = p .1 .1 .0 in (p .0, (inv .run .grown .indexed, (omega arith, (omega arith, inv .past))))
+evaluate-requires c κs = let a = c .before .before .before .before .before .before .before .before .before .before .before .before .before .before .before .before .before .before .before .before .before .args in let p = c .before .before .before .before .before .before .before .before .before .before .before .before .before .before .before .before .before .before .before .before .before .pre in let l = c .before .before .before .before .before .before .before .loop in let inv = l .inv in let x = c .before .before .before .before .before .before .before .before .arguments-at .ensures .lower (l .i) (search needs) in let w = c .before .before .before .before .before .before .before .before .before .wide .ensures in let h = p .1 .1 .1 .1 .1 .0 in let k = inv .lenM in let long = p .1 .1 .1 .0 in (p .0, (p .1 .0, (inv .run .grown .indexed, (omega arith, (omega arith, inv .past)))))
 
 same-length : tie.Need-same-length Inv-loop μ-loop
 same-length c = c .before .before .before .before .before .before .before .before .before .before .before .before .evaluate .ensures .does .grown .lenK ∙ c .before .before .before .before .before .before .before .before .before .before .before .before .before .before .before .before .before .before .before .before .loop .inv .run .grown .lenK
@@ -48,19 +48,19 @@ same-length-4 : tie.Need-same-length-4 Inv-loop μ-loop
 same-length-4 c = c .before .before .before .before .before .before .before .before .before .before .before .before .evaluate .ensures .does .grown .lenI ∙ c .before .before .before .before .before .before .before .before .before .before .before .before .before .before .before .before .before .before .before .before .loop .inv .run .grown .lenI
 
 same-length-5 : tie.Need-same-length-5 Inv-loop μ-loop
-same-length-5 c = c .before .before .before .before .before .before .before .before .before .before .before .before .evaluate .kept .1 .1 .1 .1 .1 .1 .1 .1 .1 .1 .1 .0 ∙ c .before .before .before .before .before .before .before .before .before .before .before .before .before .before .before .before .before .before .before .before .loop .inv .lenM
+same-length-5 c = c .before .before .before .before .before .before .before .before .before .before .before .before .evaluate .kept .1 .1 .1 .1 .1 .1 .1 .1 .1 .1 .1 .1 .0 ∙ c .before .before .before .before .before .before .before .before .before .before .before .before .before .before .before .before .before .before .before .before .loop .inv .lenM
 
 same-length-6 : tie.Need-same-length-6 Inv-loop μ-loop
 same-length-6 c = c .before .before .before .before .before .before .before .before .before .before .before .before .before .before .before .before .before .before .before .before .loop .inv .lenV
 
 returns : tie.Need-returns Inv-loop μ-loop
-returns c = let a = c .before .before .before .before .before .before .before .before .before .before .before .before .before .before .before .before .before .before .before .before .before .before .before .before .before .before .before .before .before .before .before .before .before .args in let p = c .before .before .before .before .before .before .before .before .before .before .before .before .before .before .before .before .before .before .before .before .before .before .before .before .before .before .before .before .before .before .before .before .before .pre in arguments-stop (a .job .now) (a .rule) (bindingsIn (a .bound .now) (a .pairs .now) (a .globals .now)) (c .before .before .before .before .before .before .before .before .before .before .before .before .before .before .before .before .before .before .before .before .loop .inv) (c .before .before .before .before .before .before .before .before .before .before .before .before .before .before .before .before .before .before .before .loop-test .taken) (c .before .before .before .before .before .before .before .before .before .before .before .before .evaluate .ensures) _ (c .if1 .taken)
+returns c = let a = c .before .before .before .before .before .before .before .before .before .before .before .before .before .before .before .before .before .before .before .before .before .before .before .before .before .before .before .before .before .before .before .before .before .before .args in let p = c .before .before .before .before .before .before .before .before .before .before .before .before .before .before .before .before .before .before .before .before .before .before .before .before .before .before .before .before .before .before .before .before .before .before .pre in arguments-stop (a .job .now) (a .rule) (bindingsIn (a .bound .now) (a .pairs .now) (a .globals .now)) (c .before .before .before .before .before .before .before .before .before .before .before .before .before .before .before .before .before .before .before .before .loop .inv) (c .before .before .before .before .before .before .before .before .before .before .before .before .before .before .before .before .before .before .before .loop-test .taken) (c .before .before .before .before .before .before .before .before .before .before .before .before .evaluate .ensures) _ (c .if1 .taken)
 
 mul-values : tie.Need-mul-values Inv-loop μ-loop
 mul-values c = let i = c .before .before .before .before .before .before .before .before .before .before .before .before .before .before .before .before .before .before .before .loop-test .taken in let f = c .before .before .before .before .before .before .before .before .before .before .before .before .before .before .before .before .before .before .before .before .before .arguments-at .ensures .few in record { fits = omega arith }
 
 slice-write-values : tie.Need-slice-write-values Inv-loop μ-loop
-slice-write-values c = let f = c .before .before .before .before .before .before .before .before .before .before .before .before .before .before .before .before .before .before .before .before .before .arguments-at .ensures .few in let v = c .before .before .before .before .before .before .before .before .before .before .before .before .before .before .before .before .before .before .before .before .loop .inv .lenV in let t = c .before .before .before .before .before .before .before .before .before .before .before .before .before .before .before .before .before .before .before .loop-test .taken in let h = c .before .before .before .before .before .before .before .before .before .before .before .before .before .before .before .before .before .before .before .before .before .before .before .before .before .before .before .before .before .before .before .before .before .pre .1 .1 .1 .1 .1 in omega arith
+slice-write-values c = let f = c .before .before .before .before .before .before .before .before .before .before .before .before .before .before .before .before .before .before .before .before .before .arguments-at .ensures .few in let v = c .before .before .before .before .before .before .before .before .before .before .before .before .before .before .before .before .before .before .before .before .loop .inv .lenV in let t = c .before .before .before .before .before .before .before .before .before .before .before .before .before .before .before .before .before .before .before .loop-test .taken in let h = c .before .before .before .before .before .before .before .before .before .before .before .before .before .before .before .before .before .before .before .before .before .before .before .before .before .before .before .before .before .before .before .before .before .before .pre .1 .1 .1 .1 .1 .1 in omega arith
 
 add-i : tie.Need-add-i Inv-loop μ-loop
 add-i c = let i = c .before .before .before .before .before .before .before .before .before .before .before .before .before .before .before .before .before .before .before .before .loop-test .taken in let f = c .before .before .before .before .before .before .before .before .before .before .before .before .before .before .before .before .before .before .before .before .before .before .arguments-at .ensures .few in record { fits = omega arith }
@@ -69,7 +69,7 @@ loop-less : tie.Need-loop-less Inv-loop μ-loop
 loop-less c = search needs
 
 loop-again : tie.Need-loop-again Inv-loop μ-loop
-loop-again c = let a = c .before .before .before .before .before .before .before .before .before .before .before .before .before .before .before .before .before .before .before .before .before .before .before .before .before .before .before .before .before .before .before .before .before .before .args in let p = c .before .before .before .before .before .before .before .before .before .before .before .before .before .before .before .before .before .before .before .before .before .before .before .before .before .before .before .before .before .before .before .before .before .before .pre in arguments-turn (a .job .now) (a .rule) (bindingsIn (a .bound .now) (a .pairs .now) (a .globals .now)) (c .before .before .before .before .before .before .before .before .before .before .before .before .before .before .before .before .before .before .before .before .before .loop .inv) (c .before .before .before .before .before .before .before .before .before .before .before .before .before .before .before .before .before .before .before .before .loop-test .taken) (c .before .before .before .before .before .before .before .before .before .before .before .before .before .evaluate .ensures) (let f = c .before .before .before .before .before .before .before .before .before .before .before .before .before .before .before .before .before .before .before .before .before .before .arguments-at .ensures .few in let v = c .before .before .before .before .before .before .before .before .before .before .before .before .before .before .before .before .before .before .before .before .before .loop .inv .lenV in let t = c .before .before .before .before .before .before .before .before .before .before .before .before .before .before .before .before .before .before .before .before .loop-test .taken in let h = p .1 .1 .1 .1 .1 in omega arith) (c .before .before .before .before .before .before .before .before .before .before .before .before .before .evaluate .kept .1 .1 .1 .1 .1 .1 .1 .1 .1 .1 .1 .0) (c .before .if1 .left)
+loop-again c = let a = c .before .before .before .before .before .before .before .before .before .before .before .before .before .before .before .before .before .before .before .before .before .before .before .before .before .before .before .before .before .before .before .before .before .before .before .args in let p = c .before .before .before .before .before .before .before .before .before .before .before .before .before .before .before .before .before .before .before .before .before .before .before .before .before .before .before .before .before .before .before .before .before .before .before .pre in arguments-turn (a .job .now) (a .rule) (bindingsIn (a .bound .now) (a .pairs .now) (a .globals .now)) (c .before .before .before .before .before .before .before .before .before .before .before .before .before .before .before .before .before .before .before .before .before .loop .inv) (c .before .before .before .before .before .before .before .before .before .before .before .before .before .before .before .before .before .before .before .before .loop-test .taken) (c .before .before .before .before .before .before .before .before .before .before .before .before .before .evaluate .ensures) (let f = c .before .before .before .before .before .before .before .before .before .before .before .before .before .before .before .before .before .before .before .before .before .before .arguments-at .ensures .few in let v = c .before .before .before .before .before .before .before .before .before .before .before .before .before .before .before .before .before .before .before .before .before .loop .inv .lenV in let t = c .before .before .before .before .before .before .before .before .before .before .before .before .before .before .before .before .before .before .before .before .loop-test .taken in let h = p .1 .1 .1 .1 .1 .1 in omega arith) (c .before .before .before .before .before .before .before .before .before .before .before .before .before .evaluate .kept .1 .1 .1 .1 .1 .1 .1 .1 .1 .1 .1 .1 .0) (c .before .if1 .left)
 
 pass-requires : tie.Need-pass-requires Inv-loop μ-loop
 pass-requires c κs = search needs
@@ -93,7 +93,7 @@ same-length-12 : tie.Need-same-length-12 Inv-loop μ-loop
 same-length-12 c = c .before .before .loop .inv .lenV
 
 returns-2 : tie.Need-returns-2 Inv-loop μ-loop
-returns-2 c = let a = c .before .before .before .before .before .before .before .before .before .before .before .before .before .before .before .args in let p = c .before .before .before .before .before .before .before .before .before .before .before .before .before .before .before .pre in arguments-done (a .job .now) (a .rule) (bindingsIn (a .bound .now) (a .pairs .now) (a .globals .now)) (c .before .before .loop .inv) (c .before .before .before .arguments-at .ensures .is ∙ ap (argumentsFor (a .job .now)) (c .before .before .before .before .wide .ensures)) (c .before .loop-test .left) (c .pass .ensures)
+returns-2 c = let a = c .before .before .before .before .before .before .before .before .before .before .before .before .before .before .before .before .args in let p = c .before .before .before .before .before .before .before .before .before .before .before .before .before .before .before .before .pre in arguments-done (a .job .now) (a .rule) (bindingsIn (a .bound .now) (a .pairs .now) (a .globals .now)) (c .before .before .loop .inv) (c .before .before .before .arguments-at .ensures .is ∙ ap (argumentsFor (a .job .now)) (c .before .before .before .before .wide .ensures)) (c .before .loop-test .left) (c .pass .ensures)
 
 pub evaluate-arguments-spec : {M : Type 1} → statement M
 evaluate-arguments-spec =

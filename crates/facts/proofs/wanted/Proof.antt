@@ -17,13 +17,13 @@ enum-known-fact : tie.Need-enum-known-fact
 enum-known-fact c = search needs
 
 wanted-equality-requires : tie.Need-wanted-equality-requires
-wanted-equality-requires c κs = let p = c .before .before .before .before .before .before .before .before .before .before .before .before .before .before .before .before .before .before .before .pre in let b = c .before .before .before .before .before .before .before .before .fact-at .ensures .equal (c .before .before .before .before .before .before .fact .given .0 .0) (c .before .before .before .before .before .before .fact .given .0 .1 .0) (c .before .before .before .before .before .before .fact .given .1) in (p .0, (p .1 .0, (p .1 .1 .0, (p .1 .1 .1 .0, (b .0, b .1)))))
+wanted-equality-requires c κs = let p = c .before .before .before .before .before .before .before .before .before .before .before .before .before .before .before .before .before .before .before .before .pre in let b = c .before .before .before .before .before .before .before .before .fact-at .ensures .equal (c .before .before .before .before .before .before .fact .given .0 .0) (c .before .before .before .before .before .before .fact .given .0 .1 .0) (c .before .before .before .before .before .before .fact .given .1) in (p .0, (p .1 .0, (p .1 .1 .0, (p .1 .1 .1 .0, (p .1 .1 .1 .1 .0, (b .0, b .1))))))
 
 enum-known-fact-2 : tie.Need-enum-known-fact-2
 enum-known-fact-2 c = search needs
 
 wanted-bare-requires : tie.Need-wanted-bare-requires
-wanted-bare-requires c κs = let p = c .before .before .before .before .before .before .before .before .before .before .before .before .before .before .before .before .before .before .before .pre in (p .0, (p .1 .0, (p .1 .1 .0, (p .1 .1 .1 .0, c .before .before .before .before .before .before .before .before .fact-at .ensures .bare (c .before .before .before .before .before .before .fact2 .given .0 .0) (c .before .before .before .before .before .before .fact2 .given .1)))))
+wanted-bare-requires c κs = let p = c .before .before .before .before .before .before .before .before .before .before .before .before .before .before .before .before .before .before .before .before .pre in (p .0, (p .1 .0, (p .1 .1 .0, (p .1 .1 .1 .0, (p .1 .1 .1 .1 .0, c .before .before .before .before .before .before .before .before .fact-at .ensures .bare (c .before .before .before .before .before .before .fact2 .given .0 .0) (c .before .before .before .before .before .before .fact2 .given .1))))))
 
 same-length : tie.Need-same-length
 same-length c = search needs
@@ -41,7 +41,7 @@ same-length-5 : tie.Need-same-length-5
 same-length-5 c = search needs
 
 returns : tie.Need-returns
-returns c = let a = c .before .before .before .before .before .before .before .before .before .before .before .before .before .before .before .before .before .before .before .before .before .before .before .before .before .before .before .before .before .before .args in let pre = c .before .before .before .before .before .before .before .before .before .before .before .before .before .before .before .before .before .before .before .before .before .before .before .before .before .before .before .before .before .before .pre in let prog = programFor (a .job .now) in let σ = bindingsIn (a .bound .now) (a .pairs .now) (a .globals .now) in let expr = exprFor (a .job .now) in wanted-as prog (a .rule) σ (fact-by (c .before .before .before .before .before .before .before .before .before .before .before .before .before .before .before .before .before .before .before .fact-at .ensures) (c .before .before .before .before .before .before .before .before .before .before .before .before .before .before .before .before .before .before .before .before .wide .ensures) (c .before .before .before .before .before .before .before .before .before .before .before .before .before .before .before .before .before .fact .given .1)) (c .before .before .before .before .before .before .before .before .before .before .wanted-equality .ensures)
+returns c = let a = c .before .before .before .before .before .before .before .before .before .before .before .before .before .before .before .before .before .before .before .before .before .before .before .before .before .before .before .before .before .before .before .args in let pre = c .before .before .before .before .before .before .before .before .before .before .before .before .before .before .before .before .before .before .before .before .before .before .before .before .before .before .before .before .before .before .before .pre in let prog = programFor (a .job .now) in let σ = bindingsIn (a .bound .now) (a .pairs .now) (a .globals .now) in let expr = exprFor (a .job .now) in wanted-as prog (a .rule) σ (fact-by (c .before .before .before .before .before .before .before .before .before .before .before .before .before .before .before .before .before .before .before .fact-at .ensures) (c .before .before .before .before .before .before .before .before .before .before .before .before .before .before .before .before .before .before .before .before .wide .ensures) (c .before .before .before .before .before .before .before .before .before .before .before .before .before .before .before .before .before .fact .given .1)) (c .before .before .before .before .before .before .before .before .before .before .wanted-equality .ensures)
 
 same-length-6 : tie.Need-same-length-6
 same-length-6 c = search needs
@@ -59,7 +59,7 @@ same-length-10 : tie.Need-same-length-10
 same-length-10 c = search needs
 
 returns-2 : tie.Need-returns-2
-returns-2 c = let a = c .before .before .before .before .before .before .before .before .before .before .before .before .before .before .before .before .before .before .before .before .before .before .before .before .before .before .before .before .before .before .args in let pre = c .before .before .before .before .before .before .before .before .before .before .before .before .before .before .before .before .before .before .before .before .before .before .before .before .before .before .before .before .before .before .pre in let prog = programFor (a .job .now) in let σ = bindingsIn (a .bound .now) (a .pairs .now) (a .globals .now) in let expr = exprFor (a .job .now) in wanted-as prog (a .rule) σ (fact-by (c .before .before .before .before .before .before .before .before .before .before .before .before .before .before .before .before .before .before .before .fact-at .ensures) (c .before .before .before .before .before .before .before .before .before .before .before .before .before .before .before .before .before .before .before .before .wide .ensures) (c .before .before .before .before .before .before .before .before .before .before .before .before .before .before .before .before .before .fact2 .given .1)) (c .before .before .before .before .before .before .before .before .before .before .wanted-bare .ensures)
+returns-2 c = let a = c .before .before .before .before .before .before .before .before .before .before .before .before .before .before .before .before .before .before .before .before .before .before .before .before .before .before .before .before .before .before .before .args in let pre = c .before .before .before .before .before .before .before .before .before .before .before .before .before .before .before .before .before .before .before .before .before .before .before .before .before .before .before .before .before .before .before .pre in let prog = programFor (a .job .now) in let σ = bindingsIn (a .bound .now) (a .pairs .now) (a .globals .now) in let expr = exprFor (a .job .now) in wanted-as prog (a .rule) σ (fact-by (c .before .before .before .before .before .before .before .before .before .before .before .before .before .before .before .before .before .before .before .fact-at .ensures) (c .before .before .before .before .before .before .before .before .before .before .before .before .before .before .before .before .before .before .before .before .wide .ensures) (c .before .before .before .before .before .before .before .before .before .before .before .before .before .before .before .before .before .fact2 .given .1)) (c .before .before .before .before .before .before .before .before .before .before .wanted-bare .ensures)
 
 pub wanted-spec : {M : Type 1} → statement M
 wanted-spec =

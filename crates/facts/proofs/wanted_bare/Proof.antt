@@ -8,7 +8,7 @@ use Rattle.facts.proofs.wanted_bare.Statement.{statement}
 use Rattle.facts.proofs.wanted_bare.Tie as tie
 
 evaluate-requires : tie.Need-evaluate-requires
-evaluate-requires c κs = let p = c .before .before .before .before .before .before .before .before .before .before .before .before .before .before .pre in (p .0, (p .1 .0, (p .1 .1 .1 .1, (p .1 .1 .0, p .1 .1 .1 .0))))
+evaluate-requires c κs = let p = c .before .before .before .before .before .before .before .before .before .before .before .before .before .before .before .pre in (p .0, (p .1 .0, (p .1 .1 .0, (p .1 .1 .1 .1 .1, (p .1 .1 .1 .0, p .1 .1 .1 .1 .0)))))
 
 asks-requires : tie.Need-asks-requires
 asks-requires c κs = search needs
@@ -29,7 +29,7 @@ same-length-5 : tie.Need-same-length-5
 same-length-5 c = search needs
 
 returns : tie.Need-returns
-returns c = let a = c .before .before .before .before .before .before .before .before .before .before .before .before .before .before .before .before .before .before .before .before .before .before .before .before .before .before .args in let pre = c .before .before .before .before .before .before .before .before .before .before .before .before .before .before .before .before .before .before .before .before .before .before .before .before .before .before .pre in let prog = programFor (a .job .now) in let σ = bindingsIn (a .bound .now) (a .pairs .now) (a .globals .now) in let expr = exprFor (a .job .now) in bare-asks prog (a .rule) σ (a .i) (expr (a .e)) (c .before .before .before .before .before .before .before .before .before .before .before .evaluate .result) (checks-value (c .before .before .before .before .before .before .before .before .before .before .before .evaluate .ensures)) (c .asks .ensures)
+returns c = let a = c .before .before .before .before .before .before .before .before .before .before .before .before .before .before .before .before .before .before .before .before .before .before .before .before .before .before .before .args in let pre = c .before .before .before .before .before .before .before .before .before .before .before .before .before .before .before .before .before .before .before .before .before .before .before .before .before .before .before .pre in let prog = programFor (a .job .now) in let σ = bindingsIn (a .bound .now) (a .pairs .now) (a .globals .now) in let expr = exprFor (a .job .now) in bare-asks prog (a .rule) σ (a .i) (expr (a .e)) (c .before .before .before .before .before .before .before .before .before .before .before .evaluate .result) (checks-value (c .before .before .before .before .before .before .before .before .before .before .before .evaluate .ensures)) (c .asks .ensures)
 
 pub wanted-bare-spec : {M : Type 1} → statement M
 wanted-bare-spec =

@@ -13,7 +13,7 @@ enum-known-call : tie.Need-enum-known-call
 enum-known-call c = search needs
 
 wanted-call-requires : tie.Need-wanted-call-requires
-wanted-call-requires c κs = let p = c .before .before .before .before .before .before .before .before .before .before .before .before .before .before .before .before .before .before .pre in (p .0, (p .1 .0, (p .1 .1 .0, (p .1 .1 .1 .0, p .1 .1 .1 .1 .0))))
+wanted-call-requires c κs = let p = c .before .before .before .before .before .before .before .before .before .before .before .before .before .before .before .before .before .before .before .pre in (p .0, (p .1 .0, (p .1 .1 .0, (p .1 .1 .1 .0, (p .1 .1 .1 .1 .0, p .1 .1 .1 .1 .1 .0)))))
 
 enum-told : tie.Need-enum-told
 enum-told c = search needs
@@ -37,7 +37,7 @@ same-length-5 : tie.Need-same-length-5
 same-length-5 c = search needs
 
 returns : tie.Need-returns
-returns c = let a = c .before .before .before .before .before .before .before .before .before .before .before .before .before .before .before .before .before .before .before .before .before .before .before .before .before .before .before .before .before .args in let pre = c .before .before .before .before .before .before .before .before .before .before .before .before .before .before .before .before .before .before .before .before .before .before .before .before .before .before .before .before .before .pre in let prog = programFor (a .job .now) in let σ = bindingsIn (a .bound .now) (a .pairs .now) (a .globals .now) in let expr = exprFor (a .job .now) in equality-asks prog (a .rule) σ (a .i) (expr (a .left)) (expr (a .right)) (c .before .before .before .before .before .before .before .before .before .before .before .before .before .before .before .before .before .before .before .function-fact .ensures) (c .before .before .before .before .before .before .before .before .before .before .before .before .before .before .before .before .before .call .given .1) (c .before .before .before .before .before .before .before .before .before .before .wanted-call .ensures (expr (a .right)))
+returns c = let a = c .before .before .before .before .before .before .before .before .before .before .before .before .before .before .before .before .before .before .before .before .before .before .before .before .before .before .before .before .before .before .args in let pre = c .before .before .before .before .before .before .before .before .before .before .before .before .before .before .before .before .before .before .before .before .before .before .before .before .before .before .before .before .before .before .pre in let prog = programFor (a .job .now) in let σ = bindingsIn (a .bound .now) (a .pairs .now) (a .globals .now) in let expr = exprFor (a .job .now) in equality-asks prog (a .rule) σ (a .i) (expr (a .left)) (expr (a .right)) (c .before .before .before .before .before .before .before .before .before .before .before .before .before .before .before .before .before .before .before .function-fact .ensures) (c .before .before .before .before .before .before .before .before .before .before .before .before .before .before .before .before .before .call .given .1) (c .before .before .before .before .before .before .before .before .before .before .wanted-call .ensures (expr (a .right)))
 
 same-length-6 : tie.Need-same-length-6
 same-length-6 c = search needs
@@ -55,7 +55,7 @@ same-length-10 : tie.Need-same-length-10
 same-length-10 c = search needs
 
 returns-2 : tie.Need-returns-2
-returns-2 c = let a = c .before .before .before .before .before .before .before .before .before .before .before .before .before .before .before .before .before .before .before .before .before .before .before .before .before .before .before .before .args in let pre = c .before .before .before .before .before .before .before .before .before .before .before .before .before .before .before .before .before .before .before .before .before .before .before .before .before .before .before .before .pre in let prog = programFor (a .job .now) in let σ = bindingsIn (a .bound .now) (a .pairs .now) (a .globals .now) in let expr = exprFor (a .job .now) in equality-asks prog (a .rule) σ (a .i) (expr (a .left)) (expr (a .right)) (c .before .before .before .before .before .before .before .before .before .before .before .before .before .before .before .before .before .before .function-fact .ensures) (c .before .before .before .before .before .before .before .before .before .before .before .before .before .before .before .before .enum-told .given .1) (c .before .before .before .before .before .before .before .before .before .before .wanted-values .ensures)
+returns-2 c = let a = c .before .before .before .before .before .before .before .before .before .before .before .before .before .before .before .before .before .before .before .before .before .before .before .before .before .before .before .before .before .args in let pre = c .before .before .before .before .before .before .before .before .before .before .before .before .before .before .before .before .before .before .before .before .before .before .before .before .before .before .before .before .before .pre in let prog = programFor (a .job .now) in let σ = bindingsIn (a .bound .now) (a .pairs .now) (a .globals .now) in let expr = exprFor (a .job .now) in equality-asks prog (a .rule) σ (a .i) (expr (a .left)) (expr (a .right)) (c .before .before .before .before .before .before .before .before .before .before .before .before .before .before .before .before .before .before .function-fact .ensures) (c .before .before .before .before .before .before .before .before .before .before .before .before .before .before .before .before .enum-told .given .1) (c .before .before .before .before .before .before .before .before .before .before .wanted-values .ensures)
 
 pub wanted-equality-spec : {M : Type 1} → statement M
 wanted-equality-spec =

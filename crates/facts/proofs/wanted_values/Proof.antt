@@ -10,7 +10,7 @@ use Rattle.facts.proofs.wanted_values.Statement.{statement}
 use Rattle.facts.proofs.wanted_values.Tie as tie
 
 evaluate-requires : tie.Need-evaluate-requires
-evaluate-requires c κs = let p = c .before .before .before .before .before .before .before .before .before .before .before .before .before .before .pre in (p .0, (p .1 .0, (p .1 .1 .1 .1 .0, (p .1 .1 .0, p .1 .1 .1 .0))))
+evaluate-requires c κs = let p = c .before .before .before .before .before .before .before .before .before .before .before .before .before .before .before .pre in (p .0, (p .1 .0, (p .1 .1 .0, (p .1 .1 .1 .1 .1 .0, (p .1 .1 .1 .0, p .1 .1 .1 .1 .0)))))
 
 asks-requires : tie.Need-asks-requires
 asks-requires c κs = search needs
@@ -31,10 +31,10 @@ same-length-5 : tie.Need-same-length-5
 same-length-5 c = search needs
 
 returns : tie.Need-returns
-returns c = let a = c .before .before .before .before .before .before .before .before .before .before .before .before .before .before .before .before .before .before .before .before .before .before .before .before .before .before .before .before .args in let pre = c .before .before .before .before .before .before .before .before .before .before .before .before .before .before .before .before .before .before .before .before .before .before .before .before .before .before .before .before .pre in let prog = programFor (a .job .now) in let σ = bindingsIn (a .bound .now) (a .pairs .now) (a .globals .now) in let expr = exprFor (a .job .now) in values-refused prog (a .rule) σ (expr (a .left)) (expr (a .right)) (c .before .before .before .before .before .before .before .before .before .before .before .before .before .evaluate .result) (checks-value (c .before .before .before .before .before .before .before .before .before .before .before .before .before .evaluate .ensures)) (c .before .if1 .taken) (c .asks .ensures)
+returns c = let a = c .before .before .before .before .before .before .before .before .before .before .before .before .before .before .before .before .before .before .before .before .before .before .before .before .before .before .before .before .before .args in let pre = c .before .before .before .before .before .before .before .before .before .before .before .before .before .before .before .before .before .before .before .before .before .before .before .before .before .before .before .before .before .pre in let prog = programFor (a .job .now) in let σ = bindingsIn (a .bound .now) (a .pairs .now) (a .globals .now) in let expr = exprFor (a .job .now) in values-refused prog (a .rule) σ (expr (a .left)) (expr (a .right)) (c .before .before .before .before .before .before .before .before .before .before .before .before .before .evaluate .result) (checks-value (c .before .before .before .before .before .before .before .before .before .before .before .before .before .evaluate .ensures)) (c .before .if1 .taken) (c .asks .ensures)
 
 evaluate-requires-2 : tie.Need-evaluate-requires-2
-evaluate-requires-2 c κs = let p = c .before .before .before .before .before .before .before .before .before .before .before .before .before .before .before .before .before .before .before .before .before .before .before .before .before .before .before .before .before .before .before .before .pre in let e = c .before .before .before .before .before .before .before .before .before .before .before .before .before .before .before .before .before .evaluate in (p .0, (e .ensures .does .grown .indexed, (p .1 .1 .1 .1 .1, (let k = e .kept .1 .1 .1 .1 .1 .1 .1 .1 .1 .1 .0 in let h = p .1 .1 .0 in omega arith, e .ensures .past (c .before .before .before .before .before .if1 .left)))))
+evaluate-requires-2 c κs = let p = c .before .before .before .before .before .before .before .before .before .before .before .before .before .before .before .before .before .before .before .before .before .before .before .before .before .before .before .before .before .before .before .before .before .pre in let e = c .before .before .before .before .before .before .before .before .before .before .before .before .before .before .before .before .before .evaluate in (p .0, (p .1 .0, (e .ensures .does .grown .indexed, (p .1 .1 .1 .1 .1 .1, (let k = e .kept .1 .1 .1 .1 .1 .1 .1 .1 .1 .1 .1 .0 in let h = p .1 .1 .1 .0 in omega arith, e .ensures .past (c .before .before .before .before .before .if1 .left))))))
 
 asks-requires-2 : tie.Need-asks-requires-2
 asks-requires-2 c κs = search needs
@@ -52,10 +52,10 @@ same-length-9 : tie.Need-same-length-9
 same-length-9 c = c .before .before .before .before .before .before .before .before .before .before .before .evaluate2 .ensures .does .grown .lenI ∙ c .before .before .before .before .before .before .before .before .before .before .before .before .before .before .before .before .before .before .before .before .before .before .before .before .before .before .before .before .before .evaluate .ensures .does .grown .lenI
 
 same-length-10 : tie.Need-same-length-10
-same-length-10 c = c .before .before .before .before .before .before .before .before .before .before .before .evaluate2 .kept .1 .1 .1 .1 .1 .1 .1 .1 .1 .1 .1 .0 ∙ c .before .before .before .before .before .before .before .before .before .before .before .before .before .before .before .before .before .before .before .before .before .before .before .before .before .before .before .before .before .evaluate .kept .1 .1 .1 .1 .1 .1 .1 .1 .1 .1 .1 .0
+same-length-10 c = c .before .before .before .before .before .before .before .before .before .before .before .evaluate2 .kept .1 .1 .1 .1 .1 .1 .1 .1 .1 .1 .1 .1 .0 ∙ c .before .before .before .before .before .before .before .before .before .before .before .before .before .before .before .before .before .before .before .before .before .before .before .before .before .before .before .before .before .evaluate .kept .1 .1 .1 .1 .1 .1 .1 .1 .1 .1 .1 .1 .0
 
 returns-2 : tie.Need-returns-2
-returns-2 c = let a = c .before .before .before .before .before .before .before .before .before .before .before .before .before .before .before .before .before .before .before .before .before .before .before .before .before .before .before .before .before .before .before .before .before .before .before .before .before .before .before .before .before .before .before .before .args in let pre = c .before .before .before .before .before .before .before .before .before .before .before .before .before .before .before .before .before .before .before .before .before .before .before .before .before .before .before .before .before .before .before .before .before .before .before .before .before .before .before .before .before .before .before .before .pre in let prog = programFor (a .job .now) in let σ = bindingsIn (a .bound .now) (a .pairs .now) (a .globals .now) in let expr = exprFor (a .job .now) in values-ask prog (a .rule) σ (expr (a .left)) (expr (a .right)) (c .before .before .before .before .before .before .before .before .before .before .before .before .before .before .before .before .before .before .before .before .before .before .before .before .before .before .before .before .before .evaluate .result) (checks-value (c .before .before .before .before .before .before .before .before .before .before .before .before .before .before .before .before .before .before .before .before .before .before .before .before .before .before .before .before .before .evaluate .ensures)) (c .before .before .before .before .before .before .before .before .before .before .before .evaluate2 .result) (c .before .before .before .before .before .before .before .before .before .before .before .before .before .before .before .before .before .if1 .left) (checks-value (c .before .before .before .before .before .before .before .before .before .before .before .evaluate2 .ensures)) (c .asks2 .ensures)
+returns-2 c = let a = c .before .before .before .before .before .before .before .before .before .before .before .before .before .before .before .before .before .before .before .before .before .before .before .before .before .before .before .before .before .before .before .before .before .before .before .before .before .before .before .before .before .before .before .before .before .args in let pre = c .before .before .before .before .before .before .before .before .before .before .before .before .before .before .before .before .before .before .before .before .before .before .before .before .before .before .before .before .before .before .before .before .before .before .before .before .before .before .before .before .before .before .before .before .before .pre in let prog = programFor (a .job .now) in let σ = bindingsIn (a .bound .now) (a .pairs .now) (a .globals .now) in let expr = exprFor (a .job .now) in values-ask prog (a .rule) σ (expr (a .left)) (expr (a .right)) (c .before .before .before .before .before .before .before .before .before .before .before .before .before .before .before .before .before .before .before .before .before .before .before .before .before .before .before .before .before .evaluate .result) (checks-value (c .before .before .before .before .before .before .before .before .before .before .before .before .before .before .before .before .before .before .before .before .before .before .before .before .before .before .before .before .before .evaluate .ensures)) (c .before .before .before .before .before .before .before .before .before .before .before .evaluate2 .result) (c .before .before .before .before .before .before .before .before .before .before .before .before .before .before .before .before .before .if1 .left) (checks-value (c .before .before .before .before .before .before .before .before .before .before .before .evaluate2 .ensures)) (c .asks2 .ensures)
 
 pub wanted-values-spec : {M : Type 1} → statement M
 wanted-values-spec =

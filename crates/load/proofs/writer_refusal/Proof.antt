@@ -11,10 +11,10 @@ use Rattle.load.proofs.writer_refusal.Statement.{statement}
 use Rattle.load.proofs.writer_refusal.Tie as tie
 
 abbrev Inv-loop : tie.InvT-loop
-Inv-loop kinds ends pool z distinct sound round₀ round = (round ≤ 4) × (firstRefusal (writerTests (sizesIn z) (tablesFor kinds ends pool z)) ≡ firstRefusal (drop round (writerTests (sizesIn z) (tablesFor kinds ends pool z))))
+Inv-loop kinds ends pool z distinct multiplier sound round₀ round = (round ≤ 4) × (firstRefusal (writerTests (sizesIn z) (tablesFor kinds ends pool z)) ≡ firstRefusal (drop round (writerTests (sizesIn z) (tablesFor kinds ends pool z))))
 
 abbrev μ-loop : tie.MeasureT-loop
-μ-loop kinds ends pool z distinct sound round₀ round = 4 - round
+μ-loop kinds ends pool z distinct multiplier sound round₀ round = 4 - round
 
 passing-terms-requires : tie.Need-passing-terms-requires Inv-loop μ-loop
 passing-terms-requires c κs = search needs
@@ -31,8 +31,8 @@ first-marked-requires c κs = let h = c .before .before .before .before .before 
 enum-known-f : tie.Need-enum-known-f Inv-loop μ-loop
 enum-known-f c = search needs
 
-add-t12 : tie.Need-add-t12 Inv-loop μ-loop
-add-t12 c = omega arith
+add-t13 : tie.Need-add-t13 Inv-loop μ-loop
+add-t13 c = omega arith
 
 returns : tie.Need-returns Inv-loop μ-loop
 returns c = let a = c .before .before .before .before .before .before .before .before .before .before .before .args in
@@ -78,7 +78,7 @@ writer-refusal-spec =
     wide-requires
     first-marked-requires
     enum-known-f
-    add-t12
+    add-t13
     returns
     enum-told
     add-round

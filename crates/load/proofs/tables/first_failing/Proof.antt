@@ -15,10 +15,10 @@ use Rattle.load.proofs.tables.first_failing.Statement.{statement}
 use Rattle.load.proofs.tables.first_failing.Tie as tie
 
 abbrev Inv-loop : tie.InvT-loop
-Inv-loop kinds ends pool z distinct sound round table first count i₀ i = (i ≤ count) × (firstFound first (failsFrom 0 (getD (testsFor round (sizesIn z) (tablesFor kinds ends pool z)) table passed) (getD (tableList (tablesFor kinds ends pool z)) table [])) ≡ firstFound (first + i) (failsFrom i (getD (testsFor round (sizesIn z) (tablesFor kinds ends pool z)) table passed) (drop i (getD (tableList (tablesFor kinds ends pool z)) table []))))
+Inv-loop kinds ends pool z distinct sound multiplier round table first count i₀ i = (i ≤ count) × (firstFound first (failsFrom 0 (getD (testsFor round (sizesIn z) (tablesFor kinds ends pool z)) table passed) (getD (tableList (tablesFor kinds ends pool z)) table [])) ≡ firstFound (first + i) (failsFrom i (getD (testsFor round (sizesIn z) (tablesFor kinds ends pool z)) table passed) (drop i (getD (tableList (tablesFor kinds ends pool z)) table []))))
 
 abbrev μ-loop : tie.MeasureT-loop
-μ-loop kinds ends pool z distinct sound round table first count i₀ i = count - i
+μ-loop kinds ends pool z distinct sound multiplier round table first count i₀ i = count - i
 
 passed-first-requires : tie.Need-passed-first-requires Inv-loop μ-loop
 passed-first-requires c κs = search needs
@@ -44,8 +44,8 @@ loop-holds c = let s = c .before .before .before .before in
 passes-requires : tie.Need-passes-requires Inv-loop μ-loop
 passes-requires c κs = let s = c .before .before .before .before .before .before in (s .pre .0, record { table = s .pre .1 .0; first = s .pre .1 .1 .0; inside = omega (arith, s .pre .1 .1 .1 .0) })
 
-add-t14 : tie.Need-add-t14 Inv-loop μ-loop
-add-t14 c = let s = c .before .before .before .before .before .before .before .before in omega (arith, place-inside (sizesIn (s .args .z)) (s .args .table) (c .before .before .before .loop .i) (s .pre .1 .0) (omega (arith, s .pre .1 .1 .1 .0)), s .pre .1 .1 .0)
+add-t15 : tie.Need-add-t15 Inv-loop μ-loop
+add-t15 c = let s = c .before .before .before .before .before .before .before .before in omega (arith, place-inside (sizesIn (s .args .z)) (s .args .table) (c .before .before .before .loop .i) (s .pre .1 .0) (omega (arith, s .pre .1 .1 .1 .0)), s .pre .1 .1 .0)
 
 returns : tie.Need-returns Inv-loop μ-loop
 returns c = let s = c .before .before .before .before .before .before .before .before in
@@ -105,7 +105,7 @@ first-failing-spec =
     passed-first-requires
     loop-holds
     passes-requires
-    add-t14
+    add-t15
     returns
     add-i
     loop-less

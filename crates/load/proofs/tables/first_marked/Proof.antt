@@ -14,10 +14,10 @@ use Rattle.load.proofs.tables.first_marked.Statement.{statement}
 use Rattle.load.proofs.tables.first_marked.Tie as tie
 
 abbrev Inv-loop : tie.InvT-loop
-Inv-loop kinds ends pool z distinct sound round ns first₀ table₀ first table = (table ≤ 10) × (first ≡ cellNumber (sizesIn z) table) × (firstFound 0 (marks (testsFor round (sizesIn z) (tablesFor kinds ends pool z)) (tableList (tablesFor kinds ends pool z))) ≡ firstFound first (marks (drop table (testsFor round (sizesIn z) (tablesFor kinds ends pool z))) (drop table (tableList (tablesFor kinds ends pool z)))))
+Inv-loop kinds ends pool z distinct sound multiplier round ns first₀ table₀ first table = (table ≤ 10) × (first ≡ cellNumber (sizesIn z) table) × (firstFound 0 (marks (testsFor round (sizesIn z) (tablesFor kinds ends pool z)) (tableList (tablesFor kinds ends pool z))) ≡ firstFound first (marks (drop table (testsFor round (sizesIn z) (tablesFor kinds ends pool z))) (drop table (tableList (tablesFor kinds ends pool z)))))
 
 abbrev μ-loop : tie.MeasureT-loop
-μ-loop kinds ends pool z distinct sound round ns first₀ table₀ first table = 10 - table
+μ-loop kinds ends pool z distinct sound multiplier round ns first₀ table₀ first table = 10 - table
 
 counts-requires : tie.Need-counts-requires Inv-loop μ-loop
 counts-requires c κs = search needs
