@@ -55,11 +55,12 @@ united σ ps a b = record {
 }
 
 -- what is handed on after a value
-pub standing-after : {J : List ℕ} {σ τ : List Binding} {k e p ix : List ℕ} {f : Fill} {memo m k₁ e₁ p₁ ix₁ : List ℕ} {f₁ : Fill} {memo₁ m₁ : List ℕ}
-    → Standing J σ k e p ix f memo m → Grown k e p ix f k₁ e₁ p₁ ix₁ f₁ → Sane (programFor J) τ (termsIn k₁ e₁ p₁ f₁) → Past memo₁ → length memo₁ ≡ length memo → length m₁ ≡ length m
-    → Standing J τ k₁ e₁ p₁ ix₁ f₁ memo₁ m₁
+pub standing-after : {J F : List ℕ} {σ τ : List Binding} {k e p ix : List ℕ} {f : Fill} {memo m k₁ e₁ p₁ ix₁ : List ℕ} {f₁ : Fill} {memo₁ m₁ : List ℕ}
+    → Standing J F σ k e p ix f memo m → Grown k e p ix f k₁ e₁ p₁ ix₁ f₁ → Sane (programFor J) τ (termsIn k₁ e₁ p₁ f₁) → Past memo₁ → length memo₁ ≡ length memo → length m₁ ≡ length m
+    → Standing J F τ k₁ e₁ p₁ ix₁ f₁ memo₁ m₁
 standing-after S g w q a b = record {
   ready = S .ready;
+  keyed = S .keyed;
   indexed = g .indexed;
   sane = w;
   fits = let x = S .fits in omega arith;
@@ -152,7 +153,7 @@ module _ (rule : ℕ) {prog : Program} {σ : List Binding} {marking : Bool} {K E
         back n₂ x ps (inr v) = Memᴰ·append-right (ps ++ y .value .pairs) (subst⁻¹ (λ (i : ℕ). List·Memᴰ (same i) (y₂ .value .pairs)) (own x v) (y₂ .own n₂))
 
 -- panic and change
-pub acts-idle : {J : List ℕ} {rule : ℕ} {σ : List Binding} {marking : Bool} {k e p ix : List ℕ} {f : Fill} {memo m : List ℕ} → Standing J σ k e p ix f memo m
+pub acts-idle : {J F : List ℕ} {rule : ℕ} {σ : List Binding} {marking : Bool} {k e p ix : List ℕ} {f : Fill} {memo m : List ℕ} → Standing J F σ k e p ix f memo m
     → Acts (programFor J) rule idle σ marking k e p ix f m k e p ix (acted passed Effect.Nothing f) memo m
 acts-idle {σ = σ} {k = k} {e = e} {p = p} {f = f} S = record {
   pairs = [];

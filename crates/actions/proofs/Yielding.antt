@@ -50,8 +50,8 @@ refused-value : (o : Outcome Value) (r : Refusal) (s : List Term) → termOutcom
 refused-value (ok v u) r s q = let x : _≡_ {A = ℕ} 0 1 = cc in absurd (omega arith)
 refused-value (refused x u) r s q = let a : x ≡ refusalOf r = cc in let b : u ≡ s = cc in λ i. refused (a i) (b i)
 
-module _ (rule : ℕ) {J : List ℕ} {σ : List Binding} {e : ℕ} {k e′ p ix : List ℕ} {f : Fill} {memo m k₁ e₁ p₁ ix₁ : List ℕ} {r : Checked} {memo₁ : List ℕ}
-    (S : Standing J σ k e′ p ix f memo m) (h : e < sizesOf J .expressions)
+module _ (rule : ℕ) {J F : List ℕ} {σ : List Binding} {e : ℕ} {k e′ p ix : List ℕ} {f : Fill} {memo m k₁ e₁ p₁ ix₁ : List ℕ} {r : Checked} {memo₁ : List ℕ}
+    (S : Standing J F σ k e′ p ix f memo m) (h : e < sizesOf J .expressions)
     (d : EvaluatesRoot (argumentsFor J) (valueFor false J rule σ) (sizesOf J .expressions) e k e′ p ix f k₁ e₁ p₁ ix₁ r memo₁) where
   abbrev prog : Program
   prog = programFor J

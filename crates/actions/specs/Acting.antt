@@ -18,14 +18,16 @@ use Rattle.outcome.specs.Does.{Does}
 use Rattle.outcome.specs.declared.Checked.{Checked}
 use Rattle.marks.specs.Covering.{Marks}
 use Rattle.program.specs.Ready.{Ready, programFor}
+use Rattle.lookups.specs.Keyed.{Keyed}
 use Rattle.evaluate.specs.Evaluation.{Sane}
 use Rattle.pairs.specs.Marking.{markValues}
 use Rattle.actions.specs.declared.Effect.{Effect}
 use Rattle.actions.specs.declared.Acted.{Acted}
 
--- What an action may be handed: an admitted job, a store that is sane under the bindings σ, a memo, and room for a mark for each cell of the store.
-pub record Standing (J : List ℕ) (σ : List Binding) (k e p ix : List ℕ) (f : Fill) (memo m : List ℕ) : Type 0 where
+-- What an action may be handed: an admitted job with the chains of its tables in F, a store that is sane under the bindings σ, a memo, and room for a mark for each cell of the store.
+pub record Standing (J F : List ℕ) (σ : List Binding) (k e p ix : List ℕ) (f : Fill) (memo m : List ℕ) : Type 0 where
   pub ready : Ready J
+  pub keyed : Keyed J F
   pub indexed : Indexed k e p ix f
   pub sane : Sane (programFor J) σ (termsIn k e p f)
   pub fits : sizesOf J .expressions + sizesOf J .expressions < length memo

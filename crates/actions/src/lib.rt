@@ -49,6 +49,7 @@ fn mark_if(marking: bool, memo: &[u32], n: usize, marks: &mut [u32])
 // The value of expression e, with marks for its pairs.
 pub fn yield_value(
     job: &[u32],
+    found: &[u32],
     bound: &[u32],
     pairs: &[u32],
     globals: &[u32],
@@ -63,13 +64,14 @@ pub fn yield_value(
     marks: &mut [u32],
     e: u32,
 ) -> Checked
-    requires { ⌜ Standing (now job) (bindingsIn (now bound) (now pairs) (now globals)) (now skinds) (now sends) (now spool) (now index) fill (now memo) (now marks) ⌝ }
+    requires { ⌜ Standing (now job) (now found) (bindingsIn (now bound) (now pairs) (now globals)) (now skinds) (now sends) (now spool) (now index) fill (now memo) (now marks) ⌝ }
     requires { ⌜ e < sizesOf (now job) .expressions ⌝ }
     ensures { λ r. ⌜ Yields (programFor (now (job .entry))) (bindingsIn (now (bound .entry)) (now (pairs .entry)) (now (globals .entry))) (evalExpr (roomOf (now (skinds .entry)) (now (spool .entry))) (programFor (now (job .entry))) rule (bindingsIn (now (bound .entry)) (now (pairs .entry)) (now (globals .entry))) (exprFor (now (job .entry)) e) (termsIn (now (skinds .entry)) (now (sends .entry)) (now (spool .entry)) fill)) marking (now (skinds .entry)) (now (sends .entry)) (now (spool .entry)) (now (index .entry)) fill (now (marks .entry)) (now (skinds .exit)) (now (sends .exit)) (now (spool .exit)) (now (index .exit)) r (now (memo .exit)) (now (marks .exit)) ⌝ }
 {
     let count = size(job, EXPRESSIONS);
     let r = evaluate(
         job,
+        found,
         bound,
         pairs,
         globals,
@@ -93,6 +95,7 @@ pub fn yield_value(
 // A let.
 fn act_let(
     job: &[u32],
+    found: &[u32],
     bound: &[u32],
     pairs: &[u32],
     globals: &[u32],
@@ -108,12 +111,13 @@ fn act_let(
     name: u32,
     e: u32,
 ) -> Acted
-    requires { ⌜ Standing (now job) (bindingsIn (now bound) (now pairs) (now globals)) (now skinds) (now sends) (now spool) (now index) fill (now memo) (now marks) ⌝ }
+    requires { ⌜ Standing (now job) (now found) (bindingsIn (now bound) (now pairs) (now globals)) (now skinds) (now sends) (now spool) (now index) fill (now memo) (now marks) ⌝ }
     requires { ⌜ e < sizesOf (now job) .expressions ⌝ }
     ensures { λ r. ⌜ Acts (programFor (now (job .entry))) rule (bind name (exprFor (now (job .entry)) e)) (bindingsIn (now (bound .entry)) (now (pairs .entry)) (now (globals .entry))) marking (now (skinds .entry)) (now (sends .entry)) (now (spool .entry)) (now (index .entry)) fill (now (marks .entry)) (now (skinds .exit)) (now (sends .exit)) (now (spool .exit)) (now (index .exit)) r (now (memo .exit)) (now (marks .exit)) ⌝ }
 {
     let r = yield_value(
         job,
+        found,
         bound,
         pairs,
         globals,
@@ -140,6 +144,7 @@ fn act_let(
 // A set or an expression.
 fn act_run(
     job: &[u32],
+    found: &[u32],
     bound: &[u32],
     pairs: &[u32],
     globals: &[u32],
@@ -154,12 +159,13 @@ fn act_run(
     marks: &mut [u32],
     e: u32,
 ) -> Acted
-    requires { ⌜ Standing (now job) (bindingsIn (now bound) (now pairs) (now globals)) (now skinds) (now sends) (now spool) (now index) fill (now memo) (now marks) ⌝ }
+    requires { ⌜ Standing (now job) (now found) (bindingsIn (now bound) (now pairs) (now globals)) (now skinds) (now sends) (now spool) (now index) fill (now memo) (now marks) ⌝ }
     requires { ⌜ e < sizesOf (now job) .expressions ⌝ }
     ensures { λ r. ⌜ Acts (programFor (now (job .entry))) rule (run (exprFor (now (job .entry)) e)) (bindingsIn (now (bound .entry)) (now (pairs .entry)) (now (globals .entry))) marking (now (skinds .entry)) (now (sends .entry)) (now (spool .entry)) (now (index .entry)) fill (now (marks .entry)) (now (skinds .exit)) (now (sends .exit)) (now (spool .exit)) (now (index .exit)) r (now (memo .exit)) (now (marks .exit)) ⌝ }
 {
     let r = yield_value(
         job,
+        found,
         bound,
         pairs,
         globals,
@@ -186,6 +192,7 @@ fn act_run(
 // A union.
 fn act_union(
     job: &[u32],
+    found: &[u32],
     bound: &[u32],
     pairs: &[u32],
     globals: &[u32],
@@ -201,13 +208,14 @@ fn act_union(
     left: u32,
     right: u32,
 ) -> Acted
-    requires { ⌜ Standing (now job) (bindingsIn (now bound) (now pairs) (now globals)) (now skinds) (now sends) (now spool) (now index) fill (now memo) (now marks) ⌝ }
+    requires { ⌜ Standing (now job) (now found) (bindingsIn (now bound) (now pairs) (now globals)) (now skinds) (now sends) (now spool) (now index) fill (now memo) (now marks) ⌝ }
     requires { ⌜ left < sizesOf (now job) .expressions ⌝ }
     requires { ⌜ right < sizesOf (now job) .expressions ⌝ }
     ensures { λ r. ⌜ Acts (programFor (now (job .entry))) rule (union (exprFor (now (job .entry)) left) (exprFor (now (job .entry)) right)) (bindingsIn (now (bound .entry)) (now (pairs .entry)) (now (globals .entry))) marking (now (skinds .entry)) (now (sends .entry)) (now (spool .entry)) (now (index .entry)) fill (now (marks .entry)) (now (skinds .exit)) (now (sends .exit)) (now (spool .exit)) (now (index .exit)) r (now (memo .exit)) (now (marks .exit)) ⌝ }
 {
     let a = yield_value(
         job,
+        found,
         bound,
         pairs,
         globals,
@@ -233,6 +241,7 @@ fn act_union(
     }
     let b = yield_value(
         job,
+        found,
         bound,
         pairs,
         globals,
@@ -259,6 +268,7 @@ fn act_union(
 // One action.
 pub fn process_action(
     job: &[u32],
+    found: &[u32],
     bound: &[u32],
     pairs: &[u32],
     globals: &[u32],
@@ -273,7 +283,7 @@ pub fn process_action(
     marks: &mut [u32],
     i: u32,
 ) -> Acted
-    requires { ⌜ Standing (now job) (bindingsIn (now bound) (now pairs) (now globals)) (now skinds) (now sends) (now spool) (now index) fill (now memo) (now marks) ⌝ }
+    requires { ⌜ Standing (now job) (now found) (bindingsIn (now bound) (now pairs) (now globals)) (now skinds) (now sends) (now spool) (now index) fill (now memo) (now marks) ⌝ }
     requires { ⌜ i < sizesOf (now job) .actions ⌝ }
     ensures { λ r. ⌜ Acts (programFor (now (job .entry))) rule (actionFor (now (job .entry)) i) (bindingsIn (now (bound .entry)) (now (pairs .entry)) (now (globals .entry))) marking (now (skinds .entry)) (now (sends .entry)) (now (spool .entry)) (now (index .entry)) fill (now (marks .entry)) (now (skinds .exit)) (now (sends .exit)) (now (spool .exit)) (now (index .exit)) r (now (memo .exit)) (now (marks .exit)) ⌝ }
 {
@@ -281,6 +291,7 @@ pub fn process_action(
     match action {
         Action::Let(x, e) => act_let(
             job,
+            found,
             bound,
             pairs,
             globals,
@@ -298,6 +309,7 @@ pub fn process_action(
         ),
         Action::Union(l, r) => act_union(
             job,
+            found,
             bound,
             pairs,
             globals,
@@ -315,6 +327,7 @@ pub fn process_action(
         ),
         Action::Run(e) => act_run(
             job,
+            found,
             bound,
             pairs,
             globals,

@@ -96,7 +96,7 @@ fn global_action(
     n: usize,
     i: u32,
 ) -> Globals
-    requires { ⌜ Standing (now job) (readBindings (drop at (now table))) (now skinds) (now sends) (now spool) (now index) fill (now memo) (now marks) ⌝ }
+    requires { ⌜ Standing (now job) (now found) (readBindings (drop at (now table))) (now skinds) (now sends) (now spool) (now index) fill (now memo) (now marks) ⌝ }
     requires { ⌜ i < sizesOf (now job) .actions ⌝ }
     requires { ⌜ 2 ≤ at ⌝ }
     requires { ⌜ at ≤ length (now table) ⌝ }
@@ -156,7 +156,7 @@ fn global_actions(
     table: &mut [u32],
     unions: &mut [u32],
 ) -> Globals
-    requires { ⌜ Standing (now job) [] (now skinds) (now sends) (now spool) (now index) fill (now memo) (now marks) ⌝ }
+    requires { ⌜ Standing (now job) (now found) [] (now skinds) (now sends) (now spool) (now index) fill (now memo) (now marks) ⌝ }
     requires { ⌜ Marks (termsIn (now skinds) (now sends) (now spool) fill) (now marks) [] ⌝ }
     requires { ⌜ length (now table) ≡ 512 ⌝ }
     requires { ⌜ length (now unions) ≡ 512 ⌝ }
@@ -216,7 +216,7 @@ pub fn new_context(
     table: &mut [u32],
     unions: &mut [u32],
 ) -> Globals
-    requires { ⌜ Standing (now job) [] (now skinds) (now sends) (now spool) (now index) fill (now memo) (now marks) ⌝ }
+    requires { ⌜ Standing (now job) (now found) [] (now skinds) (now sends) (now spool) (now index) fill (now memo) (now marks) ⌝ }
     requires { ⌜ length (now table) ≡ 512 ⌝ }
     requires { ⌜ length (now unions) ≡ 512 ⌝ }
     ensures { λ r. ⌜ Context (programFor (now (job .entry))) (now (skinds .entry)) (now (sends .entry)) (now (spool .entry)) (now (index .entry)) fill (now (skinds .exit)) (now (sends .exit)) (now (spool .exit)) (now (index .exit)) r (now (memo .exit)) (now (marks .exit)) (now (table .exit)) (now (unions .exit)) ⌝ }

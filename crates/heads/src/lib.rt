@@ -78,7 +78,7 @@ fn head_actions(
     actions: &[u32],
     q: Proposition,
 ) -> Headed
-    requires { ⌜ Standing (now job) (bindingsIn (now bound) (now pairs) (now globals)) (now skinds) (now sends) (now spool) (now index) fill (now memo) (now marks) ⌝ }
+    requires { ⌜ Standing (now job) (now found) (bindingsIn (now bound) (now pairs) (now globals)) (now skinds) (now sends) (now spool) (now index) fill (now memo) (now marks) ⌝ }
     requires { ⌜ length (now bound) ≤ 32 ⌝ }
     requires { ⌜ length (now actions) ≤ 64 ⌝ }
     requires { ⌜ ((i : ℕ) → i < length (now actions) → getD (now actions) i 0 < sizesOf (now job) .actions) ⌝ }
@@ -238,7 +238,7 @@ fn run_produces(
     e: u32,
     q: Proposition,
 ) -> Checked
-    requires { ⌜ Standing (now job) (bindingsIn (now bound) (now pairs) (now globals)) (now skinds) (now sends) (now spool) (now index) fill (now memo) (now marks) ⌝ }
+    requires { ⌜ Standing (now job) (now found) (bindingsIn (now bound) (now pairs) (now globals)) (now skinds) (now sends) (now spool) (now index) fill (now memo) (now marks) ⌝ }
     requires { ⌜ e < sizesOf (now job) .expressions ⌝ }
     requires { ⌜ q .lhs ≡ q .rhs ⌝ }
     ensures { λ c. ⌜ ((t : Rule) → rule ≡ t .name → run (exprFor (now (job .entry)) e) ∷ [] ≡ t .actions → Produces (programFor (now (job .entry))) t (bindingsIn (now (bound .entry)) (now (pairs .entry)) (now (globals .entry))) (propositionOf q) (now (skinds .entry)) (now (sends .entry)) (now (spool .entry)) (now (index .entry)) fill (now (skinds .exit)) (now (sends .exit)) (now (spool .exit)) (now (index .exit)) c (now (memo .exit))) ⌝ }
@@ -287,7 +287,7 @@ pub fn check_rule_produces_equality(
     r: usize,
     q: Proposition,
 ) -> Checked
-    requires { ⌜ Standing (now job) (bindingsIn (now bound) (now pairs) (now globals)) (now skinds) (now sends) (now spool) (now index) fill (now memo) (now marks) ⌝ }
+    requires { ⌜ Standing (now job) (now found) (bindingsIn (now bound) (now pairs) (now globals)) (now skinds) (now sends) (now spool) (now index) fill (now memo) (now marks) ⌝ }
     requires { ⌜ length (now bound) ≤ 32 ⌝ }
     requires { ⌜ r < sizesOf (now job) .rules ⌝ }
     ensures { λ c. ⌜ Produces (programFor (now (job .entry))) (ruleFor (now (job .entry)) r) (bindingsIn (now (bound .entry)) (now (pairs .entry)) (now (globals .entry))) (propositionOf q) (now (skinds .entry)) (now (sends .entry)) (now (spool .entry)) (now (index .entry)) fill (now (skinds .exit)) (now (sends .exit)) (now (spool .exit)) (now (index .exit)) c (now (memo .exit)) ⌝ }
@@ -360,7 +360,7 @@ pub fn run_merge(
     old: u32,
     new: u32,
 ) -> Checked
-    requires { ⌜ Standing (now job) (model.mergeBindings old new) (now skinds) (now sends) (now spool) (now index) fill (now memo) (now marks) ⌝ }
+    requires { ⌜ Standing (now job) (now found) (model.mergeBindings old new) (now skinds) (now sends) (now spool) (now index) fill (now memo) (now marks) ⌝ }
     ensures { λ r. ⌜ Yields (programFor (now (job .entry))) (model.mergeBindings old new) (model.runMerge (roomOf (now (skinds .entry)) (now (spool .entry))) (programFor (now (job .entry))) function old new (termsIn (now (skinds .entry)) (now (sends .entry)) (now (spool .entry)) fill)) marking (now (skinds .entry)) (now (sends .entry)) (now (spool .entry)) (now (index .entry)) fill (now (marks .entry)) (now (skinds .exit)) (now (sends .exit)) (now (spool .exit)) (now (index .exit)) r (now (memo .exit)) (now (marks .exit)) ⌝ }
 {
     let merge = merge_of(job, function);

@@ -289,7 +289,7 @@ pub fn merge_step(
     a: Proposition,
     b: Proposition,
 ) -> Checked
-    requires { ⌜ Standing (now job) [] (now skinds) (now sends) (now spool) (now index) fill (now memo) (now marks) ⌝ }
+    requires { ⌜ Standing (now job) (now found) [] (now skinds) (now sends) (now spool) (now index) fill (now memo) (now marks) ⌝ }
     requires { ⌜ Small (termsIn (now skinds) (now sends) (now spool) fill) (a .rhs) ⌝ }
     requires { ⌜ Small (termsIn (now skinds) (now sends) (now spool) fill) (b .rhs) ⌝ }
     ensures { λ r. ⌜ Checks (now (skinds .entry)) (now (sends .entry)) (now (spool .entry)) (now (index .entry)) fill (now (skinds .exit)) (now (sends .exit)) (now (spool .exit)) (now (index .exit)) (r .fill) (r .refusal) tt (now (memo .exit)) (mergeStep (roomOf (now (skinds .entry)) (now (spool .entry))) (programFor (now (job .entry))) p (propositionOf q) function (propositionOf a) (propositionOf b) (termsIn (now (skinds .entry)) (now (sends .entry)) (now (spool .entry)) fill)) ⌝ }

@@ -10,25 +10,25 @@ wide-requires : tie.Need-wide-requires
 wide-requires c κs = search needs
 
 action-at-requires : tie.Need-action-at-requires
-action-at-requires c κs = (c .before .before .before .before .before .before .before .before .before .before .before .pre .0 .ready, (let h = c .before .before .before .before .before .before .before .before .before .before .before .pre .1 in let w = c .wide .ensures in omega arith))
+action-at-requires c κs = (c .before .before .before .before .before .before .before .before .before .before .before .before .pre .0 .ready, (let h = c .before .before .before .before .before .before .before .before .before .before .before .before .pre .1 in let w = c .wide .ensures in omega arith))
 
 enum-known-action : tie.Need-enum-known-action
 enum-known-action c = search needs
 
 act-let-requires : tie.Need-act-let-requires
-act-let-requires c κs = (c .before .before .before .before .before .before .before .before .before .before .before .before .before .before .before .before .before .before .before .before .before .pre .0, c .before .before .before .before .before .before .before .before .before .action-at .ensures .bind _ _ (c .before .before .before .before .before .before .before .action .given .1))
+act-let-requires c κs = (c .before .before .before .before .before .before .before .before .before .before .before .before .before .before .before .before .before .before .before .before .before .before .pre .0, c .before .before .before .before .before .before .before .before .before .action-at .ensures .bind _ _ (c .before .before .before .before .before .before .before .action .given .1))
 
 enum-known-action-2 : tie.Need-enum-known-action-2
 enum-known-action-2 c = search needs
 
 act-union-requires : tie.Need-act-union-requires
-act-union-requires c κs = let h = c .before .before .before .before .before .before .before .before .before .action-at .ensures .union _ _ (c .before .before .before .before .before .before .before .action2 .given .1) in (c .before .before .before .before .before .before .before .before .before .before .before .before .before .before .before .before .before .before .before .before .before .pre .0, (h .0, h .1))
+act-union-requires c κs = let h = c .before .before .before .before .before .before .before .before .before .action-at .ensures .union _ _ (c .before .before .before .before .before .before .before .action2 .given .1) in (c .before .before .before .before .before .before .before .before .before .before .before .before .before .before .before .before .before .before .before .before .before .before .pre .0, (h .0, h .1))
 
 enum-known-action-3 : tie.Need-enum-known-action-3
 enum-known-action-3 c = search needs
 
 act-run-requires : tie.Need-act-run-requires
-act-run-requires c κs = (c .before .before .before .before .before .before .before .before .before .before .before .before .before .before .before .before .before .before .before .before .before .pre .0, c .before .before .before .before .before .before .before .before .before .action-at .ensures .run _ (c .before .before .before .before .before .before .before .action3 .given .1))
+act-run-requires c κs = (c .before .before .before .before .before .before .before .before .before .before .before .before .before .before .before .before .before .before .before .before .before .before .pre .0, c .before .before .before .before .before .before .before .before .before .action-at .ensures .run _ (c .before .before .before .before .before .before .before .action3 .given .1))
 
 enum-told : tie.Need-enum-told
 enum-told c = search needs
@@ -52,7 +52,7 @@ same-length-6 : tie.Need-same-length-6
 same-length-6 c = search needs
 
 returns : tie.Need-returns
-returns c = let a = c .before .before .before .before .before .before .before .before .before .before .before .before .before .before .before .before .before .before .before .before .before .before .before .before .before .before .before .before .before .before .before .before .before .before .args in acts-as (acted-as (exprFor (a .job .now)) (c .before .before .before .before .before .before .before .before .before .before .before .before .before .before .before .before .before .before .before .before .action .given .1) (c .before .before .before .before .before .before .before .before .before .before .before .before .before .before .before .before .before .before .before .before .before .before .action-at .ensures .is ∙ ap (actionFor (a .job .now)) (c .before .before .before .before .before .before .before .before .before .before .before .before .before .before .before .before .before .before .before .before .before .before .before .wide .ensures))) (c .before .before .before .before .before .before .before .before .before .before .before .before .act-let .ensures)
+returns c = let a = c .before .before .before .before .before .before .before .before .before .before .before .before .before .before .before .before .before .before .before .before .before .before .before .before .before .before .before .before .before .before .before .before .before .before .before .args in acts-as (acted-as (exprFor (a .job .now)) (c .before .before .before .before .before .before .before .before .before .before .before .before .before .before .before .before .before .before .before .before .action .given .1) (c .before .before .before .before .before .before .before .before .before .before .before .before .before .before .before .before .before .before .before .before .before .before .action-at .ensures .is ∙ ap (actionFor (a .job .now)) (c .before .before .before .before .before .before .before .before .before .before .before .before .before .before .before .before .before .before .before .before .before .before .before .wide .ensures))) (c .before .before .before .before .before .before .before .before .before .before .before .before .act-let .ensures)
 
 same-length-7 : tie.Need-same-length-7
 same-length-7 c = search needs
@@ -73,7 +73,7 @@ same-length-12 : tie.Need-same-length-12
 same-length-12 c = search needs
 
 returns-2 : tie.Need-returns-2
-returns-2 c = let a = c .before .before .before .before .before .before .before .before .before .before .before .before .before .before .before .before .before .before .before .before .before .before .before .before .before .before .before .before .before .before .before .before .before .before .args in acts-as (acted-as (exprFor (a .job .now)) (c .before .before .before .before .before .before .before .before .before .before .before .before .before .before .before .before .before .before .before .before .action2 .given .1) (c .before .before .before .before .before .before .before .before .before .before .before .before .before .before .before .before .before .before .before .before .before .before .action-at .ensures .is ∙ ap (actionFor (a .job .now)) (c .before .before .before .before .before .before .before .before .before .before .before .before .before .before .before .before .before .before .before .before .before .before .before .wide .ensures))) (c .before .before .before .before .before .before .before .before .before .before .before .before .act-union .ensures)
+returns-2 c = let a = c .before .before .before .before .before .before .before .before .before .before .before .before .before .before .before .before .before .before .before .before .before .before .before .before .before .before .before .before .before .before .before .before .before .before .before .args in acts-as (acted-as (exprFor (a .job .now)) (c .before .before .before .before .before .before .before .before .before .before .before .before .before .before .before .before .before .before .before .before .action2 .given .1) (c .before .before .before .before .before .before .before .before .before .before .before .before .before .before .before .before .before .before .before .before .before .before .action-at .ensures .is ∙ ap (actionFor (a .job .now)) (c .before .before .before .before .before .before .before .before .before .before .before .before .before .before .before .before .before .before .before .before .before .before .before .wide .ensures))) (c .before .before .before .before .before .before .before .before .before .before .before .before .act-union .ensures)
 
 same-length-13 : tie.Need-same-length-13
 same-length-13 c = search needs
@@ -94,10 +94,10 @@ same-length-18 : tie.Need-same-length-18
 same-length-18 c = search needs
 
 returns-3 : tie.Need-returns-3
-returns-3 c = let a = c .before .before .before .before .before .before .before .before .before .before .before .before .before .before .before .before .before .before .before .before .before .before .before .before .before .before .before .before .before .before .before .before .before .before .args in acts-as (acted-as (exprFor (a .job .now)) (c .before .before .before .before .before .before .before .before .before .before .before .before .before .before .before .before .before .before .before .before .action3 .given .1) (c .before .before .before .before .before .before .before .before .before .before .before .before .before .before .before .before .before .before .before .before .before .before .action-at .ensures .is ∙ ap (actionFor (a .job .now)) (c .before .before .before .before .before .before .before .before .before .before .before .before .before .before .before .before .before .before .before .before .before .before .before .wide .ensures))) (c .before .before .before .before .before .before .before .before .before .before .before .before .act-run .ensures)
+returns-3 c = let a = c .before .before .before .before .before .before .before .before .before .before .before .before .before .before .before .before .before .before .before .before .before .before .before .before .before .before .before .before .before .before .before .before .before .before .before .args in acts-as (acted-as (exprFor (a .job .now)) (c .before .before .before .before .before .before .before .before .before .before .before .before .before .before .before .before .before .before .before .before .action3 .given .1) (c .before .before .before .before .before .before .before .before .before .before .before .before .before .before .before .before .before .before .before .before .before .before .action-at .ensures .is ∙ ap (actionFor (a .job .now)) (c .before .before .before .before .before .before .before .before .before .before .before .before .before .before .before .before .before .before .before .before .before .before .before .wide .ensures))) (c .before .before .before .before .before .before .before .before .before .before .before .before .act-run .ensures)
 
 returns-4 : tie.Need-returns-4
-returns-4 c = let a = c .before .before .before .before .before .before .before .before .before .before .before .before .before .before .args in acts-as (acted-as (exprFor (a .job .now)) (c .enum-told .given .1) (c .before .before .action-at .ensures .is ∙ ap (actionFor (a .job .now)) (c .before .before .before .wide .ensures))) (acts-idle (c .before .before .before .before .before .before .before .before .before .before .before .before .before .before .pre .0))
+returns-4 c = let a = c .before .before .before .before .before .before .before .before .before .before .before .before .before .before .before .args in acts-as (acted-as (exprFor (a .job .now)) (c .enum-told .given .1) (c .before .before .action-at .ensures .is ∙ ap (actionFor (a .job .now)) (c .before .before .before .wide .ensures))) (acts-idle (c .before .before .before .before .before .before .before .before .before .before .before .before .before .before .before .pre .0))
 
 pub process-action-spec : {M : Type 1} → statement M
 process-action-spec =
