@@ -48,8 +48,8 @@ has σ ps = record { bindings = σ; pairs = ps }
 pub bound-is : (T : List ℕ) (at : ℕ) → bindingsIn (take (length T - at) (drop at T)) [] [] ≡ readBindings (drop at T)
 bound-is T at = append-nil (readBindings (take (length T - at) (drop at T))) ∙ ap readBindings (to-end at T)
 
-pub standing-as : {J : List ℕ} {σ τ : List Binding} {k e p ix : List ℕ} {f : Fill} {memo m : List ℕ} → σ ≡ τ → Standing J σ k e p ix f memo m → Standing J τ k e p ix f memo m
-standing-as {J} {k = k} {e = e} {p = p} {ix = ix} {f = f} {memo = memo} {m = m} q S = subst (λ (σ : List Binding). Standing J σ k e p ix f memo m) q S
+pub standing-as : {J F : List ℕ} {σ τ : List Binding} {k e p ix : List ℕ} {f : Fill} {memo m : List ℕ} → σ ≡ τ → Standing J F σ k e p ix f memo m → Standing J F τ k e p ix f memo m
+standing-as {J} {F} {k = k} {e = e} {p = p} {ix = ix} {f = f} {memo = memo} {m = m} q S = subst (λ (σ : List Binding). Standing J F σ k e p ix f memo m) q S
 
 -- a refusal has no value
 does-refused : {A : Type 0} {K E P I : List ℕ} {f : Fill} {K₁ E₁ P₁ I₁ : List ℕ} {f₁ : Fill} {r : Refusal} {a : A} {o : Outcome A} (b : A) → Does K E P I f K₁ E₁ P₁ I₁ f₁ r a o → (r .number ≡ 0 → ⊥) → Does K E P I f K₁ E₁ P₁ I₁ f₁ r b o
@@ -117,7 +117,7 @@ unfolding readProgram
 globals-end J i h = let l = length-tabulate (sizesOf J .globals) (actionFor J) in drop-of-length-le (programFor J .globals) {i = i} (omega arith)
 
 -- after i of the global actions
-module _ (J : List ℕ) where
+module _ (J F : List ℕ) where
   abbrev prog : Program
   prog = programFor J
 
@@ -137,7 +137,7 @@ module _ (J : List ℕ) where
     pub upto : i ≤ sizesOf J .globals
     pub grown : Grown k₀ e₀ p₀ ix₀ f₀ k e p ix f
     pub run : runs (roomOf k₀ p₀) (drop i (prog .globals)) (has (readBindings (drop at T)) pairs) (termsIn k e p f) ≡ runs (roomOf k₀ p₀) (prog .globals) (startContext []) (termsIn k₀ e₀ p₀ f₀)
-    pub standing : Standing J (readBindings (drop at T)) k e p ix f memo m
+    pub standing : Standing J F (readBindings (drop at T)) k e p ix f memo m
     pub grows : Extends (termsIn k₀ e₀ p₀ f₀) (termsIn k e p f)
     pub marks : Marks (termsIn k e p f) m pairs
     pub others : (q : Proposition) → (q .lhs ≡ q .rhs → ⊥) → among q pairs ≡ unionsHave (take n U) q
@@ -150,7 +150,7 @@ module _ (J : List ℕ) where
     pub high : at ≤ 512
     pub few : n ≤ i + i
 
-  pub start : {k e p ix : List ℕ} {f : Fill} {memo m T U : List ℕ} → Standing J [] k e p ix f memo m → Marks (termsIn k e p f) m [] → length T ≡ 512 → length U ≡ 512 → Through k e p ix f memo m k e p ix f memo m T 512 U 0 0
+  pub start : {k e p ix : List ℕ} {f : Fill} {memo m T U : List ℕ} → Standing J F [] k e p ix f memo m → Marks (termsIn k e p f) m [] → length T ≡ 512 → length U ≡ 512 → Through k e p ix f memo m k e p ix f memo m T 512 U 0 0
   start {k} {e} {p} {ix} {f} {memo} {m} {T} {U} S w t u = record {
     pairs = [];
     upto = omega arith;

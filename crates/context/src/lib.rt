@@ -10,7 +10,7 @@ use marks::close;
 use marks::is_marked;
 use outcome::Refusal;
 use program::Looked;
-use program::duplicate_rule_name;
+use lookups::duplicate_rule_name;
 use program::job::globals;
 ghost use mathlib.Core.Path.{_≡_};
 ghost use mathlib.Core.List.{List, []};
@@ -83,6 +83,7 @@ pub fn is_global_pair(unions: &[u32], marks: &[u32], q: Proposition) -> bool
 // Global action i, in the context that the table has from `at` on and the first n words of the unions.
 fn global_action(
     job: &[u32],
+    found: &[u32],
     skinds: &mut [u32],
     sends: &mut [u32],
     spool: &mut [u32],
@@ -108,6 +109,7 @@ fn global_action(
     let none = &job[..0];
     let r = process_action(
         job,
+        found,
         &table[at..],
         none,
         none,
@@ -146,6 +148,7 @@ fn global_action(
 // The global actions, one after the other.
 fn global_actions(
     job: &[u32],
+    found: &[u32],
     skinds: &mut [u32],
     sends: &mut [u32],
     spool: &mut [u32],
@@ -170,6 +173,7 @@ fn global_actions(
     while i < count {
         let r = global_action(
             job,
+            found,
             skinds,
             sends,
             spool,
@@ -206,6 +210,7 @@ fn global_actions(
 // `ProofCheckContext::new`: no two rules of one name, the global actions, and their marks closed.
 pub fn new_context(
     job: &[u32],
+    found: &[u32],
     skinds: &mut [u32],
     sends: &mut [u32],
     spool: &mut [u32],
@@ -221,7 +226,7 @@ pub fn new_context(
     requires { ⌜ length (now unions) ≡ 512 ⌝ }
     ensures { λ r. ⌜ Context (programFor (now (job .entry))) (now (skinds .entry)) (now (sends .entry)) (now (spool .entry)) (now (index .entry)) fill (now (skinds .exit)) (now (sends .exit)) (now (spool .exit)) (now (index .exit)) r (now (memo .exit)) (now (marks .exit)) (now (table .exit)) (now (unions .exit)) ⌝ }
 {
-    let duplicate = duplicate_rule_name(job);
+    let duplicate = duplicate_rule_name(job, found);
     if let Looked::Some(name) = duplicate {
         return Globals {
             refusal: Refusal {
@@ -237,6 +242,7 @@ pub fn new_context(
     clear(marks);
     let r = global_actions(
         job,
+        found,
         skinds,
         sends,
         spool,

@@ -46,7 +46,7 @@ pushed-bindings {T} {at} {e} S G p = sym (over-others e (readBindings (drop at T
 pub sane-fewer : {prog : Program} {σ τ : List Binding} {s s′ : List Term} → Sane prog σ s → Extends s s′ → Sane prog τ s′ → Sane prog σ s′
 sane-fewer {s = s} {s′ = s′} w x v = let l : length s ≤ length s′ = extends-length x in record { ordered = v .ordered; bound = λ b m. let h = w .bound b m in omega arith; rows = v .rows }
 
-module _ (J : List ℕ) (rule : ℕ) (S G : List ℕ) (q : Proposition) (marking : Bool) where
+module _ (J F : List ℕ) (rule : ℕ) (S G : List ℕ) (q : Proposition) (marking : Bool) where
   abbrev prog : Program
   prog = programFor J
 
@@ -60,8 +60,8 @@ module _ (J : List ℕ) (rule : ℕ) (S G : List ℕ) (q : Proposition) (marking
     pub full : length T ≡ 160
     pub low : at ≤ 160
     pub free : (length xs - i) + (length xs - i) ≤ at
-    pub first : Standing J σ k₀ e₀ p₀ ix₀ f₀ memo₀ m₀
-    pub stand : Standing J (bindingsIn (drop at T) S G) k e p ix f memo m
+    pub first : Standing J F σ k₀ e₀ p₀ ix₀ f₀ memo₀ m₀
+    pub stand : Standing J F (bindingsIn (drop at T) S G) k e p ix f memo m
     pub lenMemo : length memo ≡ length memo₀
     pub lenM : length m ≡ length m₀
     pub bindings : context .bindings ≡ bindingsIn (drop at T) S G
@@ -71,7 +71,7 @@ module _ (J : List ℕ) (rule : ℕ) (S G : List ℕ) (q : Proposition) (marking
     pub others : (q .lhs ≡ q .rhs → ⊥) → among q (context .pairs) ≡ found
     pub marks : marking ≡ true → Marks (termsIn k₀ e₀ p₀ f₀) m₀ [] → Marks (termsIn k e p f) m (context .pairs)
 
-  pub start : {xs : List ℕ} {B k e p ix : List ℕ} {f : Fill} {memo m T : List ℕ} {at : ℕ} → Standing J (bindingsIn B S G) k e p ix f memo m → length xs ≤ 64 → at ≤ 160 → 128 ≤ at
+  pub start : {xs : List ℕ} {B k e p ix : List ℕ} {f : Fill} {memo m T : List ℕ} {at : ℕ} → Standing J F (bindingsIn B S G) k e p ix f memo m → length xs ≤ 64 → at ≤ 160 → 128 ≤ at
       → length T ≡ 160 → drop at T ≡ B → Turn xs (bindingsIn B S G) k e p ix f memo m k e p ix f memo m T at false 0
   start {xs} {B} {k} {e} {p} {ix} {f} {memo} {m} {T} {at} st few low high full q = record {
     context = startContext (bindingsIn B S G);
@@ -80,7 +80,7 @@ module _ (J : List ℕ) (rule : ℕ) (S G : List ℕ) (q : Proposition) (marking
     low = low;
     free = omega arith;
     first = st;
-    stand = subst⁻¹ (λ (X : List ℕ). Standing J (bindingsIn X S G) k e p ix f memo m) q st;
+    stand = subst⁻¹ (λ (X : List ℕ). Standing J F (bindingsIn X S G) k e p ix f memo m) q st;
     lenMemo = refl;
     lenM = refl;
     bindings = ap (λ (X : List ℕ). bindingsIn X S G) (sym q);
@@ -187,8 +187,8 @@ module _ (J : List ℕ) (rule : ℕ) (S G : List ℕ) (q : Proposition) (marking
 pub part-is : {n : ℕ} (T : List ℕ) (at : ℕ) → length T ≡ n → take (n - at) (drop at T) ≡ drop at T
 part-is T at e = ap (λ (m : ℕ). take (m - at) (drop at T)) (sym e) ∙ to-end at T
 
-pub standing-part : (S G : List ℕ) {J : List ℕ} {X Y k e p ix : List ℕ} {f : Fill} {memo m : List ℕ} → X ≡ Y → Standing J (bindingsIn Y S G) k e p ix f memo m → Standing J (bindingsIn X S G) k e p ix f memo m
-standing-part S G {J} {k = k} {e = e} {p = p} {ix = ix} {f = f} {memo = memo} {m = m} q st = subst⁻¹ (λ (X : List ℕ). Standing J (bindingsIn X S G) k e p ix f memo m) q st
+pub standing-part : (S G : List ℕ) {J F : List ℕ} {X Y k e p ix : List ℕ} {f : Fill} {memo m : List ℕ} → X ≡ Y → Standing J F (bindingsIn Y S G) k e p ix f memo m → Standing J F (bindingsIn X S G) k e p ix f memo m
+standing-part S G {J} {F} {k = k} {e = e} {p = p} {ix = ix} {f = f} {memo = memo} {m = m} q st = subst⁻¹ (λ (X : List ℕ). Standing J F (bindingsIn X S G) k e p ix f memo m) q st
 
 pub acts-part : (S G : List ℕ) {prog : Program} {rule : ℕ} {a : Action} {X Y : List ℕ} {marking : Bool} {K E P I : List ℕ} {f : Fill} {m K₁ E₁ P₁ I₁ : List ℕ} {r : Acted} {memo₁ m₁ : List ℕ} → X ≡ Y
     → Acts prog rule a (bindingsIn X S G) marking K E P I f m K₁ E₁ P₁ I₁ r memo₁ m₁ → Acts prog rule a (bindingsIn Y S G) marking K E P I f m K₁ E₁ P₁ I₁ r memo₁ m₁

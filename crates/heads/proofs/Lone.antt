@@ -56,7 +56,7 @@ lone-run {J} {xs = xs} {a = a} {v = v} t l q d w e z =
     }
 
 -- marks that were cleared
-pub standing-cleared : {J : List ℕ} {σ : List Binding} {k e p ix : List ℕ} {f : Fill} {memo m m₁ : List ℕ} → Standing J σ k e p ix f memo m → length m₁ ≡ length m → Standing J σ k e p ix f memo m₁
+pub standing-cleared : {J F : List ℕ} {σ : List Binding} {k e p ix : List ℕ} {f : Fill} {memo m m₁ : List ℕ} → Standing J F σ k e p ix f memo m → length m₁ ≡ length m → Standing J F σ k e p ix f memo m₁
 standing-cleared S l = standing-after S (grown-same (S .indexed)) (S .sane) (S .past) refl l
 
 -- the context after one action
@@ -74,8 +74,8 @@ lone-heads {name = name} {σ = σ} {q = q} x y = record {
   marks = λ n t w. y .marks n t [] w;
 }
 
-module _ {J : List ℕ} {name : ℕ} {σ : List Binding} {q : Proposition} {e : ℕ} {k e′ p ix : List ℕ} {f : Fill} {memo m k₁ e₁ p₁ ix₁ : List ℕ} {v : Checked} {memo₁ : List ℕ}
-    (S : Standing J σ k e′ p ix f memo m) (h : e < sizesOf J .expressions) (i : q .lhs ≡ q .rhs)
+module _ {J F : List ℕ} {name : ℕ} {σ : List Binding} {q : Proposition} {e : ℕ} {k e′ p ix : List ℕ} {f : Fill} {memo m k₁ e₁ p₁ ix₁ : List ℕ} {v : Checked} {memo₁ : List ℕ}
+    (S : Standing J F σ k e′ p ix f memo m) (h : e < sizesOf J .expressions) (i : q .lhs ≡ q .rhs)
     (d : EvaluatesRoot (argumentsFor J) (valueFor false J name σ) (sizesOf J .expressions) e k e′ p ix f k₁ e₁ p₁ ix₁ v memo₁)
     (rule : Rule) (nq : name ≡ rule .name) (aq : run (exprFor J e) ∷ [] ≡ rule .actions) where
   pub run-stops : (v .refusal .number ≡ 0 → ⊥) → Produces (programFor J) rule σ q k e′ p ix f k₁ e₁ p₁ ix₁ v memo₁

@@ -123,8 +123,8 @@ cleared-length true m = length-replicate (length m) 0
 cleared-length false m = refl
 
 -- the code's merge
-module _ (J : List ℕ) (p : ℕ) (q : Proposition) (function : ℕ) (a b : Proposition) (k e pool ix : List ℕ) (f : Fill) (memo m : List ℕ)
-    (S : Standing J [] k e pool ix f memo m) (sa : Small (termsIn k e pool f) (a .rhs)) (sb : Small (termsIn k e pool f) (b .rhs))
+module _ (J F : List ℕ) (p : ℕ) (q : Proposition) (function : ℕ) (a b : Proposition) (k e pool ix : List ℕ) (f : Fill) (memo m : List ℕ)
+    (S : Standing J F [] k e pool ix f memo m) (sa : Small (termsIn k e pool f) (a .rhs)) (sb : Small (termsIn k e pool f) (b .rhs))
     (v : Views) (R : outcomeOf (v .refusal) (mergingOf v (front (children (getTerm (termsIn k e pool f) (a .rhs))))) (termsIn k e pool f) ≡ readViews p a b (termsIn k e pool f)) where
   abbrev prog : Program
   prog = programFor J
@@ -148,9 +148,10 @@ module _ (J : List ℕ) (p : ℕ) (q : Proposition) (function : ℕ) (a b : Prop
     values : (last (children (getTerm s (a .rhs))) ≡ some (v .old)) × (last (children (getTerm s (b .rhs))) ≡ some (v .new))
     values = let w = post-result (read-values p a b s) (sym R ∙ ok-of (v .refusal) (mergingOf v inputs) s n) in (w .0, w .1)
 
-    pub merge-standing : {m₁ : List ℕ} → length m₁ ≡ length m → Standing J (mergeBindings (v .old) (v .new)) k e pool ix f memo m₁
+    pub merge-standing : {m₁ : List ℕ} → length m₁ ≡ length m → Standing J F (mergeBindings (v .old) (v .new)) k e pool ix f memo m₁
     merge-standing l = record {
       ready = S .ready;
+      keyed = S .keyed;
       indexed = S .indexed;
       sane = record {
         ordered = S .sane .ordered;
