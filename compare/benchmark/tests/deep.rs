@@ -5,6 +5,7 @@ use std::thread;
 use benchmark::hostile::{Deep, all, by_bytes, by_words};
 use benchmark::lent::{Entry, Lent};
 use generator::Case;
+use job::limits::PROGRAM_BYTES;
 
 const USUAL_STACK: usize = 8 << 20;
 
@@ -65,6 +66,37 @@ fn hostile_answer(name: &str) -> [u32; 8] {
 fn hostile_by_words() {
     for name in HOSTILE {
         assert_eq!(hostile_answer(name)[0], 0, "{name}");
+    }
+}
+
+/// No job with all its steps is refused when it is loaded, by its entry.
+#[test]
+fn hostile_admitted() {
+    for hostile in all() {
+        let case = hostile.case(hostile.most);
+        let lent = job::Lent {
+            kinds: case.kinds,
+            ends: case.ends,
+            pool: case.pool,
+            index: case.index,
+            scratch: case.scratch,
+        };
+        let refusal = job::refusal(&case.job, case.asked, case.mode, &lent);
+        assert_eq!(refusal, None, "{}", hostile.name);
+        let bytes = 4 * case.job.len();
+        let fits = hostile.entry == Entry::Words || bytes <= PROGRAM_BYTES;
+        assert!(fits, "{}: {bytes}", hostile.name);
+    }
+}
+
+/// Each job is accepted with one step, but the one that has too many premises. Thousands of rows are left out: each
+/// look-up may go through all of them.
+#[test]
+fn hostile_with_one_step() {
+    let quick = |name: &str| !name.contains("rows") && name != "4,096 premises";
+    for hostile in all().into_iter().filter(|hostile| quick(hostile.name)) {
+        let answer = answer(&hostile.case(1), hostile.entry);
+        assert_eq!(answer[0], 0, "{}", hostile.name);
     }
 }
 

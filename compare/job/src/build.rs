@@ -1,6 +1,7 @@
 //! Cells by what they mean; each function appends one and gives its number.
 
 use crate::layout::Table;
+use crate::limits::OPERANDS;
 use crate::tables::Tables;
 
 /// The three words of a signed 64-bit literal.
@@ -10,6 +11,15 @@ pub fn integer_words(value: i64) -> [u32; 3] {
 
 fn joined(first: &[u32], rest: &[u32]) -> Vec<u32> {
     [first, rest].concat()
+}
+
+/// Calls of up to 16 arguments over each other, down to these; the one on top.
+pub fn gathered(leaves: Vec<u32>, mut call: impl FnMut(&[u32]) -> u32) -> u32 {
+    let mut level = leaves;
+    while level.len() > 1 {
+        level = level.chunks(OPERANDS).map(&mut call).collect();
+    }
+    level[0]
 }
 
 impl Tables {

@@ -1,12 +1,13 @@
 //! Jobs whose terms have one slot of the index: found by taking the mix back, step by step, from that slot
-//! to a word that is free.
+//! to a word that is free. Names and rows that have one slot of their table.
 
 use std::collections::{BTreeMap, BTreeSet};
 use std::iter;
 use std::ops::RangeInclusive;
 
 use generator::extremes::{F, RULE};
-use job::limits::OPERANDS;
+use job::build::gathered;
+use job::limits::CELLS;
 use job::{OwnedCell, Table, Tables};
 
 use crate::index_model::Mix;
@@ -15,6 +16,9 @@ use crate::index_model::Mix;
 const ONE: u32 = 0;
 /// The names that document 01 gives a meaning.
 const RESERVED: u32 = 4;
+
+/// What stands for the kind in the mix of a name or of a row.
+const TABLE: u32 = 0;
 
 /// Words that give terms the mixes of one slot, each another.
 struct Aimed {
@@ -106,15 +110,10 @@ fn climb(tables: &mut Tables, names: &[u32], times: usize, steps: usize) {
     let one = tables.integer(1);
     let fact = tables.bare(one);
     let leaves = names.iter().map(|&name| tables.constructor(name, &[]));
-    let mut level: Vec<u32> = leaves.collect();
-    while level.len() > 1 {
-        let above = level.chunks(OPERANDS);
-        level = above
-            .map(|arguments| tables.constructor(F, arguments))
-            .collect();
-    }
+    let leaves = leaves.collect();
+    let top = gathered(leaves, |arguments| tables.constructor(F, arguments));
     let claimed = tables.expression_action(one);
-    let calls = tables.expression_action(level[0]);
+    let calls = tables.expression_action(top);
     let mut actions = vec![calls; times];
     actions.push(claimed);
     tables.rule(RULE, &[fact], &actions);
@@ -122,6 +121,29 @@ fn climb(tables: &mut Tables, names: &[u32], times: usize, steps: usize) {
     for _ in 0..steps {
         below = tables.rule_step((ONE, ONE), RULE, &[below], &[]);
     }
+}
+
+/// As many names as a table may have cells, which have one slot of it where the lent word is 0.
+pub fn table_names() -> Vec<u32> {
+    let slots = CELLS as usize;
+    let mut aimed = Aimed::at(0, slots, slots - 1);
+    let names = iter::from_fn(|| aimed.word(TABLE, &[], &[]));
+    let names = names.filter(|&name| name >= RESERVED);
+    names.take(slots).collect()
+}
+
+/// So many pairs of terms below a number that have one slot among as many for the word 0, as the last two arguments
+/// of rows of primitive 0 that have these before.
+pub fn row_ends(before: &[u32], count: usize, terms: u32) -> Vec<[u32; 2]> {
+    let mix = Mix::new(0);
+    let start = mix.all_stirred(mix.all_stirred(TABLE, &[0]), before);
+    let ends = (0..terms).flat_map(|first| {
+        let stirred = mix.all_stirred(start, &[first]);
+        let aimed = move |last: &u32| mix.slot(stirred, &[*last], count) == count - 1;
+        let lasts = (0..terms).filter(aimed);
+        lasts.map(move |last| [first, last])
+    });
+    ends.take(count).collect()
 }
 
 /// The job with other names, so that the first term of each has this slot for a lent word; none where it

@@ -43,7 +43,8 @@ impl Mix {
         self.untimed(self.untimed(mixed)?)
     }
 
-    fn all_stirred(self, kind: u32, words: &[u32]) -> u32 {
+    /// What words are stirred to, starting from a kind or from what the words before were stirred to.
+    pub fn all_stirred(self, kind: u32, words: &[u32]) -> u32 {
         let stir = |mixed, &word| self.stirred(mixed, word);
         words.iter().fold(kind, stir)
     }

@@ -5,7 +5,7 @@ use std::collections::BTreeSet;
 
 use generator::{Random, job};
 use job::build::integer_words;
-use job::limits::{PROGRAM_BYTES, PROGRAM_CELLS, PROGRAM_INDEX, TERMS};
+use job::limits::{CELLS, PROGRAM_BYTES, PROGRAM_CELLS, PROGRAM_INDEX, TERMS};
 use job::{Job, Table, Tables};
 use tools::colliding::{self, added_calls, last_calls};
 use tools::index_model::{Index, Mix};
@@ -195,6 +195,35 @@ fn calls_of_one_slot() {
     let last = last_calls(TERMS as usize, 3_824, 1).words();
     let (aimed, others) = for_0_and_others(|word| evaluations(word, MOST_SLOTS, &last, 1));
     assert!(aimed > 50_000_000 && others < FEW);
+}
+
+/// How many of a table's keys the fullest slot has, among as many slots as keys.
+fn fullest(word: u32, keys: &[Vec<u32>]) -> usize {
+    let mix = Mix::new(word);
+    let mut slots = vec![0; keys.len()];
+    for key in keys {
+        slots[mix.slot(0, key, keys.len())] += 1;
+    }
+    slots.into_iter().max().expect("a slot")
+}
+
+/// Names and rows of one slot where the word is 0 have many slots for other words.
+#[test]
+fn tables_of_one_slot() {
+    let all = CELLS as usize;
+    let names = colliding::table_names();
+    let ends = colliding::row_ends(&[0; 6], all, 4_200);
+    let names: Vec<Vec<u32>> = names.into_iter().map(|name| vec![name]).collect();
+    let rows: Vec<Vec<u32>> = ends
+        .iter()
+        .map(|ends| [&[0; 7], &ends[..]].concat())
+        .collect();
+    for keys in [names, rows] {
+        let different: BTreeSet<&Vec<u32>> = keys.iter().collect();
+        assert_eq!((keys.len(), different.len()), (all, all));
+        let (aimed, others) = for_0_and_others(|word| fullest(word, &keys) as u64);
+        assert!(aimed == u64::from(CELLS) && others < 20, "{others}");
+    }
 }
 
 /// Other names make a generated job's terms meet in the wanted slot, and change no number.

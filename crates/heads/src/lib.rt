@@ -18,7 +18,7 @@ use pairs::mark_values;
 use program::Looked;
 use program::job::EXPRESSIONS;
 use program::job::size;
-use program::merge_of;
+use lookups::merge_of;
 use program::read::action_at;
 use program::read::rule_actions_at;
 use program::read::rule_name_at;
@@ -63,6 +63,7 @@ fn has_pair(effect: Effect, q: Proposition) -> bool
 // `process_actions` for a head.
 fn head_actions(
     job: &[u32],
+    found: &[u32],
     bound: &[u32],
     pairs: &[u32],
     globals: &[u32],
@@ -88,11 +89,12 @@ fn head_actions(
     let mut at = 160 - bound.len();
     cells::copy(&mut table, at, bound);
     let mut have = fill;
-    let mut found = false;
+    let mut seen = false;
     let mut i = 0;
     while i < actions.len() {
         let r = process_action(
             job,
+            found,
             &table[at..],
             pairs,
             globals,
@@ -117,7 +119,7 @@ fn head_actions(
             };
         }
         let effect = r.effect;
-        found = found | has_pair(effect, q);
+        seen = seen | has_pair(effect, q);
         at = push_binding(&mut table, at, effect);
         i += 1;
     }
@@ -127,7 +129,7 @@ fn head_actions(
             count: 0,
             fields: [0; 6],
         },
-        found,
+        found: seen,
         fill: have,
     }
 }
@@ -224,6 +226,7 @@ fn lone_run(job: &[u32], marking: bool, actions: &[u32]) -> Looked
 // A head of one such action, for a reflexive claim: its value is compared first, and marked with those below it only where it is another.
 fn run_produces(
     job: &[u32],
+    found: &[u32],
     bound: &[u32],
     pairs: &[u32],
     globals: &[u32],
@@ -245,6 +248,7 @@ fn run_produces(
 {
     let v = evaluate(
         job,
+        found,
         bound,
         pairs,
         globals,
@@ -274,6 +278,7 @@ fn run_produces(
 // `check_rule_produces_equality` for rule r.
 pub fn check_rule_produces_equality(
     job: &[u32],
+    found: &[u32],
     bound: &[u32],
     pairs: &[u32],
     globals: &[u32],
@@ -299,6 +304,7 @@ pub fn check_rule_produces_equality(
     if let Looked::Some(e) = lone {
         return run_produces(
             job,
+            found,
             bound,
             pairs,
             globals,
@@ -317,6 +323,7 @@ pub fn check_rule_produces_equality(
     clear_if(marking, marks);
     let h = head_actions(
         job,
+        found,
         bound,
         pairs,
         globals,
@@ -348,6 +355,7 @@ pub fn check_rule_produces_equality(
 // `run_merge`: with `old` and `new` alone.
 pub fn run_merge(
     job: &[u32],
+    found: &[u32],
     skinds: &mut [u32],
     sends: &mut [u32],
     spool: &mut [u32],
@@ -363,13 +371,14 @@ pub fn run_merge(
     requires { ⌜ Standing (now job) (now found) (model.mergeBindings old new) (now skinds) (now sends) (now spool) (now index) fill (now memo) (now marks) ⌝ }
     ensures { λ r. ⌜ Yields (programFor (now (job .entry))) (model.mergeBindings old new) (model.runMerge (roomOf (now (skinds .entry)) (now (spool .entry))) (programFor (now (job .entry))) function old new (termsIn (now (skinds .entry)) (now (sends .entry)) (now (spool .entry)) fill)) marking (now (skinds .entry)) (now (sends .entry)) (now (spool .entry)) (now (index .entry)) fill (now (marks .entry)) (now (skinds .exit)) (now (sends .exit)) (now (spool .exit)) (now (index .exit)) r (now (memo .exit)) (now (marks .exit)) ⌝ }
 {
-    let merge = merge_of(job, function);
+    let merge = merge_of(job, found, function);
     let bound = [Name::OLD.number, old, Name::NEW.number, new];
     let none = [0u32; 0];
     match merge {
         Merge::Nothing => refuse1(43, function, fill),
         Merge::Expr(e) => yield_value(
             job,
+            found,
             &bound,
             &none,
             &none,

@@ -276,6 +276,7 @@ fn add_view(
 // `MergeFn`: the views of a and b, merged by the function named.
 pub fn merge_step(
     job: &[u32],
+    found: &[u32],
     skinds: &mut [u32],
     sends: &mut [u32],
     spool: &mut [u32],
@@ -307,6 +308,7 @@ pub fn merge_step(
     clear_if(marking, marks);
     let m = run_merge(
         job,
+        found,
         skinds,
         sends,
         spool,

@@ -16,10 +16,9 @@ const LARGE_STACK: usize = 64 << 20;
 /// The least stack is found to this many bytes.
 const GRAIN: usize = 16 << 10;
 /// A job that takes longer is stopped, and its time reckoned from fewer steps.
-const LONGEST: Duration = Duration::from_secs(30);
+const LONGEST: Duration = Duration::from_secs(600);
 /// What the time must grow by, at least, to be reckoned from.
 const GROWTH: f64 = 0.5;
-const SECOND: f64 = 1.0;
 
 /// What a child did.
 enum Ended {
@@ -126,6 +125,16 @@ fn reckoned(place: usize, most: usize) -> (f64, String) {
     }
 }
 
+/// The seconds within which an entry is to answer, and whether it did.
+fn by_limit(entry: Entry, seconds: f64) -> String {
+    let limit = match entry {
+        Entry::Words => 60,
+        Entry::Bytes => 10,
+    };
+    let over = seconds > f64::from(limit);
+    format!("{} {limit} s", if over { "OVER" } else { "within" })
+}
+
 /// Runs a job whole, on the usual stack or, where that overflows, on a large one.
 fn explore(place: usize, hostile: &Hostile) {
     let work = Work::Load(place, hostile.most);
@@ -139,14 +148,10 @@ fn explore(place: usize, hostile: &Hostile) {
         _ => ("~", reckoned(place, hostile.most)),
     };
     println!(
-        "{:44} {:>6} {about}{seconds:>11.3} {:9} {:9} {answer}",
+        "{:44} {:>6} {about}{seconds:>11.3} {:11} {:9} {answer}",
         hostile.name,
         hostile.most,
-        match seconds {
-            seconds if seconds > 5.0 * SECOND => "OVER 5 s",
-            seconds if seconds > SECOND => "over 1 s",
-            _ => "",
-        },
+        by_limit(hostile.entry, seconds),
         if overflows { "OVERFLOWS" } else { "" },
     );
 }
@@ -154,8 +159,8 @@ fn explore(place: usize, hostile: &Hostile) {
 /// Runs the jobs whose name has the part.
 fn load(part: &str) {
     println!(
-        "{:44} {:>6} {:>12} {:9} {:9} answer; ~: reckoned, with the answer of fewer steps",
-        "job", "steps", "seconds", "", "8 MiB"
+        "{:44} {:>6} {:>12} {:11} {:9} answer; ~: reckoned, with the answer of fewer steps",
+        "job", "steps", "seconds", "limit", "8 MiB"
     );
     for (place, hostile) in hostile::all().iter().enumerate() {
         if hostile.name.contains(part) {

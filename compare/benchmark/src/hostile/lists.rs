@@ -4,7 +4,7 @@ use generator::extremes::{F, RULE, X, united};
 use job::limits::{CELLS, FACTS, GLOBALS, OPERANDS, PAIRS, POOL, PREMISES, TERMS};
 use job::{Table, Tables};
 
-use super::ground::{ONE, climb, literal};
+use super::ground::{ONE, climb, climb_by, literal};
 
 const BOX: u32 = 11;
 /// The first of many names.
@@ -64,50 +64,63 @@ pub fn every_table(_: usize) -> Tables {
     tables
 }
 
-/// All steps are by the last rule.
-pub fn rules(steps: usize) -> Tables {
+/// As many names as a table may have cells, one after another.
+pub fn names() -> Vec<u32> {
+    (MANY..MANY + CELLS).collect()
+}
+
+/// The last of these names, and all others.
+fn last_and_others(names: &[u32]) -> (u32, &[u32]) {
+    let (&last, others) = names.split_last().expect("a name");
+    (last, others)
+}
+
+/// All steps are by the last rule of these names.
+pub fn rules(steps: usize, names: &[u32]) -> Tables {
+    let (last, others) = last_and_others(names);
     let mut tables = literal();
     let fact = tables.bare(ONE);
     let head = tables.expression_action(ONE);
-    for place in 1..CELLS {
-        tables.rule(MANY + place, &[fact], &[head]);
+    for &name in others {
+        tables.rule(name, &[fact], &[head]);
     }
-    climb(&mut tables, (ONE, ONE), &[fact], &[head], &[], steps);
+    climb_by(&mut tables, last, (ONE, ONE), &[fact], &[head], &[], steps);
     tables
 }
 
-/// All merges are by the last function.
-pub fn functions(steps: usize) -> Tables {
+/// All merges are by the last function of these names.
+pub fn functions(steps: usize, names: &[u32]) -> Tables {
+    let (last, _) = last_and_others(names);
     let mut tables = literal();
     let view = tables.term_application(F, &[ONE, ONE]);
     let call = tables.custom(F, &[ONE, ONE]);
     tables.set_action(call);
     tables.globals = 1;
-    for place in 0..CELLS {
-        tables.function(MANY + place, ONE);
+    for &name in names {
+        tables.function(name, ONE);
     }
     let first = tables.fiat((view, view));
     let mut proof = first;
     for _ in 0..steps {
-        proof = tables.merge_step((view, view), MANY + CELLS - 1, proof, first);
+        proof = tables.merge_step((view, view), last, proof, first);
     }
     tables
 }
 
 /// Normalisations by the last normaliser, of whose primitive no row fits.
-pub fn misses(steps: usize) -> Tables {
+pub fn misses(steps: usize, heads: &[u32]) -> Tables {
+    let (last, _) = last_and_others(heads);
     let mut tables = literal();
     let children = [ONE; 8];
-    let term = tables.term_application(F, &children);
-    let call = tables.constructor(F, &children);
+    let term = tables.term_application(last, &children);
+    let call = tables.constructor(last, &children);
     tables.expression_action(call);
     tables.globals = 1;
     let primitive = tables.primitive(1, BOX);
     rows_alike(&mut tables, primitive, children.len());
-    for place in 1..CELLS {
-        tables.normaliser(MANY + place, primitive);
+    for &head in heads {
+        tables.normaliser(head, primitive);
     }
-    tables.normaliser(F, primitive);
     let mut proof = tables.fiat((term, term));
     for _ in 0..steps {
         proof = tables.normalisation((term, term), proof);
@@ -160,7 +173,7 @@ pub fn unneeded_premises(_: usize) -> Tables {
 
 /// Steps by the last rule, which the asked proof does not refer to: no rule need be looked up for them.
 pub fn unneeded_steps(_: usize) -> Tables {
-    let mut tables = rules(CELLS as usize - 2);
+    let mut tables = rules(CELLS as usize - 2, &names());
     tables.fiat((ONE, ONE));
     tables
 }

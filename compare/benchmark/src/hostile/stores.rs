@@ -4,7 +4,7 @@ use generator::extremes::{F, RULE, X, Y, united};
 use job::Tables;
 use job::limits::{ACTIONS, CELLS, OPERANDS, TERMS};
 
-use super::ground::{ONE, climb_on_one, literal};
+use super::ground::{ONE, Shape, climb_on_one, literal, stacked};
 
 const SMALL: u32 = 10;
 /// Calls over X and Y, so that all expressions there may be are used.
@@ -27,15 +27,6 @@ fn many_terms() -> (Tables, u32, u32) {
     (tables, x, y)
 }
 
-/// Calls over an expression one over another, the one below as the last of so many arguments, all others 1.
-fn tower_of_ones(tables: &mut Tables, bottom: u32, width: usize) -> u32 {
-    (0..LEVELS).fold(bottom, |below, _| {
-        let mut arguments = vec![ONE; width];
-        arguments[width - 1] = below;
-        tables.constructor(F, &arguments)
-    })
-}
-
 /// Steps by a rule one under another; step i claims the term that X is bound to.
 fn climb_on_terms(tables: &mut Tables, rule: u32, below: u32, terms: &[(u32, u32)]) -> u32 {
     terms.iter().fold(below, |below, &(x, y)| {
@@ -46,7 +37,9 @@ fn climb_on_terms(tables: &mut Tables, rule: u32, below: u32, terms: &[(u32, u32
 /// Each head adds a term for each call, or finds it: X is another term at each of the filling steps, then always the same.
 fn filled_by(steps: usize, filling: usize, width: usize) -> Tables {
     let (mut tables, x, y) = many_terms();
-    let top = tower_of_ones(&mut tables, x, width);
+    let top = stacked(x, LEVELS, Shape::last(width), |arguments| {
+        tables.constructor(F, arguments)
+    });
     let fact = tables.bare(y);
     let head = tables.expression_action(top);
     tables.rule(RULE, &[fact], &[head]);

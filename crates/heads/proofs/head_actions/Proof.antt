@@ -11,24 +11,24 @@ use Rattle.heads.proofs.head_actions.Statement.{statement}
 use Rattle.heads.proofs.head_actions.Tie as tie
 
 abbrev Inv-loop : tie.InvT-loop
-Inv-loop job bound pairs globals rule skinds₀ sends₀ spool₀ index₀ memo₀ marking marks₀ actions q table₀ at₀ have₀ found₀ i₀ skinds sends spool index memo marks table at have found i =
-    Turn job rule pairs globals (propositionOf q) marking actions (bindingsIn bound pairs globals) skinds₀ sends₀ spool₀ index₀ have₀ memo₀ marks₀ skinds sends spool index have memo marks table at found i
+Inv-loop job found bound pairs globals rule skinds₀ sends₀ spool₀ index₀ memo₀ marking marks₀ actions q table₀ at₀ have₀ seen₀ i₀ skinds sends spool index memo marks table at have seen i =
+    Turn job found rule pairs globals (propositionOf q) marking actions (bindingsIn bound pairs globals) skinds₀ sends₀ spool₀ index₀ have₀ memo₀ marks₀ skinds sends spool index have memo marks table at seen i
 
 abbrev μ-loop : tie.MeasureT-loop
-μ-loop job bound pairs globals rule skinds₀ sends₀ spool₀ index₀ memo₀ marking marks₀ actions q table₀ at₀ have₀ found₀ i₀ skinds sends spool index memo marks table at have found i =
+μ-loop job found bound pairs globals rule skinds₀ sends₀ spool₀ index₀ memo₀ marking marks₀ actions q table₀ at₀ have₀ seen₀ i₀ skinds sends spool index memo marks table at have seen i =
     length actions - i
 
 sub-at : tie.Need-sub-at Inv-loop μ-loop
-sub-at c = let h = c .before .before .before .before .before .before .before .before .before .before .before .pre .1 .0 in omega arith
+sub-at c = let h = c .before .before .before .before .before .before .before .before .before .before .before .before .pre .1 .0 in omega arith
 
 slice-aggregate-copy : tie.Need-slice-aggregate-copy Inv-loop μ-loop
 slice-aggregate-copy c = search needs
 
 copy-requires : tie.Need-copy-requires Inv-loop μ-loop
-copy-requires c κs = let h = c .before .before .before .before .before .before .before .before .before .before .before .before .pre .1 .0 in omega arith
+copy-requires c κs = let h = c .before .before .before .before .before .before .before .before .before .before .before .before .before .pre .1 .0 in omega arith
 
 loop-holds : tie.Need-loop-holds Inv-loop μ-loop
-loop-holds c = let a = c .before .before .before .before .before .before .before .before .before .before .before .before .before .before .args in let pre = c .before .before .before .before .before .before .before .before .before .before .before .before .before .before .pre in let h = pre .1 .0 in start (a .job .now) (a .rule) (a .pairs .now) (a .globals .now) (propositionOf (a .q)) (a .marking) (pre .0) (pre .1 .1 .0) (omega arith) (omega arith) (search needs) (copied-at _ (a .bound .now) _ (omega arith) (c .before .copy .ensures))
+loop-holds c = let a = c .before .before .before .before .before .before .before .before .before .before .before .before .before .before .before .args in let pre = c .before .before .before .before .before .before .before .before .before .before .before .before .before .before .before .pre in let h = pre .1 .0 in start (a .job .now) (a .found .now) (a .rule) (a .pairs .now) (a .globals .now) (propositionOf (a .q)) (a .marking) (pre .0) (pre .1 .1 .0) (omega arith) (omega arith) (search needs) (copied-at _ (a .bound .now) _ (omega arith) (c .before .copy .ensures))
 
 mul-process-action : tie.Need-mul-process-action Inv-loop μ-loop
 mul-process-action c = search needs
@@ -43,13 +43,13 @@ part-process-action-end : tie.Need-part-process-action-end Inv-loop μ-loop
 part-process-action-end c = search needs
 
 mul-process-action-2 : tie.Need-mul-process-action-2 Inv-loop μ-loop
-mul-process-action-2 c = let x = c .before .before .before .before .before .before .before .before .loop-test .taken in let y = c .before .before .before .before .before .before .before .before .before .before .before .before .before .before .before .before .before .before .before .before .before .before .before .before .pre .1 .1 .0 in omega arith
+mul-process-action-2 c = let x = c .before .before .before .before .before .before .before .before .loop-test .taken in let y = c .before .before .before .before .before .before .before .before .before .before .before .before .before .before .before .before .before .before .before .before .before .before .before .before .before .pre .1 .1 .0 in omega arith
 
 shared-slice-read-process-action : tie.Need-shared-slice-read-process-action Inv-loop μ-loop
 shared-slice-read-process-action c = search needs
 
 process-action-requires : tie.Need-process-action-requires Inv-loop μ-loop
-process-action-requires c κs = let a = c .before .before .before .before .before .before .before .before .before .before .before .before .before .before .before .before .before .before .before .before .before .before .before .before .before .args in let pre = c .before .before .before .before .before .before .before .before .before .before .before .before .before .before .before .before .before .before .before .before .before .before .before .before .before .pre in let t = c .before .before .before .before .before .before .before .before .before .before .loop .inv in (standing-part (a .pairs .now) (a .globals .now) (part-is (c .before .before .before .before .before .before .before .before .before .before .loop .table) (c .before .before .before .before .before .before .before .before .before .before .loop .at) (t .full)) (t .stand), pre .1 .1 .1 (c .before .before .before .before .before .before .before .before .before .before .loop .i) (search needs))
+process-action-requires c κs = let a = c .before .before .before .before .before .before .before .before .before .before .before .before .before .before .before .before .before .before .before .before .before .before .before .before .before .before .args in let pre = c .before .before .before .before .before .before .before .before .before .before .before .before .before .before .before .before .before .before .before .before .before .before .before .before .before .before .pre in let t = c .before .before .before .before .before .before .before .before .before .before .loop .inv in (standing-part (a .pairs .now) (a .globals .now) (part-is (c .before .before .before .before .before .before .before .before .before .before .loop .table) (c .before .before .before .before .before .before .before .before .before .before .loop .at) (t .full)) (t .stand), pre .1 .1 .1 (c .before .before .before .before .before .before .before .before .before .before .loop .i) (c .before .before .before .before .before .before .before .before .before .loop-test .taken))
 
 same-length : tie.Need-same-length Inv-loop μ-loop
 same-length c = c .before .before .before .before .before .before .before .before .before .before .before .before .before .before .before .before .process-action .ensures .does [] .grown .lenK ∙ c .before .before .before .before .before .before .before .before .before .before .before .before .before .before .before .before .before .before .before .before .before .before .before .before .before .before .before .loop .inv .grown .lenK
@@ -64,13 +64,13 @@ same-length-4 : tie.Need-same-length-4 Inv-loop μ-loop
 same-length-4 c = c .before .before .before .before .before .before .before .before .before .before .before .before .before .before .before .before .process-action .ensures .does [] .grown .lenI ∙ c .before .before .before .before .before .before .before .before .before .before .before .before .before .before .before .before .before .before .before .before .before .before .before .before .before .before .before .loop .inv .grown .lenI
 
 same-length-5 : tie.Need-same-length-5 Inv-loop μ-loop
-same-length-5 c = c .before .before .before .before .before .before .before .before .before .before .before .before .before .before .before .before .process-action .kept .1 .1 .1 .1 .1 .1 .1 .1 .1 .1 .0 ∙ c .before .before .before .before .before .before .before .before .before .before .before .before .before .before .before .before .before .before .before .before .before .before .before .before .before .before .before .loop .inv .lenMemo
+same-length-5 c = c .before .before .before .before .before .before .before .before .before .before .before .before .before .before .before .before .process-action .kept .1 .1 .1 .1 .1 .1 .1 .1 .1 .1 .1 .0 ∙ c .before .before .before .before .before .before .before .before .before .before .before .before .before .before .before .before .before .before .before .before .before .before .before .before .before .before .before .loop .inv .lenMemo
 
 same-length-6 : tie.Need-same-length-6 Inv-loop μ-loop
-same-length-6 c = c .before .before .before .before .before .before .before .before .before .before .before .before .before .before .before .before .process-action .kept .1 .1 .1 .1 .1 .1 .1 .1 .1 .1 .1 .1 .0 ∙ c .before .before .before .before .before .before .before .before .before .before .before .before .before .before .before .before .before .before .before .before .before .before .before .before .before .before .before .loop .inv .lenM
+same-length-6 c = c .before .before .before .before .before .before .before .before .before .before .before .before .before .before .before .before .process-action .kept .1 .1 .1 .1 .1 .1 .1 .1 .1 .1 .1 .1 .1 .0 ∙ c .before .before .before .before .before .before .before .before .before .before .before .before .before .before .before .before .before .before .before .before .before .before .before .before .before .before .before .loop .inv .lenM
 
 returns : tie.Need-returns Inv-loop μ-loop
-returns c = let a = c .before .before .before .before .before .before .before .before .before .before .before .before .before .before .before .before .before .before .before .before .before .before .before .before .before .before .before .before .before .before .before .before .before .before .before .before .before .before .before .before .before .before .args in let t = c .before .before .before .before .before .before .before .before .before .before .before .before .before .before .before .before .before .before .before .before .before .before .before .before .before .before .before .loop .inv in stops (a .job .now) (a .rule) (a .pairs .now) (a .globals .now) (propositionOf (a .q)) (a .marking) t (c .before .before .before .before .before .before .before .before .before .before .before .before .before .before .before .before .before .before .before .before .before .before .before .before .before .before .loop-test .taken) (acts-part (a .pairs .now) (a .globals .now) (part-is (c .before .before .before .before .before .before .before .before .before .before .before .before .before .before .before .before .before .before .before .before .before .before .before .before .before .before .before .loop .table) (c .before .before .before .before .before .before .before .before .before .before .before .before .before .before .before .before .before .before .before .before .before .before .before .before .before .before .before .loop .at) (t .full)) (c .before .before .before .before .before .before .before .before .before .before .before .before .before .before .before .before .process-action .ensures)) (c .before .if1 .taken) refl
+returns c = let a = c .before .before .before .before .before .before .before .before .before .before .before .before .before .before .before .before .before .before .before .before .before .before .before .before .before .before .before .before .before .before .before .before .before .before .before .before .before .before .before .before .before .before .before .args in let t = c .before .before .before .before .before .before .before .before .before .before .before .before .before .before .before .before .before .before .before .before .before .before .before .before .before .before .before .loop .inv in stops (a .job .now) (a .found .now) (a .rule) (a .pairs .now) (a .globals .now) (propositionOf (a .q)) (a .marking) t (c .before .before .before .before .before .before .before .before .before .before .before .before .before .before .before .before .before .before .before .before .before .before .before .before .before .before .loop-test .taken) (acts-part (a .pairs .now) (a .globals .now) (part-is (c .before .before .before .before .before .before .before .before .before .before .before .before .before .before .before .before .before .before .before .before .before .before .before .before .before .before .before .loop .table) (c .before .before .before .before .before .before .before .before .before .before .before .before .before .before .before .before .before .before .before .before .before .before .before .before .before .before .before .loop .at) (t .full)) (c .before .before .before .before .before .before .before .before .before .before .before .before .before .before .before .before .process-action .ensures)) (c .before .if1 .taken) refl
 
 has-pair-requires : tie.Need-has-pair-requires Inv-loop μ-loop
 has-pair-requires c κs = search needs
@@ -82,13 +82,13 @@ push-binding-requires : tie.Need-push-binding-requires Inv-loop μ-loop
 push-binding-requires c κs = let t = c .before .before .before .before .before .before .before .before .before .before .before .before .before .before .before .before .before .before .before .before .before .before .before .before .before .before .before .before .loop .inv in let f = t .free in let l = t .low in let h = t .full in let i = c .before .before .before .before .before .before .before .before .before .before .before .before .before .before .before .before .before .before .before .before .before .before .before .before .before .before .before .loop-test .taken in (omega arith, omega arith)
 
 add-i : tie.Need-add-i Inv-loop μ-loop
-add-i c = let x = c .before .before .before .before .before .before .before .before .before .before .before .before .before .before .before .before .before .before .before .before .before .before .before .before .before .before .before .before .before .loop-test .taken in let y = c .before .before .before .before .before .before .before .before .before .before .before .before .before .before .before .before .before .before .before .before .before .before .before .before .before .before .before .before .before .before .before .before .before .before .before .before .before .before .before .before .before .before .before .before .before .pre .1 .1 .0 in omega arith
+add-i c = let x = c .before .before .before .before .before .before .before .before .before .before .before .before .before .before .before .before .before .before .before .before .before .before .before .before .before .before .before .before .before .loop-test .taken in let y = c .before .before .before .before .before .before .before .before .before .before .before .before .before .before .before .before .before .before .before .before .before .before .before .before .before .before .before .before .before .before .before .before .before .before .before .before .before .before .before .before .before .before .before .before .before .before .pre .1 .1 .0 in omega arith
 
 loop-less : tie.Need-loop-less Inv-loop μ-loop
-loop-less c = let x = c .before .before .before .before .before .before .before .before .before .before .before .before .before .before .before .before .before .before .before .before .before .before .before .before .before .before .before .before .before .loop-test .taken in let y = c .before .before .before .before .before .before .before .before .before .before .before .before .before .before .before .before .before .before .before .before .before .before .before .before .before .before .before .before .before .before .before .before .before .before .before .before .before .before .before .before .before .before .before .before .before .pre .1 .1 .0 in omega arith
+loop-less c = let x = c .before .before .before .before .before .before .before .before .before .before .before .before .before .before .before .before .before .before .before .before .before .before .before .before .before .before .before .before .before .loop-test .taken in let y = c .before .before .before .before .before .before .before .before .before .before .before .before .before .before .before .before .before .before .before .before .before .before .before .before .before .before .before .before .before .before .before .before .before .before .before .before .before .before .before .before .before .before .before .before .before .before .pre .1 .1 .0 in omega arith
 
 loop-again : tie.Need-loop-again Inv-loop μ-loop
-loop-again c = let a = c .before .before .before .before .before .before .before .before .before .before .before .before .before .before .before .before .before .before .before .before .before .before .before .before .before .before .before .before .before .before .before .before .before .before .before .before .before .before .before .before .before .before .before .before .before .args in let t = c .before .before .before .before .before .before .before .before .before .before .before .before .before .before .before .before .before .before .before .before .before .before .before .before .before .before .before .before .before .before .loop .inv in turns (a .job .now) (a .rule) (a .pairs .now) (a .globals .now) (propositionOf (a .q)) (a .marking) t (c .before .before .before .before .before .before .before .before .before .before .before .before .before .before .before .before .before .before .before .before .before .before .before .before .before .before .before .before .before .loop-test .taken) (acts-part (a .pairs .now) (a .globals .now) (part-is (c .before .before .before .before .before .before .before .before .before .before .before .before .before .before .before .before .before .before .before .before .before .before .before .before .before .before .before .before .before .before .loop .table) (c .before .before .before .before .before .before .before .before .before .before .before .before .before .before .before .before .before .before .before .before .before .before .before .before .before .before .before .before .before .before .loop .at) (t .full)) (c .before .before .before .before .before .before .before .before .before .before .before .before .before .before .before .before .before .before .before .process-action .ensures)) (c .before .before .before .before .if1 .left) (c .before .before .before .has-pair .ensures) refl (c .before .push-binding .ensures) (c .before .push-binding .kept .0) (c .before .before .before .before .before .before .before .before .before .before .before .before .before .before .before .before .before .before .before .process-action .kept .1 .1 .1 .1 .1 .1 .1 .1 .1 .1 .0) (c .before .before .before .before .before .before .before .before .before .before .before .before .before .before .before .before .before .before .before .process-action .kept .1 .1 .1 .1 .1 .1 .1 .1 .1 .1 .1 .1 .0)
+loop-again c = let a = c .before .before .before .before .before .before .before .before .before .before .before .before .before .before .before .before .before .before .before .before .before .before .before .before .before .before .before .before .before .before .before .before .before .before .before .before .before .before .before .before .before .before .before .before .before .before .args in let t = c .before .before .before .before .before .before .before .before .before .before .before .before .before .before .before .before .before .before .before .before .before .before .before .before .before .before .before .before .before .before .loop .inv in turns (a .job .now) (a .found .now) (a .rule) (a .pairs .now) (a .globals .now) (propositionOf (a .q)) (a .marking) t (c .before .before .before .before .before .before .before .before .before .before .before .before .before .before .before .before .before .before .before .before .before .before .before .before .before .before .before .before .before .loop-test .taken) (acts-part (a .pairs .now) (a .globals .now) (part-is (c .before .before .before .before .before .before .before .before .before .before .before .before .before .before .before .before .before .before .before .before .before .before .before .before .before .before .before .before .before .before .loop .table) (c .before .before .before .before .before .before .before .before .before .before .before .before .before .before .before .before .before .before .before .before .before .before .before .before .before .before .before .before .before .before .loop .at) (t .full)) (c .before .before .before .before .before .before .before .before .before .before .before .before .before .before .before .before .before .before .before .process-action .ensures)) (c .before .before .before .before .if1 .left) (c .before .before .before .has-pair .ensures) refl (c .before .push-binding .ensures) (c .before .push-binding .kept .0) (c .before .before .before .before .before .before .before .before .before .before .before .before .before .before .before .before .before .before .before .process-action .kept .1 .1 .1 .1 .1 .1 .1 .1 .1 .1 .1 .0) (c .before .before .before .before .before .before .before .before .before .before .before .before .before .before .before .before .before .before .before .process-action .kept .1 .1 .1 .1 .1 .1 .1 .1 .1 .1 .1 .1 .1 .0)
 
 same-length-7 : tie.Need-same-length-7 Inv-loop μ-loop
 same-length-7 c = c .before .loop .inv .grown .lenK
@@ -109,7 +109,7 @@ same-length-12 : tie.Need-same-length-12 Inv-loop μ-loop
 same-length-12 c = c .before .loop .inv .lenM
 
 returns-2 : tie.Need-returns-2 Inv-loop μ-loop
-returns-2 c = let a = c .before .before .before .before .before .before .before .before .before .before .before .before .before .before .before .before .args in let pre = c .before .before .before .before .before .before .before .before .before .before .before .before .before .before .before .before .pre in finishes (a .job .now) (a .rule) (a .pairs .now) (a .globals .now) (propositionOf (a .q)) (a .marking) (c .before .loop .inv) (search needs) refl
+returns-2 c = let a = c .before .before .before .before .before .before .before .before .before .before .before .before .before .before .before .before .before .args in let pre = c .before .before .before .before .before .before .before .before .before .before .before .before .before .before .before .before .before .pre in finishes (a .job .now) (a .found .now) (a .rule) (a .pairs .now) (a .globals .now) (propositionOf (a .q)) (a .marking) (c .before .loop .inv) (search needs) refl
 
 pub head-actions-spec : {M : Type 1} → statement M
 head-actions-spec =

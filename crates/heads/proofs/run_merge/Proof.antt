@@ -29,10 +29,10 @@ slice-aggregate-yield-value-3 : tie.Need-slice-aggregate-yield-value-3
 slice-aggregate-yield-value-3 c = search needs
 
 yield-value-requires : tie.Need-yield-value-requires
-yield-value-requires c κs = (c .before .before .before .before .before .before .before .before .before .before .before .before .before .before .before .before .before .before .before .before .pre, c .before .before .before .before .before .before .before .before .before .before .before .before .merge-of .ensures .within _ (c .before .before .before .before .before .before .before .before .before .before .merge .given .1))
+yield-value-requires c κs = (c .before .before .before .before .before .before .before .before .before .before .before .before .before .before .before .before .before .before .before .before .before .pre, c .before .before .before .before .before .before .before .before .before .before .before .before .merge-of .ensures .within _ (c .before .before .before .before .before .before .before .before .before .before .merge .given .1))
 
 returns : tie.Need-returns
-returns c = let a = c .before .before .before .before .before .before .before .before .before .before .before .args in merged-none (programFor (a .job .now)) (a .function) (a .old) (a .new) (c .before .before .before .before .before .before .before .before .before .before .before .pre .indexed) (ap (view.mergeOf (exprFor (a .job .now))) (sym (c .before .enum-told .given .1)) ∙ c .before .before .before .merge-of .ensures .is) (c .refuse1 .ensures)
+returns c = let a = c .before .before .before .before .before .before .before .before .before .before .before .before .args in merged-none (programFor (a .job .now)) (a .function) (a .old) (a .new) (c .before .before .before .before .before .before .before .before .before .before .before .before .pre .indexed) (ap (view.mergeOf (exprFor (a .job .now))) (sym (c .before .enum-told .given .1)) ∙ c .before .before .before .merge-of .ensures .is) (c .refuse1 .ensures)
 
 same-length : tie.Need-same-length
 same-length c = search needs
@@ -53,7 +53,7 @@ same-length-6 : tie.Need-same-length-6
 same-length-6 c = search needs
 
 returns-2 : tie.Need-returns-2
-returns-2 c = let a = c .before .before .before .before .before .before .before .before .before .before .before .before .before .before .before .before .before .before .before .before .before .before .before .before .before .before .before .before .before .before .before .before .before .args in merged-by (programFor (a .job .now)) (a .function) (a .old) (a .new) _ (ap (view.mergeOf (exprFor (a .job .now))) (sym (c .before .before .before .before .before .before .before .before .before .before .before .before .before .before .before .before .before .before .before .before .before .before .before .merge .given .1)) ∙ c .before .before .before .before .before .before .before .before .before .before .before .before .before .before .before .before .before .before .before .before .before .before .before .before .before .merge-of .ensures .is) (c .before .before .before .before .before .before .before .before .before .before .before .before .yield-value .ensures)
+returns-2 c = let a = c .before .before .before .before .before .before .before .before .before .before .before .before .before .before .before .before .before .before .before .before .before .before .before .before .before .before .before .before .before .before .before .before .before .before .args in merged-by (programFor (a .job .now)) (a .function) (a .old) (a .new) _ (ap (view.mergeOf (exprFor (a .job .now))) (sym (c .before .before .before .before .before .before .before .before .before .before .before .before .before .before .before .before .before .before .before .before .before .before .before .merge .given .1)) ∙ c .before .before .before .before .before .before .before .before .before .before .before .before .before .before .before .before .before .before .before .before .before .before .before .before .before .merge-of .ensures .is) (c .before .before .before .before .before .before .before .before .before .before .before .before .yield-value .ensures)
 
 pub run-merge-spec : {M : Type 1} → statement M
 run-merge-spec =
