@@ -63,10 +63,11 @@ merge-as prog p q function {k = k} {e = e} {l = l} {ix = ix} {f = f} {k₁ = k�
     subst (Checks k e l ix f k₁ e₁ l₁ ix₁ f₁ r tt m) (ap₂ (λ (x y : program.Proposition). mergeStep (roomOf k l) prog p q function x y (termsIn k e l f)) g h) D
 
 -- what a merge may be handed
-pub merge-stands : {job : List ℕ} {k e l ix : List ℕ} {f : Fill} {memo W : List ℕ} {n : ℕ} → n ≡ wordsFor (length k) → Prepared job k e l ix f memo W
-    → Standing job [] k e l ix f memo (take (length k + n - length k) (drop (length k) W))
+pub merge-stands : {job F : List ℕ} {k e l ix : List ℕ} {f : Fill} {memo W : List ℕ} {n : ℕ} → n ≡ wordsFor (length k) → Prepared job F k e l ix f memo W
+    → Standing job F [] k e l ix f memo (take (length k + n - length k) (drop (length k) W))
 merge-stands {k = k} {W = W} {n = n} q S = record {
   ready = S .ready;
+  keyed = S .keyed;
   indexed = S .indexed;
   sane = S .sane;
   fits = S .fits;
@@ -75,7 +76,7 @@ merge-stands {k = k} {W = W} {n = n} q S = record {
 }
 
 -- the step of proof p
-module _ (job : List ℕ) (U k e l ix : List ℕ) (f : Fill) (memo W : List ℕ) (p : ℕ) (S : Prepared job k e l ix f memo W) {n : ℕ} (np : n ≡ p) (q : Proposition) (j : Justification)
+module _ (job F : List ℕ) (U k e l ix : List ℕ) (f : Fill) (memo W : List ℕ) (p : ℕ) (S : Prepared job F k e l ix f memo W) {n : ℕ} (np : n ≡ p) (q : Proposition) (j : Justification)
     (C : ClaimAt job n q) (J : JustificationAt job n j) where
   abbrev prog : Program
   prog = programFor job

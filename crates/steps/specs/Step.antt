@@ -20,6 +20,7 @@ use Rattle.outcome.specs.declared.Refusal.{Refusal}
 use Rattle.outcome.specs.declared.Checked.{Checked}
 use Rattle.program.specs.Ready.{tablesFor, Ready, programFor}
 use Rattle.program.specs.Read.{proofsFor, premisesFor, pairsFor}
+use Rattle.lookups.specs.Keyed.{Keyed}
 use Rattle.evaluate.specs.Evaluation.{Sane}
 use Rattle.context.specs.Contexts.{GlobalPairs}
 use Rattle.steps.specs.Concluding.{concludes}
@@ -49,9 +50,10 @@ pub record SecondPart (c : ℕ) (W W′ : List ℕ) : Type 0 where
   pub before : take c W′ ≡ take c W
   pub behind : drop (c + c) W′ ≡ drop (c + c) W
 
--- What a step may be handed: an admitted job, a sane store that has the job's terms first, a memo, and two words of scratch for each cell of the store.
-pub record Prepared (J : List ℕ) (k e p ix : List ℕ) (f : Fill) (memo scratch : List ℕ) : Type 0 where
+-- What a step may be handed: an admitted job with the chains of its tables in F, a sane store that has the job's terms first, a memo, and two words of scratch for each cell of the store.
+pub record Prepared (J F : List ℕ) (k e p ix : List ℕ) (f : Fill) (memo scratch : List ℕ) : Type 0 where
   pub ready : Ready J
+  pub keyed : Keyed J F
   pub indexed : Indexed k e p ix f
   pub sane : Sane (programFor J) [] (termsIn k e p f)
   pub terms : TermsFirst J (termsIn k e p f)

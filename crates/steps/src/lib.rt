@@ -6,6 +6,7 @@ use decode::Proposition;
 use decode::Term;
 use index::Fill;
 use marks::words_for;
+use lookups::normalize_container;
 use merges::app_head;
 use merges::check_that;
 use merges::merge_step;
@@ -14,7 +15,6 @@ use outcome::Checked;
 use outcome::Refusal;
 use outcome::refuse1;
 use program::Looked;
-use program::normalize_container;
 use program::read::claim_at;
 use program::read::justification_at;
 use termdag::children;
@@ -32,6 +32,7 @@ ghost use Rattle.decode.specs.View.{propositionOf};
 ghost use Rattle.termdag.specs.Store.{termsIn, Stored, Indexed, roomOf};
 ghost use Rattle.outcome.specs.Does.{outcomeOf, Does};
 ghost use Rattle.program.specs.Ready.{Ready, programFor};
+ghost use Rattle.lookups.specs.Keyed.{Keyed};
 ghost use Rattle.program.specs.Read.{proofsFor, ClaimAt, JustificationAt};
 ghost use Rattle.evaluate.specs.Evaluation.{Checks};
 ghost use Rattle.context.specs.Contexts.{GlobalPairs};
@@ -133,6 +134,7 @@ fn flag(test: bool) -> u32
 // `ContainerNormalize`: the right side of a has the normal form that is claimed.
 fn normalize_step(
     job: &[u32],
+    found: &[u32],
     skinds: &[u32],
     sends: &[u32],
     spool: &[u32],
@@ -142,11 +144,12 @@ fn normalize_step(
     a: Proposition,
 ) -> Refusal
     requires { ⌜ Ready (now job) ⌝ }
+    requires { ⌜ Keyed (now job) (now found) ⌝ }
     requires { ⌜ Stored (now skinds) (now sends) (now spool) fill ⌝ }
     requires { ⌜ a .rhs < fill .cells ⌝ }
     ensures { λ r. ⌜ ((room : Room) → outcomeOf r tt (termsIn (now (skinds .entry)) (now (sends .entry)) (now (spool .entry)) fill) ≡ normalizeStep room (programFor (now (job .entry))) p (propositionOf q) (propositionOf a) (termsIn (now (skinds .entry)) (now (sends .entry)) (now (spool .entry)) fill)) ⌝ }
 {
-    let n = normalize_container(job, skinds, sends, spool, fill, a.rhs);
+    let n = normalize_container(job, found, skinds, sends, spool, fill, a.rhs);
     let same = q.lhs == a.lhs;
     check_that(
         same & (q.rhs == n),
@@ -256,6 +259,7 @@ fn congr_step(
 // What the step of proof p concludes that adds no term; one of another kind is refused.
 fn plain_step(
     job: &[u32],
+    found: &[u32],
     unions: &[u32],
     gmarks: &[u32],
     skinds: &[u32],
@@ -267,6 +271,7 @@ fn plain_step(
     j: Justification,
 ) -> Refusal
     requires { ⌜ Ready (now job) ⌝ }
+    requires { ⌜ Keyed (now job) (now found) ⌝ }
     requires { ⌜ Stored (now skinds) (now sends) (now spool) fill ⌝ }
     requires { ⌜ sizesOf (now job) .terms ≤ fill .cells ⌝ }
     requires { ⌜ p < sizesOf (now job) .proofs ⌝ }
@@ -287,7 +292,7 @@ fn plain_step(
         }
         Justification::ContainerNormalize(x) => {
             let a = claim_at(job, wide(x));
-            normalize_step(job, skinds, sends, spool, fill, p, q, a)
+            normalize_step(job, found, skinds, sends, spool, fill, p, q, a)
         }
         _ => Refusal {
             number: 41,
@@ -326,6 +331,7 @@ fn congr_at(
 // `MergeFn`, with the claims of proofs x and y, and marks in the second part of the scratch.
 fn merge_at(
     job: &[u32],
+    found: &[u32],
     skinds: &mut [u32],
     sends: &mut [u32],
     spool: &mut [u32],
@@ -339,7 +345,7 @@ fn merge_at(
     x: u32,
     y: u32,
 ) -> Checked
-    requires { ⌜ Prepared (now job) (now skinds) (now sends) (now spool) (now index) fill (now memo) (now scratch) ⌝ }
+    requires { ⌜ Prepared (now job) (now found) (now skinds) (now sends) (now spool) (now index) fill (now memo) (now scratch) ⌝ }
     requires { ⌜ x < sizesOf (now job) .proofs ⌝ }
     requires { ⌜ y < sizesOf (now job) .proofs ⌝ }
     ensures { λ r. ⌜ Checks (now (skinds .entry)) (now (sends .entry)) (now (spool .entry)) (now (index .entry)) fill (now (skinds .exit)) (now (sends .exit)) (now (spool .exit)) (now (index .exit)) (r .fill) (r .refusal) tt (now (memo .exit)) (mergeStep (roomOf (now (skinds .entry)) (now (spool .entry))) (programFor (now (job .entry))) p (propositionOf q) function (claimAt (proofsFor (now (job .entry))) x) (claimAt (proofsFor (now (job .entry))) y) (termsIn (now (skinds .entry)) (now (sends .entry)) (now (spool .entry)) fill)) ⌝ }
@@ -351,6 +357,7 @@ fn merge_at(
     let d = c + words_for(c);
     merge_step(
         job,
+        found,
         skinds,
         sends,
         spool,
@@ -369,6 +376,7 @@ fn merge_at(
 // What the step of proof p concludes, once the proofs that it refers to are checked. A rule's step is checked elsewhere; here it is refused.
 pub fn conclude(
     job: &[u32],
+    found: &[u32],
     unions: &[u32],
     skinds: &mut [u32],
     sends: &mut [u32],
@@ -379,7 +387,7 @@ pub fn conclude(
     scratch: &mut [u32],
     p: u32,
 ) -> Checked
-    requires { ⌜ Prepared (now job) (now skinds) (now sends) (now spool) (now index) fill (now memo) (now scratch) ⌝ }
+    requires { ⌜ Prepared (now job) (now found) (now skinds) (now sends) (now spool) (now index) fill (now memo) (now scratch) ⌝ }
     requires { ⌜ p < sizesOf (now job) .proofs ⌝ }
     ensures { λ r. ⌜ Concludes (now (job .entry)) (now (unions .entry)) (now (skinds .entry)) (now (sends .entry)) (now (spool .entry)) (now (index .entry)) fill (now (scratch .entry)) p (now (skinds .exit)) (now (sends .exit)) (now (spool .exit)) (now (index .exit)) r (now (memo .exit)) (now (scratch .exit)) ⌝ }
 {
@@ -389,6 +397,7 @@ pub fn conclude(
     match j {
         Justification::MergeFn(s) => merge_at(
             job,
+            found,
             skinds,
             sends,
             spool,
@@ -419,6 +428,7 @@ pub fn conclude(
             let c = skinds.len();
             let refusal = plain_step(
                 job,
+                found,
                 unions,
                 &scratch[..c],
                 skinds,

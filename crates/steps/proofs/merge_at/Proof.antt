@@ -28,7 +28,7 @@ add-d : tie.Need-add-d
 add-d c = search needs
 
 mul-merge-step : tie.Need-mul-merge-step
-mul-merge-step c = let a = c .before .before .before .before .before .before .before .before .before .before .before .before .before .before .before .before .before .args in let pre = c .before .before .before .before .before .before .before .before .before .before .before .before .before .before .before .before .before .pre in let h = pre .0 .indexed .stored .formed .few in omega arith
+mul-merge-step c = let a = c .before .before .before .before .before .before .before .before .before .before .before .before .before .before .before .before .before .before .args in let pre = c .before .before .before .before .before .before .before .before .before .before .before .before .before .before .before .before .before .before .pre in let h = pre .0 .indexed .stored .formed .few in omega arith
 
 sub-merge-step : tie.Need-sub-merge-step
 sub-merge-step c = search needs
@@ -40,7 +40,7 @@ part-merge-step-end : tie.Need-part-merge-step-end
 part-merge-step-end c = search needs
 
 merge-step-requires : tie.Need-merge-step-requires
-merge-step-requires c κs = let a = c .before .before .before .before .before .before .before .before .before .before .before .before .before .before .before .before .before .before .args in let pre = c .before .before .before .before .before .before .before .before .before .before .before .before .before .before .before .before .before .before .pre in (merge-stands (c .before .before .before .before .before .before .words-for .ensures) (pre .0), (term-small (pre .0 .ready) (pre .0 .terms) (c .before .before .before .before .before .before .before .before .before .claim-at .ensures .rhs), term-small (pre .0 .ready) (pre .0 .terms) (c .before .before .before .before .before .before .before .claim-at2 .ensures .rhs)))
+merge-step-requires c κs = let a = c .before .before .before .before .before .before .before .before .before .before .before .before .before .before .before .before .before .before .before .args in let pre = c .before .before .before .before .before .before .before .before .before .before .before .before .before .before .before .before .before .before .before .pre in (merge-stands (c .before .before .before .before .before .before .words-for .ensures) (pre .0), (term-small (pre .0 .ready) (pre .0 .terms) (c .before .before .before .before .before .before .before .before .before .claim-at .ensures .rhs), term-small (pre .0 .ready) (pre .0 .terms) (c .before .before .before .before .before .before .before .claim-at2 .ensures .rhs)))
 
 same-length : tie.Need-same-length
 same-length c = search needs
@@ -61,7 +61,7 @@ same-length-6 : tie.Need-same-length-6
 same-length-6 c = search needs
 
 returns : tie.Need-returns
-returns c = let a = c .before .before .before .before .before .before .before .before .before .before .before .before .before .before .before .before .before .before .before .before .before .before .before .before .before .before .before .before .before .before .before .args in let pre = c .before .before .before .before .before .before .before .before .before .before .before .before .before .before .before .before .before .before .before .before .before .before .before .before .before .before .before .before .before .before .before .pre in (merge-as (programFor (a .job .now)) (a .p) (propositionOf (a .q)) (a .function) {k = a .skinds .now} {e = a .sends .now} {l = a .spool .now} {f = a .fill} {k₁ = c .before .before .before .before .before .before .before .before .before .before .before .before .merge-step .last .1 .0} {e₁ = c .before .before .before .before .before .before .before .before .before .before .before .before .merge-step .last .1 .1 .0} {l₁ = c .before .before .before .before .before .before .before .before .before .before .before .before .merge-step .last .1 .1 .1 .0} {m = c .before .before .before .before .before .before .before .before .before .before .before .before .merge-step .last .1 .1 .1 .1 .1 .1 .0} (claim-of (c .before .before .before .before .before .before .before .before .before .before .before .before .before .before .before .before .before .before .before .before .before .before .claim-at .ensures) (c .before .before .before .before .before .before .before .before .before .before .before .before .before .before .before .before .before .before .before .before .before .before .before .wide .ensures)) (claim-of (c .before .before .before .before .before .before .before .before .before .before .before .before .before .before .before .before .before .before .before .before .claim-at2 .ensures) (c .before .before .before .before .before .before .before .before .before .before .before .before .before .before .before .before .before .before .before .before .before .wide2 .ensures)) (c .before .before .before .before .before .before .before .before .before .before .before .before .merge-step .ensures), second-part (length (a .skinds .now)) (c .before .before .before .before .before .before .before .before .before .before .before .before .before .before .before .before .before .before .before .words-for .result) (a .scratch .now) (pre .0 .long) (words-few (length (a .skinds .now)) (c .before .before .before .before .before .before .before .before .before .before .before .before .before .before .before .before .before .before .before .words-for .ensures)) (c .before .before .before .before .before .before .before .before .before .before .before .before .merge-step .last .1 .1 .1 .1 .1 .1 .1 .0) (c .before .before .before .before .before .before .before .before .before .before .before .before .merge-step .kept .1 .1 .1 .1 .1 .1 .1 .0))
+returns c = let a = c .before .before .before .before .before .before .before .before .before .before .before .before .before .before .before .before .before .before .before .before .before .before .before .before .before .before .before .before .before .before .before .before .args in let pre = c .before .before .before .before .before .before .before .before .before .before .before .before .before .before .before .before .before .before .before .before .before .before .before .before .before .before .before .before .before .before .before .before .pre in (merge-as (programFor (a .job .now)) (a .p) (propositionOf (a .q)) (a .function) {k = a .skinds .now} {e = a .sends .now} {l = a .spool .now} {f = a .fill} {k₁ = c .before .before .before .before .before .before .before .before .before .before .before .before .merge-step .last .1 .1 .0} {e₁ = c .before .before .before .before .before .before .before .before .before .before .before .before .merge-step .last .1 .1 .1 .0} {l₁ = c .before .before .before .before .before .before .before .before .before .before .before .before .merge-step .last .1 .1 .1 .1 .0} {m = c .before .before .before .before .before .before .before .before .before .before .before .before .merge-step .last .1 .1 .1 .1 .1 .1 .1 .0} (claim-of (c .before .before .before .before .before .before .before .before .before .before .before .before .before .before .before .before .before .before .before .before .before .before .claim-at .ensures) (c .before .before .before .before .before .before .before .before .before .before .before .before .before .before .before .before .before .before .before .before .before .before .before .wide .ensures)) (claim-of (c .before .before .before .before .before .before .before .before .before .before .before .before .before .before .before .before .before .before .before .before .claim-at2 .ensures) (c .before .before .before .before .before .before .before .before .before .before .before .before .before .before .before .before .before .before .before .before .before .wide2 .ensures)) (c .before .before .before .before .before .before .before .before .before .before .before .before .merge-step .ensures), second-part (length (a .skinds .now)) (c .before .before .before .before .before .before .before .before .before .before .before .before .before .before .before .before .before .before .before .words-for .result) (a .scratch .now) (pre .0 .long) (words-few (length (a .skinds .now)) (c .before .before .before .before .before .before .before .before .before .before .before .before .before .before .before .before .before .before .before .words-for .ensures)) (c .before .before .before .before .before .before .before .before .before .before .before .before .merge-step .last .1 .1 .1 .1 .1 .1 .1 .1 .0) (c .before .before .before .before .before .before .before .before .before .before .before .before .merge-step .kept .1 .1 .1 .1 .1 .1 .1 .1 .0))
 
 pub merge-at-spec : {M : Type 1} → statement M
 merge-at-spec =

@@ -16,7 +16,7 @@ check-that-requires : tie.Need-check-that-requires
 check-that-requires c κs = search needs
 
 returns : tie.Need-returns
-returns c = let a = c .before .before .before .before .before .before .before .before .before .before .args in λ room. normal-tested room (programFor (a .job .now)) (a .p) (propositionOf (a .q)) (propositionOf (a .a)) (termsIn (a .skinds .now) (a .sends .now) (a .spool .now) (a .fill)) (c .before .before .before .before .before .normalize-container .ensures room) (c .before .flag .ensures) (c .check-that .ensures)
+returns c = let a = c .before .before .before .before .before .before .before .before .before .before .before .args in λ room. normal-tested room (programFor (a .job .now)) (a .p) (propositionOf (a .q)) (propositionOf (a .a)) (termsIn (a .skinds .now) (a .sends .now) (a .spool .now) (a .fill)) (c .before .before .before .before .before .normalize-container .ensures room) (c .before .flag .ensures) (c .check-that .ensures)
 
 pub normalize-step-spec : {M : Type 1} → statement M
 normalize-step-spec =
