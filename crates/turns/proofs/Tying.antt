@@ -81,9 +81,10 @@ module _ (W X : List ℕ) (c n : ℕ) (l : length X ≡ length (midOf c (c + n -
       ∙ getD-drop (c + c) W i 0
 
 -- what a step is handed
-pub step-prepared : {J : List ℕ} {F G k e q ix : List ℕ} {f : Fill} {memo W : List ℕ} → Ground J F G k e q ix f memo W → Prepared J k e q ix f memo W
+pub step-prepared : {J : List ℕ} {F G k e q ix : List ℕ} {f : Fill} {memo W : List ℕ} → Ground J F G k e q ix f memo W → Prepared J F k e q ix f memo W
 step-prepared g = record {
   ready = g .ready;
+  keyed = g .keyed;
   indexed = g .indexed;
   sane = record { ordered = g .sane .ordered; bound = λ b m. absurd (List·Memᴰ·not-nil m); rows = g .sane .rows };
   terms = record { extends = g .terms };

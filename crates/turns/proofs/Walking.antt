@@ -139,6 +139,7 @@ pub ground-after : {J : List ℕ} {F G k e p ix : List ℕ} {f : Fill} {memo W k
 ground-after g w x s q a b back = record {
   ready = g .ready;
   searched = g .searched;
+  keyed = g .keyed;
   indexed = w .indexed;
   sane = s;
   terms = extends-then (g .terms) x;

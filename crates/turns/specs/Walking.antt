@@ -21,6 +21,7 @@ use Rattle.outcome.specs.Does.{Grown, Does}
 use Rattle.outcome.specs.declared.Refusal.{Refusal}
 use Rattle.program.specs.Ready.{tablesFor, Ready, programFor}
 use Rattle.normal_form.specs.Search.{Searched}
+use Rattle.lookups.specs.Keyed.{Keyed}
 use Rattle.evaluate.specs.Evaluation.{Sane}
 use Rattle.context.specs.Contexts.{GlobalPairs}
 use Rattle.program.specs.Read.{proofsFor, proofCell, premisesFor, pairsFor}
@@ -35,10 +36,11 @@ pub record Flags (c : ℕ) (W : List ℕ) (n : ℕ) (done : List ℕ) : Type 0 w
 pub record Heights (J : List ℕ) (c : ℕ) (W : List ℕ) : Type 0 where
   pub is : (p : ℕ) → p < sizesOf J .proofs → 0 < getD W (c + c + p) 0 → getD W (c + c + p) 0 ≡ height (programFor J) (proofsFor J) p
 
--- What the walk is handed: an admitted job with its offences F and the global bindings G, a store that has the job's terms and is sane, a memo, and scratch.
+-- What the walk is handed: an admitted job with its offences and the chains of its tables in F, and the global bindings G, a store that has the job's terms and is sane, a memo, and scratch.
 pub record Ground (J : List ℕ) (F G k e p ix : List ℕ) (f : Fill) (memo W : List ℕ) : Type 0 where
   pub ready : Ready J
   pub searched : Searched J F
+  pub keyed : Keyed J F
   pub indexed : Indexed k e p ix f
   pub sane : Sane (programFor J) (readBindings G) (termsIn k e p f)
   pub terms : Extends (map readTerm (tablesFor J .terms)) (termsIn k e p f)

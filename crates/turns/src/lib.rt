@@ -7,6 +7,7 @@ use decode::Justification;
 use facts::check_fact_matches_proposition;
 use heads::check_rule_produces_equality;
 use index::Fill;
+use lookups::rule_of;
 use marks::words_for;
 use normal_form::assert_body_proof_normal_form;
 use normal_form::is_container_side_condition;
@@ -18,7 +19,6 @@ use program::read::justification_at;
 use program::read::premises_at;
 use program::read::rule_facts_at;
 use program::read::substitution_at;
-use program::rule_of;
 use steps::conclude;
 ghost use mathlib.Core.Path.{_≡_};
 ghost use Prim.Native.Nat.{_+_, _≤_, _<_};
@@ -33,6 +33,7 @@ ghost use Rattle.outcome.specs.Does.{passed};
 ghost use Rattle.normal_form.specs.Search.{Searched};
 ghost use Rattle.conditions.specs.declared.Binds as binds;
 ghost use Rattle.program.specs.Ready.{Ready, programFor};
+ghost use Rattle.lookups.specs.Keyed.{Keyed};
 ghost use Rattle.program.specs.Read.{factFor, proofsFor};
 ghost use Rattle.evaluate.specs.Value.{bindingsIn};
 ghost use Rattle.evaluate.specs.Evaluation.{Sane, Checks};
@@ -153,13 +154,14 @@ fn plain_plan(ops: Needs) -> Plan
 }
 
 // A rule's step.
-fn rule_plan(job: &[u32], p: u32, name: u32) -> Plan
+fn rule_plan(job: &[u32], found: &[u32], p: u32, name: u32) -> Plan
     requires { ⌜ Ready (now job) ⌝ }
+    requires { ⌜ Keyed (now job) (now found) ⌝ }
     requires { ⌜ p < sizesOf (now job) .proofs ⌝ }
     requires { ⌜ RuleStep (now job) p name ⌝ }
     ensures { λ s. ⌜ Plans (now (job .entry)) p s ⌝ }
 {
-    let rule = rule_of(job, name);
+    let rule = rule_of(job, found, name);
     let Found::At(r) = rule else {
         return Plan {
             refusal: Refusal {
@@ -205,14 +207,15 @@ fn rule_plan(job: &[u32], p: u32, name: u32) -> Plan
 }
 
 // What the step of proof p takes.
-pub fn plan_step(job: &[u32], p: u32) -> Plan
+pub fn plan_step(job: &[u32], found: &[u32], p: u32) -> Plan
     requires { ⌜ Ready (now job) ⌝ }
+    requires { ⌜ Keyed (now job) (now found) ⌝ }
     requires { ⌜ p < sizesOf (now job) .proofs ⌝ }
     ensures { λ s. ⌜ Plans (now (job .entry)) p s ⌝ }
 {
     let ops = operands(job, p);
     if ops.rule {
-        return rule_plan(job, p, ops.name);
+        return rule_plan(job, found, p, ops.name);
     }
     plain_plan(ops)
 }
@@ -260,6 +263,7 @@ fn before_premise(
     i: u32,
 ) -> Stage
     requires { ⌜ Ready (now job) ⌝ }
+    requires { ⌜ Keyed (now job) (now found) ⌝ }
     requires { ⌜ Searched (now job) (now found) ⌝ }
     requires { ⌜ Indexed (now skinds) (now sends) (now spool) (now index) fill ⌝ }
     requires { ⌜ sizesOf (now job) .expressions + sizesOf (now job) .expressions < length (now memo) ⌝ }
@@ -290,6 +294,7 @@ fn before_premise(
     }
     let c = check_side_condition(
         job,
+        found,
         strict,
         bound,
         pairs,
@@ -331,6 +336,7 @@ fn over(c: Checked) -> Stage
 // Fact i of a rule after its premise, if there is one.
 fn after_premise(
     job: &[u32],
+    found: &[u32],
     globals: &[u32],
     bound: &[u32],
     pairs: &[u32],
@@ -348,6 +354,7 @@ fn after_premise(
     i: usize,
 ) -> Checked
     requires { ⌜ Ready (now job) ⌝ }
+    requires { ⌜ Keyed (now job) (now found) ⌝ }
     requires { ⌜ Indexed (now skinds) (now sends) (now spool) (now index) fill ⌝ }
     requires { ⌜ sizesOf (now job) .expressions + sizesOf (now job) .expressions < length (now memo) ⌝ }
     requires { ⌜ Past (now memo) ⌝ }
@@ -363,6 +370,7 @@ fn after_premise(
     let q = claim_at(job, wide(premises[i]));
     check_fact_matches_proposition(
         job,
+        found,
         bound,
         pairs,
         globals,
@@ -433,6 +441,7 @@ fn advance_rule(
     let d = cells + words_for(cells);
     let c = after_premise(
         job,
+        found,
         globals,
         bound,
         pairs,
@@ -459,6 +468,7 @@ fn advance_rule(
     let q = claim_at(job, wide(p));
     over(check_rule_produces_equality(
         job,
+        found,
         bound,
         pairs,
         globals,
@@ -533,6 +543,7 @@ pub fn advance(
     }
     over(conclude(
         job,
+        found,
         unions,
         skinds,
         sends,

@@ -139,7 +139,7 @@ module _ (J : List ℕ) (strict : Bool) (F G U : List ℕ) (p : ℕ) where
               (heights-set p lt (long-enough u) refl i (subst (λ (m : ℕ). Heights J m W₁) (w .grown .lenK) (u .heights))))
 
           ground-same : Ground J F G k₁ e₁ p₁ ix₁ f₁ memo₁ W₁ → Ground J F G k₁ e₁ p₁ ix₁ f₁ memo₁ W₂
-          ground-same u = record { ready = u .ready; searched = u .searched; indexed = u .indexed; sane = u .sane; terms = u .terms; fits = u .fits; past = u .past; long = let a = u .long in let b = lenW in omega arith; heights = noted u }
+          ground-same u = record { ready = u .ready; searched = u .searched; keyed = u .keyed; indexed = u .indexed; sane = u .sane; terms = u .terms; fits = u .fits; past = u .past; long = let a = u .long in let b = lenW in omega arith; heights = noted u }
 
           passed-on : {t : List ℕ} {o : Outcome (List ℕ)} → Does k e q ix f k₁ e₁ p₁ ix₁ f₁ r t o → Does k e q ix f k₁ e₁ p₁ ix₁ f₁ r (p ∷ t) (andThen o (λ d. pure (p ∷ d)))
           passed-on {t} {o} v = record {

@@ -132,7 +132,7 @@ fn justify(
     ensures does { λ r. ⌜ Walks (now (job .entry)) (now (found .entry)) (now (globals .entry)) (now (unions .entry)) (now (skinds .entry)) (now (sends .entry)) (now (spool .entry)) (now (index .entry)) fill (now (scratch .entry)) (now (skinds .exit)) (now (sends .exit)) (now (spool .exit)) (now (index .exit)) (r .fill) (r .refusal) (now (memo .exit)) (now (scratch .exit)) (λ d. d) (λ room ps done. checkJustification room (programFor (now (job .entry))) (proofsFor (now (job .entry))) (contextOf (now (globals .entry)) ps) (checkProofWithContext room (programFor (now (job .entry))) (proofsFor (now (job .entry))) (contextOf (now (globals .entry)) ps) strict p) strict p (claimAt (proofsFor (now (job .entry))) p) (getD (proofsFor (now (job .entry))) p noProof .justification) done) ⌝ }
     ensures high { λ r. ⌜ (r .refusal .number ≡ 0 → r .value ≡ height (programFor (now (job .entry))) (proofsFor (now (job .entry))) p) ⌝ }
 {
-    let s = plan_step(job, p);
+    let s = plan_step(job, found, p);
     if s.refusal.number != 0 {
         let refusal = s.refusal;
         return Checked {

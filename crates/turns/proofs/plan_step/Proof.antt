@@ -7,7 +7,7 @@ operands-requires : tie.Need-operands-requires
 operands-requires c κs = search needs
 
 rule-plan-requires : tie.Need-rule-plan-requires
-rule-plan-requires c κs = let pre = c .before .before .before .pre in let o = c .before .operands .ensures .rule (c .if1 .taken) in (pre .0, (pre .1, record { kind = o .0; is = o .1 }))
+rule-plan-requires c κs = let pre = c .before .before .before .before .pre in let o = c .before .operands .ensures .rule (c .if1 .taken) in (pre .0, (pre .1 .0, (pre .1 .1, record { kind = o .0; is = o .1 })))
 
 returns : tie.Need-returns
 returns c = search needs

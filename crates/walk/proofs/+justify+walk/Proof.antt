@@ -68,7 +68,7 @@ abbrev R-walk : ℕ → walk-lts.Claims
 R-walk t = (wide-reads.Asked, wide-reads.Learnt, justify-below t, justify.Post, note-height-reads.Asked, note-height-reads.Learnt)
 
 justify-plan-step-requires : (t : ℕ) → justify-lts.Need-plan-step-requires (R-justify t) (justify-at t) justify.Post justify-Inv-loop justify-μ-loop
-justify-plan-step-requires t c κs = (c .before .before .before .before .before .before .before .before .before .before .pre .1 .0 .ready, c .before .before .before .before .before .before .before .before .before .before .pre .1 .1)
+justify-plan-step-requires t c κs = (c .before .before .before .before .before .before .before .before .before .before .pre .1 .0 .ready, (c .before .before .before .before .before .before .before .before .before .before .pre .1 .0 .keyed, c .before .before .before .before .before .before .before .before .before .before .pre .1 .1))
 
 justify-returns : (t : ℕ) → justify-lts.Need-returns (R-justify t) (justify-at t) justify.Post justify-Inv-loop justify-μ-loop
 justify-returns t c = (plan-refused (c .before .before .before .before .before .before .before .before .before .before .before .before .before .before .args .job .now) (c .before .before .before .before .before .before .before .before .before .before .before .before .before .before .args .strict) (c .before .before .before .before .before .before .before .before .before .before .before .before .before .before .args .found .now) (c .before .before .before .before .before .before .before .before .before .before .before .before .before .before .args .globals .now) (c .before .before .before .before .before .before .before .before .before .before .before .before .before .before .args .unions .now) (c .before .before .before .before .before .before .before .before .before .before .before .before .before .before .args .p) (c .before .before .before .before .before .before .before .before .before .before .before .before .before .before .pre .1 .0) (c .before .before .before .plan-step .ensures) (c .before .if1 .taken), λ u. absurd ((c .before .if1 .taken) u))
