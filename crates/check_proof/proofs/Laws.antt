@@ -1,12 +1,13 @@
 -- The global actions, then the walk from no proof checked.
 use mathlib.Core.Path.{_≡_, refl, sym, ap, subst, subst⁻¹, _∙_}
 use mathlib.Core.Bool.{Bool}
-use mathlib.Core.List.{List, [], _++_, append-nil}
-use Prim.Native.Nat.{ℕ, suc, _+_, _-_, _<_, _≤_}
+use mathlib.Core.Logic.{inl}
+use mathlib.Core.List.{List, [], _++_}
+use Prim.Native.Nat.{ℕ, suc, _+_, _<_, _≤_}
 use native.Mathlib.Omega.{arith}
 use lib.Dec.{ltb}
 use borrow.Author.Tests.{ltb-false}
-use lib.ListN.{length, getD, take, drop, length-drop, length-append, drop-of-length-le}
+use lib.ListN.{length, getD, take, drop, length-drop, length-append, length-replicate, List·getD-append}
 use lib.Seq.{getD-drop, take-take, take-at, drop-at, length-take-le}
 use borrow.Rule.Slice.PartMut.{midOf, putMid, same-len-mid, take-put}
 use Rattle.model.specs.Layout.{sizesOf}
@@ -29,6 +30,8 @@ use Rattle.marks.proofs.Bits.{zeros-word}
 use Rattle.program.specs.Ready.{programFor}
 use Rattle.program.specs.Read.{proofsFor}
 use Rattle.program.proofs.Proving.{proofs-long}
+use Rattle.chains.specs.Chains.{Within}
+use Rattle.lookups.specs.Keyed.{Keyed}
 use Rattle.normal_form.specs.Search.{Searched}
 use Rattle.evaluate.specs.Evaluation.{Sane}
 use Rattle.context.specs.Contexts.{GlobalPairs, Context}
@@ -37,19 +40,28 @@ use Rattle.turns.specs.Walking.{Flags, Heights, Ground, Walks, contextOf}
 use Rattle.walk.proofs.Justifying.{fuel-for}
 use Rattle.check_proof.specs.Checking.{Given}
 
--- no proof is checked yet
-pub flags-none : (W : List ℕ) (c n m : ℕ) → c + c ≤ length W → Flags c (putMid (c + c) (length W - (c + c)) W (zeros m)) n []
-flags-none W c n m h = record { is = λ p l. ap (ltb 0) (word p) }
+-- the offences stay where words behind them are written
+pub searched-kept : {J : List ℕ} {m : ℕ} {F F′ : List ℕ} → sizesOf J .expressions ≤ 4096 → Within 4096 m F F′ → Searched J F → Searched J F′
+searched-kept {J} {F = F} {F′ = F′} h w S = record {
+  long = omega (arith, S .long, w .even);
+  low = λ e l. rw (same e l) (S .low e l);
+  says = λ e l. rw (same e l) (S .says e l);
+  calls = λ e l. rw (same e l) (S .calls e l);
+}
   where
-    none : drop (length W - (c + c)) (drop (c + c) W) ≡ []
-    none = drop-of-length-le (drop (c + c) W) {i = length W - (c + c)} (simp length-drop (omega arith))
+    same : (e : ℕ) → e < sizesOf J .expressions → getD F′ e 0 ≡ getD F e 0
+    same e l = w .same e (inl (omega arith))
 
-    behind : drop (c + c) (putMid (c + c) (length W - (c + c)) W (zeros m)) ≡ zeros m
-    behind = drop-at (take (c + c) W) (zeros m ++ drop (length W - (c + c)) (drop (c + c) W)) (c + c) (length-take-le (c + c) W h)
-        ∙ ap (λ (x : List ℕ). zeros m ++ x) none ∙ append-nil (zeros m)
+-- no proof is checked yet
+pub flags-none : (W : List ℕ) (c k n m : ℕ) → c + c ≤ length W → n ≤ m → Flags c (putMid (c + c) k W (zeros m)) n []
+flags-none W c k n m h b = record { is = λ p l. ap (ltb 0) (word p l) }
+  where
+    behind : drop (c + c) (putMid (c + c) k W (zeros m)) ≡ zeros m ++ drop k (drop (c + c) W)
+    behind = drop-at (take (c + c) W) (zeros m ++ drop k (drop (c + c) W)) (c + c) (length-take-le (c + c) W h)
 
-    word : (p : ℕ) → getD (putMid (c + c) (length W - (c + c)) W (zeros m)) (c + c + p) 0 ≡ 0
-    word p = sym (getD-drop (c + c) (putMid (c + c) (length W - (c + c)) W (zeros m)) p 0) ∙ ap (λ (x : List ℕ). getD x p 0) behind ∙ zeros-word m p
+    word : (p : ℕ) → p < n → getD (putMid (c + c) k W (zeros m)) (c + c + p) 0 ≡ 0
+    word p l = sym (getD-drop (c + c) (putMid (c + c) k W (zeros m)) p 0) ∙ ap (λ (x : List ℕ). getD x p 0) behind
+        ∙ List·getD-append (zeros m) (drop k (drop (c + c) W)) 0 p (omega (arith, length-replicate {A = ℕ} m 0)) ∙ zeros-word m p
 
 -- so no height is noted
 pub height-none : {c : ℕ} {W : List ℕ} {n p : ℕ} → Flags c W n [] → p < n → getD W (c + c + p) 0 ≡ 0
@@ -85,10 +97,11 @@ module _ {J : List ℕ} {k e p ix : List ℕ} {f : Fill} {W : List ℕ} (g : Giv
     same-context : contextOf G (C .context .pairs) ≡ C .context
     same-context = ap {B = ActionContext} (λ (σ : List Binding). record { bindings = σ; pairs = C .context .pairs }) (ap readBindings gq ∙ sym (C .bindings n))
 
-    pub check-ground : {F memo W₁ : List ℕ} → Searched J F → memo ≡ memo₁ → sizesOf J .expressions + sizesOf J .expressions < length memo → length W₁ ≡ length W → Flags (length k₁) W₁ (sizesOf J .proofs) [] → Ground J F G k₁ e₁ p₁ ix₁ (r .fill) memo W₁
-    check-ground {memo = memo} F mq fits lW fl = record {
+    pub check-ground : {F memo W₁ : List ℕ} → Searched J F → Keyed J F → memo ≡ memo₁ → sizesOf J .expressions + sizesOf J .expressions < length memo → length W₁ ≡ length W → Flags (length k₁) W₁ (sizesOf J .proofs) [] → Ground J F G k₁ e₁ p₁ ix₁ (r .fill) memo W₁
+    check-ground {memo = memo} F K mq fits lW fl = record {
       ready = g .ready;
       searched = F;
+      keyed = K;
       indexed = C .does .grown .indexed;
       sane = subst⁻¹ (λ (σ : List Binding). Sane prog σ (termsIn k₁ e₁ p₁ (r .fill))) (ap readBindings gq ∙ sym (C .bindings n)) (C .sane n);
       terms = extends-then (g .terms) (C .grows n);
@@ -116,17 +129,19 @@ module _ {J : List ℕ} {k e p ix : List ℕ} {f : Fill} {W : List ℕ} (g : Giv
 pub past-cleared : (n : ℕ) → Past (zeros n)
 past-cleared n = record { each = λ k. let a = zeros-word n (k + k + 1) in let b = zeros-word n 0 in omega arith }
 
--- scratch at the walk's start: the marks of the global pairs, and no proof checked
-module _ (W M Z : List ℕ) (c l : ℕ) (lM : length M ≡ c) (h : c + c ≤ length (M ++ drop c W)) (q : l ≡ c) where
+-- scratch at the walk's start: the marks of the global pairs, and no proof checked, by k words
+module _ (W M Z : List ℕ) (c l k : ℕ) (lM : length M ≡ c) (h : c + c + k ≤ length (M ++ drop c W)) (q : l ≡ c) where
   abbrev W₁ : List ℕ
-  W₁ = putMid (c + c) (length (M ++ drop c W) - (c + c)) (M ++ drop c W) Z
+  W₁ = putMid (c + c) k (M ++ drop c W) Z
 
   pub start-marks : take l W₁ ≡ M
-  start-marks = ap (λ (n : ℕ). take n W₁) q ∙ marks-kept M (drop c W) Z c (length (M ++ drop c W) - (c + c)) lM h
+  start-marks = ap (λ (n : ℕ). take n W₁) q ∙ marks-kept M (drop c W) Z c k lM (omega arith)
 
-  pub start-flags : (n : ℕ) → Z ≡ zeros (length (midOf (c + c) (length (M ++ drop c W) - (c + c)) (M ++ drop c W))) → Flags l W₁ n []
-  start-flags n e = subst⁻¹ (λ (j : ℕ). Flags j W₁ n []) q
-      (subst⁻¹ (λ (X : List ℕ). Flags c (putMid (c + c) (length (M ++ drop c W) - (c + c)) (M ++ drop c W) X) n []) e (flags-none (M ++ drop c W) c n (length (midOf (c + c) (length (M ++ drop c W) - (c + c)) (M ++ drop c W))) h))
+  pub start-flags : {n : ℕ} → n ≤ k → Z ≡ zeros (length (midOf (c + c) k (M ++ drop c W))) → Flags l W₁ n []
+  start-flags {n} b e =
+      let m : length (midOf (c + c) k (M ++ drop c W)) ≡ k = length-take-le k (drop (c + c) (M ++ drop c W)) (simp length-drop (omega arith)) in
+      subst⁻¹ (λ (j : ℕ). Flags j W₁ n []) q
+      (subst⁻¹ (λ (X : List ℕ). Flags c (putMid (c + c) k (M ++ drop c W) X) n []) e (flags-none (M ++ drop c W) c k n (length (midOf (c + c) k (M ++ drop c W))) (omega arith) (omega (arith, m))))
 
-  pub start-long : c ≤ length W → length Z ≡ length (midOf (c + c) (length (M ++ drop c W) - (c + c)) (M ++ drop c W)) → length W₁ ≡ length W
-  start-long b e = same-len-mid (c + c) (length (M ++ drop c W) - (c + c)) (M ++ drop c W) Z e ∙ simp (length-append, length-drop) (omega arith)
+  pub start-long : c ≤ length W → length Z ≡ length (midOf (c + c) k (M ++ drop c W)) → length W₁ ≡ length W
+  start-long b e = same-len-mid (c + c) k (M ++ drop c W) Z e ∙ simp (length-append, length-drop) (omega arith)
