@@ -34,10 +34,10 @@ use Rattle.program.specs.declared.Looked.{Looked}
 use Rattle.program.specs.Ready.{tablesFor, Ready, programFor}
 use Rattle.program.specs.Read.{exprFor, argumentsFor, headFor}
 use Rattle.evaluate.specs.Value.{evalFor, valueFor, headTerm, evalTerm, evalTerms, Reaches, here, down}
-use Rattle.evaluate.specs.Evaluation.{Memo, Knows, noted, bound, unknown, Noted, Evaluates, EvaluatesRoot}
+use Rattle.evaluate.specs.Evaluation.{Memo, Knows, noted, bound, unknown, Noted, Evaluates, EvaluatesMore, EvaluatesRoot}
 use Rattle.evaluate.proofs.HeadValues.{given-some, head-does, variable-does}
 use Rattle.evaluate.proofs.Collecting.{each, each-is, rest, Run, run-start, run-stop, run-turn, run-done}
-use Rattle.evaluate.proofs.Settling.{value-term, head-settled, term-again}
+use Rattle.evaluate.proofs.Settling.{value-term, head-settled, term-settled, term-again}
 
 -- members by place
 pub member-at : (xs : List ℕ) (i : ℕ) → i < length xs → List·Memᴰ (getD xs i 0) xs
@@ -277,27 +277,44 @@ root-memo {m = m} l S = record {
   closed = λ k a h p w. absurd (true≢false (sym p ∙ S .none k));
 }
 
+one-value : {a b : ℕ} {s : List Term} → ok a s ≡ ok b s → a ≡ b
+one-value e = cc
+
 module _ (fact : Bool) (J : List ℕ) (rule : ℕ) (σ : List Binding) where
   value-is : (room : Room) (e : ℕ) (s : List Term) → evalFor fact J rule σ room e s ≡ valueFor fact J rule σ room e s
   value-is room e s = sym (value-term fact room (programFor J) rule σ (exprFor J e) s)
 
-  pub root-done : {e : ℕ} {k e′ p ix : List ℕ} {f : Fill} {m k′ e″ p′ ix′ : List ℕ} {c : Checked} {m′ : List ℕ} → Ready J → e < sizesOf J .expressions → Started m
+  reach : {eval : ℕ → Check ℕ} {s : List Term} {m : List ℕ} → Ready J → Memo (argumentsFor J) eval (sizesOf J .expressions) s m → (a : ℕ) → a < sizesOf J .expressions → isNoted m a ≡ true
+      → (j : ℕ) → Reaches (argumentsFor J) j a → isNoted m j ≡ true
+  reach {m = m} R M a l u j (here i) = subst (λ (x : ℕ). isNoted m x ≡ true) (sym i) u
+  reach {m = m} R M a l u j (down {a = b} w r) =
+      let v = expressions-lower (sizesOf J) (tablesFor J) (R .admitted) a b w in
+      reach R M b (omega arith) (M .closed a b l u w) j r
+
+  -- in a round that goes on
+  module _ {e : ℕ} {k e′ p ix : List ℕ} {f : Fill} {m k′ e″ p′ ix′ : List ℕ} {c : Checked} {m′ : List ℕ} (R : Ready J) (h : e < sizesOf J .expressions)
+      (M : Memo (argumentsFor J) (evalFor fact J rule σ (roomOf k p)) (sizesOf J .expressions) (termsIn k e′ p f) m)
+      (d : Evaluates (argumentsFor J) (evalFor fact J rule σ) (sizesOf J .expressions) e k e′ p ix f m k′ e″ p′ ix′ c m′) where
+    -- the value of what was noted stays
+    same-noted : c .refusal .number ≡ 0 → (j : ℕ) → j < sizesOf J .expressions → isNoted m j ≡ true → isNoted m′ j ≡ true → valueAt m j ≡ valueAt m′ j
+    same-noted q j l u v =
+        let s = termsIn k e′ p f in
+        let s′ = termsIn k′ e″ p′ (c .fill) in
+        let x = post-result (term-settled fact (roomOf k p) (programFor J) rule σ (exprFor J e) s) (sym (d .does .outcome) ∙ ok-of (c .refusal) (c .value) s′ q) .grows in
+        let again = term-again fact (roomOf k p) (programFor J) rule σ (exprFor J j) s s s′ (valueAt m j) (M .value j l u) x in
+        one-value (sym again ∙ d .memo q .value j l v)
+
+    pub more-done : {Old : ℕ → Type 0} → ((j : ℕ) → j < sizesOf J .expressions → isNoted m j ≡ true → Old (valueAt m j))
+        → EvaluatesMore Old (argumentsFor J) (valueFor fact J rule σ) (sizesOf J .expressions) e k e′ p ix f k′ e″ p′ ix′ c m′
+    more-done {Old} o = record {
+      does = subst (Does k e′ p ix f k′ e″ p′ ix′ (c .fill) (c .refusal) (c .value)) (value-is (roomOf k p) e (termsIn k e′ p f)) (d .does);
+      past = λ q. d .memo q .past;
+      value = λ q j l u. sym (value-is (roomOf k p) j (termsIn k′ e″ p′ (c .fill))) ∙ d .memo q .value j l u;
+      below = λ q j r. reach R (d .memo q) e h (d .noted q .root) j r;
+      only = λ q j l u. elim (d .noted q .only j l u) [ inl v ↦ inl (subst Old (same-noted q j l v u) (o j l v)) | inr r ↦ inr r ];
+    }
+
+  pub root-done : {e : ℕ} {k e′ p ix : List ℕ} {f : Fill} {m k′ e″ p′ ix′ : List ℕ} {c : Checked} {m′ : List ℕ} → Ready J → e < sizesOf J .expressions → sizesOf J .expressions + sizesOf J .expressions < length m → Started m
       → Evaluates (argumentsFor J) (evalFor fact J rule σ) (sizesOf J .expressions) e k e′ p ix f m k′ e″ p′ ix′ c m′
       → EvaluatesRoot (argumentsFor J) (valueFor fact J rule σ) (sizesOf J .expressions) e k e′ p ix f k′ e″ p′ ix′ c m′
-  root-done {e} {k} {e′} {p} {ix} {f} {m} {k′} {e″} {p′} {ix′} {c} {m′} R h S d = record {
-    does = subst (Does k e′ p ix f k′ e″ p′ ix′ (c .fill) (c .refusal) (c .value)) (value-is (roomOf k p) e (termsIn k e′ p f)) (d .does);
-    past = λ q. d .memo q .past;
-    value = λ q j l u. sym (value-is (roomOf k p) j (termsIn k′ e″ p′ (c .fill))) ∙ d .memo q .value j l u;
-    below = λ q j r. reach q e h (d .noted q .root) j r;
-    only = λ q j l u. fresh j (d .noted q .only j l u);
-  }
-    where
-      fresh : (j : ℕ) → (isNoted m j ≡ true) ⊎ Reaches (argumentsFor J) j e → Reaches (argumentsFor J) j e
-      fresh j (inl u) = absurd (true≢false (sym u ∙ S .none j))
-      fresh j (inr r) = r
-
-      reach : c .refusal .number ≡ 0 → (a : ℕ) → a < sizesOf J .expressions → isNoted m′ a ≡ true → (j : ℕ) → Reaches (argumentsFor J) j a → isNoted m′ j ≡ true
-      reach q a l u j (here i) = subst (λ (x : ℕ). isNoted m′ x ≡ true) (sym i) u
-      reach q a l u j (down {a = b} w r) =
-          let v = expressions-lower (sizesOf J) (tablesFor J) (R .admitted) a b w in
-          reach q b (omega arith) (d .memo q .closed a b l u w) j r
+  root-done {k = k} {e′ = e′} {p = p} {f = f} R h l S d = more-done R h (root-memo l S) d (λ j _ u. true≢false (sym u ∙ S .none j))

@@ -50,13 +50,17 @@ pub record Evaluates (args : ℕ → List ℕ) (eval : Room → ℕ → Check �
   pub memo : r .refusal .number ≡ 0 → Memo args (eval (roomOf K P)) n (termsIn K′ E′ P′ (r .fill)) m′
   pub noted : r .refusal .number ≡ 0 → Noted args n e m m′
 
--- The evaluation of e by itself: what is noted then is e with all below it.
-pub record EvaluatesRoot (args : ℕ → List ℕ) (eval : Room → ℕ → Check ℕ) (n e : ℕ) (K E P I : List ℕ) (f : Fill) (K′ E′ P′ I′ : List ℕ) (r : Checked) (m′ : List ℕ) : Type 0 where
+-- The evaluation of e in a round that may have begun before: what is noted then is e with all below it, and what was noted, whose values are Old.
+pub record EvaluatesMore (Old : ℕ → Type 0) (args : ℕ → List ℕ) (eval : Room → ℕ → Check ℕ) (n e : ℕ) (K E P I : List ℕ) (f : Fill) (K′ E′ P′ I′ : List ℕ) (r : Checked) (m′ : List ℕ) : Type 0 where
   pub does : Does K E P I f K′ E′ P′ I′ (r .fill) (r .refusal) (r .value) (eval (roomOf K P) e (termsIn K E P f))
   pub past : r .refusal .number ≡ 0 → Past m′
   pub value : r .refusal .number ≡ 0 → (k : ℕ) → k < n → isNoted m′ k ≡ true → eval (roomOf K P) k (termsIn K′ E′ P′ (r .fill)) ≡ ok (valueAt m′ k) (termsIn K′ E′ P′ (r .fill))
   pub below : r .refusal .number ≡ 0 → (k : ℕ) → Reaches args k e → isNoted m′ k ≡ true
-  pub only : r .refusal .number ≡ 0 → (k : ℕ) → k < n → isNoted m′ k ≡ true → Reaches args k e
+  pub only : r .refusal .number ≡ 0 → (k : ℕ) → k < n → isNoted m′ k ≡ true → Old (valueAt m′ k) ⊎ Reaches args k e
+
+-- The evaluation of e by itself: what is noted then is e with all below it.
+abbrev pub EvaluatesRoot : (ℕ → List ℕ) → (Room → ℕ → Check ℕ) → ℕ → ℕ → List ℕ → List ℕ → List ℕ → List ℕ → Fill → List ℕ → List ℕ → List ℕ → List ℕ → Checked → List ℕ → Type 0
+EvaluatesRoot = EvaluatesMore (λ _. ⊥)
 
 -- The contract of a check that evaluates: value a or refusal r, and the terms after, are the outcome o of the definition; after a value the memo m′ can be used again.
 pub record Checks {A : Type 0} (K E P I : List ℕ) (f : Fill) (K′ E′ P′ I′ : List ℕ) (f′ : Fill) (r : Refusal) (a : A) (m′ : List ℕ) (o : Outcome A) : Type 0 where

@@ -207,7 +207,7 @@ fn known_value(
 }
 
 // The value of expression e, noted. One that is noted is not evaluated again; the term that it was in an earlier round is looked at first.
-fn eval(
+pub fn eval(
     job: &[u32],
     found: &[u32],
     bound: &[u32],

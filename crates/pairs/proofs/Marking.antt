@@ -72,18 +72,18 @@ module _ (memo m : List ℕ) where
       go true b h r = last b (with-cases (markValues memo k m) (valueAt memo k) t h) r
       go false b h r = more (r h)
 
--- a memo in which just e and all below it are noted, of the first n expressions, with their values in this store
-pub record NotedBelow (args : ℕ → List ℕ) (eval : ℕ → Check ℕ) (n e : ℕ) (s : List Term) (memo : List ℕ) : Type 0 where
+-- a memo in which e and all below it are noted, of the first n expressions, with their values in this store, and else only what is marked
+pub record NotedBelow (args : ℕ → List ℕ) (eval : ℕ → Check ℕ) (n e : ℕ) (s : List Term) (memo m : List ℕ) : Type 0 where
   pub value : (k : ℕ) → k < n → isNoted memo k ≡ true → eval k s ≡ ok (valueAt memo k) s
   pub below : (k : ℕ) → Reaches args k e → (k < n) × (isNoted memo k ≡ true)
-  pub only : (k : ℕ) → k < n → isNoted memo k ≡ true → Reaches args k e
+  pub only : (k : ℕ) → k < n → isNoted memo k ≡ true → Marked m (valueAt memo k) ⊎ Reaches args k e
   pub inside : (k t : ℕ) → eval k s ≡ ok t s → t < length s
 
-module _ {args : ℕ → List ℕ} {eval : ℕ → Check ℕ} {n e : ℕ} {s : List Term} {memo : List ℕ} (w : NotedBelow args eval n e s memo) where
+module _ {args : ℕ → List ℕ} {eval : ℕ → Check ℕ} {n e : ℕ} {s : List Term} {memo m : List ℕ} (w : NotedBelow args eval n e s memo m) where
   -- once the values are marked, the marks stand for the pairs as well
-  pub values-adds : {m : List ℕ} {ps : List Proposition} → ((t : ℕ) → Marked m t → t < length s) → length s ≤ 32 * length m
+  pub values-adds : {ps : List Proposition} → ((t : ℕ) → Marked m t → t < length s) → length s ≤ 32 * length m
       → ((x : ℕ) → List·Memᴰ (same x) ps ↔ Valued args eval s e x) → AddsMarks s m (markValues memo n m) ps
-  values-adds {m} {ps} i l p = record {
+  values-adds {ps} i l p = record {
     inside = λ t h. in-cases t (values-cases memo m n t h);
     keeps = λ x c. record { root = c .root; marked = values-keep memo m n (c .root) (c .marked); under = c .under };
     pairs = λ x k. covers x (p x .0 k);
@@ -102,11 +102,15 @@ module _ {args : ℕ → List ℕ} {eval : ℕ → Check ℕ} {n e : ℕ} {s : L
           record { root = valueAt memo (d .at); marked = values-mark memo m n (d .at) (b .0) (b .1) (omega arith); under = subst (Under s x) q (d .under) }
 
       only-cases : (x t : ℕ) → Under s x t → NotedValue memo n t ⊎ Marked m t → Covered s m x ⊎ List·Memᴰ (same x) ps
-      only-cases x t u (inl v) = inr (p x .1 (record {
-        at = v .at;
-        reaches = w .only (v .at) (v .below) (v .noted);
-        term = valueAt memo (v .at);
-        value = w .value (v .at) (v .below) (v .noted);
-        under = subst (Under s x) (v .is) u;
-      }))
+      only-cases x t u (inl v) = noted-cases (w .only (v .at) (v .below) (v .noted))
+        where
+          noted-cases : Marked m (valueAt memo (v .at)) ⊎ Reaches args (v .at) e → Covered s m x ⊎ List·Memᴰ (same x) ps
+          noted-cases (inl h) = inl (record { root = valueAt memo (v .at); marked = h; under = subst (Under s x) (v .is) u })
+          noted-cases (inr r) = inr (p x .1 (record {
+            at = v .at;
+            reaches = r;
+            term = valueAt memo (v .at);
+            value = w .value (v .at) (v .below) (v .noted);
+            under = subst (Under s x) (v .is) u;
+          }))
       only-cases x t u (inr h) = inl (record { root = t; marked = h; under = u })

@@ -1,8 +1,9 @@
--- What the evaluation of an expression by itself gives its caller: the definition's value, and marks that stand for its pairs.
+-- What the evaluation of an expression gives its caller: the definition's value, and marks that stand for its pairs.
 use Prim.Native.Nat.{ℕ, _*_, _<_, _≤_}
 use native.Mathlib.Omega.{arith}
 use mathlib.Core.Path.{_≡_, sym, ap, _∙_}
 use mathlib.Core.List.{List, List·Memᴰ}
+use mathlib.Core.Logic.{inl, inr}
 use mathlib.Core.Bool.{false}
 use lib.ListN.{length}
 use Rattle.model.specs.Layout.{sizesOf}
@@ -14,6 +15,7 @@ use Rattle.model.proofs.Post.{post-result}
 use Rattle.model.proofs.Valid.{expressions-lower}
 use Rattle.index.specs.declared.Fill.{Fill}
 use Rattle.termdag.specs.Store.{termsIn, roomOf}
+use Rattle.memo.specs.Memo.{valueAt}
 use Rattle.outcome.specs.declared.Checked.{Checked}
 use Rattle.outcome.proofs.Laws.{ok-of}
 use Rattle.marks.specs.Covering.{Marked}
@@ -21,7 +23,7 @@ use Rattle.marks.proofs.Marking.{AddsMarks}
 use Rattle.program.specs.Ready.{tablesFor, Ready, programFor}
 use Rattle.program.specs.Read.{exprFor, argumentsFor}
 use Rattle.evaluate.specs.Value.{termOutcome, valueOf, evalFor, valueFor, Reaches, here, down}
-use Rattle.evaluate.specs.Evaluation.{Sane, EvaluatesRoot}
+use Rattle.evaluate.specs.Evaluation.{Sane, EvaluatesMore}
 use Rattle.evaluate.proofs.Settling.{value-term, term-sane}
 use Rattle.pairs.specs.Marking.{markValues}
 use Rattle.pairs.proofs.Values.{same-value, pairs-values, pairs-reflexive}
@@ -50,8 +52,8 @@ known-term : (o : Outcome Value) (t : ℕ) (s : List Term) → termOutcome o ≡
 known-term (ok v u) t s q = (v, same-value q, ap (λ (x : List Term). ok v x) (same-store q))
 known-term (refused r u) t s q = let x : _≡_ {A = ℕ} 0 1 = cc in absurd (omega arith)
 
-module _ {J : List ℕ} (R : Ready J) (rule : ℕ) (σ : List Binding) {e : ℕ} {K₀ E₀ P₀ I₀ : List ℕ} {f : Fill} {K₁ E₁ P₁ I₁ : List ℕ} {r : Checked} {memo : List ℕ}
-    (root : EvaluatesRoot (argumentsFor J) (valueFor false J rule σ) (sizesOf J .expressions) e K₀ E₀ P₀ I₀ f K₁ E₁ P₁ I₁ r memo)
+module _ {Old : ℕ → Type 0} {J : List ℕ} (R : Ready J) (rule : ℕ) (σ : List Binding) {e : ℕ} {K₀ E₀ P₀ I₀ : List ℕ} {f : Fill} {K₁ E₁ P₁ I₁ : List ℕ} {r : Checked} {memo : List ℕ}
+    (root : EvaluatesMore Old (argumentsFor J) (valueFor false J rule σ) (sizesOf J .expressions) e K₀ E₀ P₀ I₀ f K₁ E₁ P₁ I₁ r memo)
     (passed : r .refusal .number ≡ 0) (sane : Sane (programFor J) σ (termsIn K₀ E₀ P₀ f)) where
   abbrev before : List Term
   before = termsIn K₀ E₀ P₀ f
@@ -86,15 +88,15 @@ module _ {J : List ℕ} (R : Ready J) (rule : ℕ) (σ : List Binding) {e : ℕ}
         sides = pairs-reflexive R room rule σ e sane (known .2);
       }
 
-  noted-below : e < sizesOf J .expressions → NotedBelow (argumentsFor J) (evalFor false J rule σ room) (sizesOf J .expressions) e after memo
-  noted-below h = record {
+  noted-below : {m : List ℕ} → e < sizesOf J .expressions → ((t : ℕ) → Old t → Marked m t) → NotedBelow (argumentsFor J) (evalFor false J rule σ room) (sizesOf J .expressions) e after memo m
+  noted-below h o = record {
     value = λ k l b. sym (value-term false room prog rule σ (exprFor J k) after) ∙ root .value passed k l b;
     below = λ k d. let l = reaches-most (expressions-lower (sizesOf J) (tablesFor J) (R .admitted)) d in (omega arith, root .below passed k d);
-    only = root .only passed;
+    only = λ k l b. elim (root .only passed k l b) [ inl v ↦ inl (o (valueAt memo k) v) | inr d ↦ inr d ];
     inside = λ k t q. post-result (term-sane false room prog rule σ (exprFor J k) (root-evaluated .sane)) q .2;
   }
 
   -- what marking the values does
-  pub root-adds : e < sizesOf J .expressions → {m m′ : List ℕ} → ((t : ℕ) → Marked m t → t < length after) → length after ≤ 32 * length m → m′ ≡ markValues memo (sizesOf J .expressions) m
+  pub root-adds : e < sizesOf J .expressions → {m m′ : List ℕ} → ((t : ℕ) → Old t → Marked m t) → ((t : ℕ) → Marked m t → t < length after) → length after ≤ 32 * length m → m′ ≡ markValues memo (sizesOf J .expressions) m
       → AddsMarks after m m′ (root-evaluated .value .pairs)
-  root-adds h i l q = rw q (values-adds (noted-below h) i l (pairs-values R room rule σ e sane (root-evaluated .is)))
+  root-adds h o i l q = rw q (values-adds (noted-below h o) i l (pairs-values R room rule σ e sane (root-evaluated .is)))
