@@ -13,13 +13,15 @@ use Rattle.model.specs.Evaluate.{same, Value}
 use Rattle.model.specs.Action.{processAction, sameProposition, among}
 use Rattle.termdag.specs.Store.{termsIn, Indexed, roomOf}
 use Rattle.index.specs.declared.Fill.{Fill}
-use Rattle.memo.specs.Memo.{Past}
+use Rattle.memo.specs.Memo.{valueAt, isNoted, Past}
 use Rattle.outcome.specs.Does.{Does}
 use Rattle.outcome.specs.declared.Checked.{Checked}
-use Rattle.marks.specs.Covering.{Marks}
+use Rattle.marks.specs.Covering.{Marked, Marks}
 use Rattle.program.specs.Ready.{Ready, programFor}
+use Rattle.program.specs.Read.{argumentsFor}
 use Rattle.lookups.specs.Keyed.{Keyed}
-use Rattle.evaluate.specs.Evaluation.{Sane}
+use Rattle.evaluate.specs.Value.{evalFor}
+use Rattle.evaluate.specs.Evaluation.{Sane, Memo}
 use Rattle.pairs.specs.Marking.{markValues}
 use Rattle.actions.specs.declared.Effect.{Effect}
 use Rattle.actions.specs.declared.Acted.{Acted}
@@ -33,6 +35,11 @@ pub record Standing (J F : List ℕ) (σ : List Binding) (k e p ix : List ℕ) (
   pub fits : sizesOf J .expressions + sizesOf J .expressions < length memo
   pub past : Past memo
   pub cells : length k ≤ 32 * length m
+
+-- A round of the memo that may go on: what is noted holds in the store under the bindings σ, and is marked, if there is marking.
+pub record Going (J : List ℕ) (rule : ℕ) (σ : List Binding) (marking : Bool) (k e p : List ℕ) (f : Fill) (memo m : List ℕ) : Type 0 where
+  pub holds : Memo (argumentsFor J) (evalFor false J rule σ (roomOf k p)) (sizesOf J .expressions) (termsIn k e p f) memo
+  pub marked : marking ≡ true → (i : ℕ) → i < sizesOf J .expressions → isNoted memo i ≡ true → Marked m (valueAt memo i)
 
 -- The marks after an evaluation.
 abbrev pub markedIf : Bool → List ℕ → ℕ → List ℕ → List ℕ

@@ -1,7 +1,7 @@
 // Actions, rule heads and merges, from proof_checker.rs. Pairs are not collected: marks stand for the reflexive ones, and a union's two are tested or kept.
 use cells::wide;
 use decode::Action;
-use evaluate::evaluate;
+use evaluate::eval;
 use index::Fill;
 use outcome::Checked;
 use outcome::Refusal;
@@ -10,6 +10,7 @@ use program::job::EXPRESSIONS;
 use program::job::size;
 use program::read::action_at;
 ghost use mathlib.Core.Path.{_≡_};
+ghost use mathlib.Core.Bool.{true, false};
 ghost use Prim.Native.Nat.{_+_, _≤_, _<_};
 ghost use lib.ListN.{length};
 ghost use Rattle.model.specs.Layout.{sizesOf};
@@ -19,7 +20,8 @@ ghost use Rattle.termdag.specs.Store.{termsIn, roomOf};
 ghost use Rattle.program.specs.Ready.{programFor};
 ghost use Rattle.program.specs.Read.{exprFor, actionFor};
 ghost use Rattle.evaluate.specs.Value.{bindingsIn};
-ghost use Rattle.actions.specs.Acting.{Standing, markedIf, Yields, Acts, Pushed};
+ghost use Rattle.memo.specs.Memo.{Past, Started};
+ghost use Rattle.actions.specs.Acting.{Standing, Going, markedIf, Yields, Acts, Pushed};
 
 // What an action did: bound a name to a term, joined two terms, or neither.
 pub enum Effect {
@@ -65,11 +67,13 @@ pub fn yield_value(
     e: u32,
 ) -> Checked
     requires { ⌜ Standing (now job) (now found) (bindingsIn (now bound) (now pairs) (now globals)) (now skinds) (now sends) (now spool) (now index) fill (now memo) (now marks) ⌝ }
+    requires { ⌜ Going (now job) rule (bindingsIn (now bound) (now pairs) (now globals)) marking (now skinds) (now sends) (now spool) fill (now memo) (now marks) ⌝ }
     requires { ⌜ e < sizesOf (now job) .expressions ⌝ }
-    ensures { λ r. ⌜ Yields (programFor (now (job .entry))) (bindingsIn (now (bound .entry)) (now (pairs .entry)) (now (globals .entry))) (evalExpr (roomOf (now (skinds .entry)) (now (spool .entry))) (programFor (now (job .entry))) rule (bindingsIn (now (bound .entry)) (now (pairs .entry)) (now (globals .entry))) (exprFor (now (job .entry)) e) (termsIn (now (skinds .entry)) (now (sends .entry)) (now (spool .entry)) fill)) marking (now (skinds .entry)) (now (sends .entry)) (now (spool .entry)) (now (index .entry)) fill (now (marks .entry)) (now (skinds .exit)) (now (sends .exit)) (now (spool .exit)) (now (index .exit)) r (now (memo .exit)) (now (marks .exit)) ⌝ }
+    ensures yields { λ r. ⌜ Yields (programFor (now (job .entry))) (bindingsIn (now (bound .entry)) (now (pairs .entry)) (now (globals .entry))) (evalExpr (roomOf (now (skinds .entry)) (now (spool .entry))) (programFor (now (job .entry))) rule (bindingsIn (now (bound .entry)) (now (pairs .entry)) (now (globals .entry))) (exprFor (now (job .entry)) e) (termsIn (now (skinds .entry)) (now (sends .entry)) (now (spool .entry)) fill)) marking (now (skinds .entry)) (now (sends .entry)) (now (spool .entry)) (now (index .entry)) fill (now (marks .entry)) (now (skinds .exit)) (now (sends .exit)) (now (spool .exit)) (now (index .exit)) r (now (memo .exit)) (now (marks .exit)) ⌝ }
+    ensures going { λ r. ⌜ (r .refusal .number ≡ 0 → Going (now (job .entry)) rule (bindingsIn (now (bound .entry)) (now (pairs .entry)) (now (globals .entry))) marking (now (skinds .exit)) (now (sends .exit)) (now (spool .exit)) (r .fill) (now (memo .exit)) (now (marks .exit))) ⌝ }
 {
     let count = size(job, EXPRESSIONS);
-    let r = evaluate(
+    let r = eval(
         job,
         found,
         bound,
@@ -112,8 +116,10 @@ fn act_let(
     e: u32,
 ) -> Acted
     requires { ⌜ Standing (now job) (now found) (bindingsIn (now bound) (now pairs) (now globals)) (now skinds) (now sends) (now spool) (now index) fill (now memo) (now marks) ⌝ }
+    requires { ⌜ Going (now job) rule (bindingsIn (now bound) (now pairs) (now globals)) marking (now skinds) (now sends) (now spool) fill (now memo) (now marks) ⌝ }
     requires { ⌜ e < sizesOf (now job) .expressions ⌝ }
-    ensures { λ r. ⌜ Acts (programFor (now (job .entry))) rule (bind name (exprFor (now (job .entry)) e)) (bindingsIn (now (bound .entry)) (now (pairs .entry)) (now (globals .entry))) marking (now (skinds .entry)) (now (sends .entry)) (now (spool .entry)) (now (index .entry)) fill (now (marks .entry)) (now (skinds .exit)) (now (sends .exit)) (now (spool .exit)) (now (index .exit)) r (now (memo .exit)) (now (marks .exit)) ⌝ }
+    ensures acts { λ r. ⌜ Acts (programFor (now (job .entry))) rule (bind name (exprFor (now (job .entry)) e)) (bindingsIn (now (bound .entry)) (now (pairs .entry)) (now (globals .entry))) marking (now (skinds .entry)) (now (sends .entry)) (now (spool .entry)) (now (index .entry)) fill (now (marks .entry)) (now (skinds .exit)) (now (sends .exit)) (now (spool .exit)) (now (index .exit)) r (now (memo .exit)) (now (marks .exit)) ⌝ }
+    ensures going { λ r. ⌜ (r .refusal .number ≡ 0 → Going (now (job .entry)) rule (bindingsIn (now (bound .entry)) (now (pairs .entry)) (now (globals .entry))) marking (now (skinds .exit)) (now (sends .exit)) (now (spool .exit)) (r .fill) (now (memo .exit)) (now (marks .exit))) ⌝ }
 {
     let r = yield_value(
         job,
@@ -160,8 +166,10 @@ fn act_run(
     e: u32,
 ) -> Acted
     requires { ⌜ Standing (now job) (now found) (bindingsIn (now bound) (now pairs) (now globals)) (now skinds) (now sends) (now spool) (now index) fill (now memo) (now marks) ⌝ }
+    requires { ⌜ Going (now job) rule (bindingsIn (now bound) (now pairs) (now globals)) marking (now skinds) (now sends) (now spool) fill (now memo) (now marks) ⌝ }
     requires { ⌜ e < sizesOf (now job) .expressions ⌝ }
-    ensures { λ r. ⌜ Acts (programFor (now (job .entry))) rule (run (exprFor (now (job .entry)) e)) (bindingsIn (now (bound .entry)) (now (pairs .entry)) (now (globals .entry))) marking (now (skinds .entry)) (now (sends .entry)) (now (spool .entry)) (now (index .entry)) fill (now (marks .entry)) (now (skinds .exit)) (now (sends .exit)) (now (spool .exit)) (now (index .exit)) r (now (memo .exit)) (now (marks .exit)) ⌝ }
+    ensures acts { λ r. ⌜ Acts (programFor (now (job .entry))) rule (run (exprFor (now (job .entry)) e)) (bindingsIn (now (bound .entry)) (now (pairs .entry)) (now (globals .entry))) marking (now (skinds .entry)) (now (sends .entry)) (now (spool .entry)) (now (index .entry)) fill (now (marks .entry)) (now (skinds .exit)) (now (sends .exit)) (now (spool .exit)) (now (index .exit)) r (now (memo .exit)) (now (marks .exit)) ⌝ }
+    ensures going { λ r. ⌜ (r .refusal .number ≡ 0 → Going (now (job .entry)) rule (bindingsIn (now (bound .entry)) (now (pairs .entry)) (now (globals .entry))) marking (now (skinds .exit)) (now (sends .exit)) (now (spool .exit)) (r .fill) (now (memo .exit)) (now (marks .exit))) ⌝ }
 {
     let r = yield_value(
         job,
@@ -209,9 +217,11 @@ fn act_union(
     right: u32,
 ) -> Acted
     requires { ⌜ Standing (now job) (now found) (bindingsIn (now bound) (now pairs) (now globals)) (now skinds) (now sends) (now spool) (now index) fill (now memo) (now marks) ⌝ }
+    requires { ⌜ Going (now job) rule (bindingsIn (now bound) (now pairs) (now globals)) marking (now skinds) (now sends) (now spool) fill (now memo) (now marks) ⌝ }
     requires { ⌜ left < sizesOf (now job) .expressions ⌝ }
     requires { ⌜ right < sizesOf (now job) .expressions ⌝ }
-    ensures { λ r. ⌜ Acts (programFor (now (job .entry))) rule (union (exprFor (now (job .entry)) left) (exprFor (now (job .entry)) right)) (bindingsIn (now (bound .entry)) (now (pairs .entry)) (now (globals .entry))) marking (now (skinds .entry)) (now (sends .entry)) (now (spool .entry)) (now (index .entry)) fill (now (marks .entry)) (now (skinds .exit)) (now (sends .exit)) (now (spool .exit)) (now (index .exit)) r (now (memo .exit)) (now (marks .exit)) ⌝ }
+    ensures acts { λ r. ⌜ Acts (programFor (now (job .entry))) rule (union (exprFor (now (job .entry)) left) (exprFor (now (job .entry)) right)) (bindingsIn (now (bound .entry)) (now (pairs .entry)) (now (globals .entry))) marking (now (skinds .entry)) (now (sends .entry)) (now (spool .entry)) (now (index .entry)) fill (now (marks .entry)) (now (skinds .exit)) (now (sends .exit)) (now (spool .exit)) (now (index .exit)) r (now (memo .exit)) (now (marks .exit)) ⌝ }
+    ensures going { λ r. ⌜ (r .refusal .number ≡ 0 → Going (now (job .entry)) rule (bindingsIn (now (bound .entry)) (now (pairs .entry)) (now (globals .entry))) marking (now (skinds .exit)) (now (sends .exit)) (now (spool .exit)) (r .fill) (now (memo .exit)) (now (marks .exit))) ⌝ }
 {
     let a = yield_value(
         job,
@@ -265,8 +275,8 @@ fn act_union(
     }
 }
 
-// One action.
-pub fn process_action(
+// One action, in a round of the memo that may have begun before.
+fn act(
     job: &[u32],
     found: &[u32],
     bound: &[u32],
@@ -284,8 +294,10 @@ pub fn process_action(
     i: u32,
 ) -> Acted
     requires { ⌜ Standing (now job) (now found) (bindingsIn (now bound) (now pairs) (now globals)) (now skinds) (now sends) (now spool) (now index) fill (now memo) (now marks) ⌝ }
+    requires { ⌜ Going (now job) rule (bindingsIn (now bound) (now pairs) (now globals)) marking (now skinds) (now sends) (now spool) fill (now memo) (now marks) ⌝ }
     requires { ⌜ i < sizesOf (now job) .actions ⌝ }
-    ensures { λ r. ⌜ Acts (programFor (now (job .entry))) rule (actionFor (now (job .entry)) i) (bindingsIn (now (bound .entry)) (now (pairs .entry)) (now (globals .entry))) marking (now (skinds .entry)) (now (sends .entry)) (now (spool .entry)) (now (index .entry)) fill (now (marks .entry)) (now (skinds .exit)) (now (sends .exit)) (now (spool .exit)) (now (index .exit)) r (now (memo .exit)) (now (marks .exit)) ⌝ }
+    ensures acts { λ r. ⌜ Acts (programFor (now (job .entry))) rule (actionFor (now (job .entry)) i) (bindingsIn (now (bound .entry)) (now (pairs .entry)) (now (globals .entry))) marking (now (skinds .entry)) (now (sends .entry)) (now (spool .entry)) (now (index .entry)) fill (now (marks .entry)) (now (skinds .exit)) (now (sends .exit)) (now (spool .exit)) (now (index .exit)) r (now (memo .exit)) (now (marks .exit)) ⌝ }
+    ensures going { λ r. ⌜ (r .refusal .number ≡ 0 → Going (now (job .entry)) rule (bindingsIn (now (bound .entry)) (now (pairs .entry)) (now (globals .entry))) marking (now (skinds .exit)) (now (sends .exit)) (now (spool .exit)) (r .fill) (now (memo .exit)) (now (marks .exit))) ⌝ }
 {
     let action = action_at(job, wide(i));
     match action {
@@ -352,6 +364,51 @@ pub fn process_action(
             fill,
         },
     }
+}
+
+// A new round of the memo, unless the one that there is goes on.
+fn new_round_unless(kept: bool, memo: &mut [u32])
+    requires { ⌜ 0 < length (now memo) ⌝ }
+    requires { ⌜ Past (now memo) ⌝ }
+    ensures same { λ _. ⌜ (kept ≡ true → now (memo .exit) ≡ now (memo .entry)) ⌝ }
+    ensures fresh { λ _. ⌜ (kept ≡ false → Started (now (memo .exit))) ⌝ }
+{
+    if kept {
+        return;
+    }
+    memo::new_round(memo)
+}
+
+// One action. What the memo has noted is used where it is kept: where no binding has changed since.
+pub fn process_action(
+    job: &[u32],
+    found: &[u32],
+    bound: &[u32],
+    pairs: &[u32],
+    globals: &[u32],
+    rule: u32,
+    skinds: &mut [u32],
+    sends: &mut [u32],
+    spool: &mut [u32],
+    index: &mut [u32],
+    fill: Fill,
+    memo: &mut [u32],
+    kept: bool,
+    marking: bool,
+    marks: &mut [u32],
+    i: u32,
+) -> Acted
+    requires { ⌜ Standing (now job) (now found) (bindingsIn (now bound) (now pairs) (now globals)) (now skinds) (now sends) (now spool) (now index) fill (now memo) (now marks) ⌝ }
+    requires { ⌜ (kept ≡ true → Going (now job) rule (bindingsIn (now bound) (now pairs) (now globals)) marking (now skinds) (now sends) (now spool) fill (now memo) (now marks)) ⌝ }
+    requires { ⌜ i < sizesOf (now job) .actions ⌝ }
+    ensures acts { λ r. ⌜ Acts (programFor (now (job .entry))) rule (actionFor (now (job .entry)) i) (bindingsIn (now (bound .entry)) (now (pairs .entry)) (now (globals .entry))) marking (now (skinds .entry)) (now (sends .entry)) (now (spool .entry)) (now (index .entry)) fill (now (marks .entry)) (now (skinds .exit)) (now (sends .exit)) (now (spool .exit)) (now (index .exit)) r (now (memo .exit)) (now (marks .exit)) ⌝ }
+    ensures going { λ r. ⌜ (r .refusal .number ≡ 0 → Going (now (job .entry)) rule (bindingsIn (now (bound .entry)) (now (pairs .entry)) (now (globals .entry))) marking (now (skinds .exit)) (now (sends .exit)) (now (spool .exit)) (r .fill) (now (memo .exit)) (now (marks .exit))) ⌝ }
+{
+    new_round_unless(kept, memo);
+    act(
+        job, found, bound, pairs, globals, rule, skinds, sends, spool, index, fill, memo, marking,
+        marks, i,
+    )
 }
 
 // Writes what an action bound before the bindings that stand in the table from `at` on; the place where they then start.

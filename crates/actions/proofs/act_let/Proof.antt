@@ -26,7 +26,7 @@ same-length-6 : tie.Need-same-length-6
 same-length-6 c = search needs
 
 returns : tie.Need-returns
-returns c = let a = c .before .before .before .before .before .before .before .before .before .before .before .before .before .before .before .before .before .before .before .before .before .before .before .before .before .before .before .before .before .before .before .before .args in acts-let (a .rule) (a .name) (exprFor (a .job .now) (a .e)) (c .before .before .before .before .before .before .before .before .before .before .before .before .before .before .yield-value .ensures)
+returns c = let a = c .before .before .before .before .before .before .before .before .before .before .before .before .before .before .before .before .before .before .before .before .before .before .before .before .before .before .before .before .before .before .before .before .args in (acts-let (a .rule) (a .name) (exprFor (a .job .now) (a .e)) (c .before .before .before .before .before .before .before .before .before .before .before .before .before .before .yield-value .ensures .0), c .before .before .before .before .before .before .before .before .before .before .before .before .before .before .yield-value .ensures .1)
 
 pub act-let-spec : {M : Type 1} → statement M
 act-let-spec =
