@@ -1,2 +1,3 @@
 pub mod Yielding
 pub mod Acting
+pub mod Steady

@@ -4,12 +4,13 @@ use lib.ListN.{length, drop}
 use mathlib.Core.Path.{_≡_}
 use mathlib.Core.List.{List, _∷_, _++_, List·Memᴰ}
 use mathlib.Core.Bool.{Bool, true, false, _||_}
+use mathlib.Core.Option.{none}
 use Rattle.model.specs.Layout.{sizesOf}
 use Rattle.model.specs.Term.{Extends}
 use Rattle.model.specs.Program.{Proposition, Binding, Program, Action}
 use Rattle.model.specs.Decode.{readBindings}
 use Rattle.model.specs.Check.{Outcome}
-use Rattle.model.specs.Evaluate.{same, Value}
+use Rattle.model.specs.Evaluate.{lookup, same, Value}
 use Rattle.model.specs.Action.{processAction, sameProposition, among}
 use Rattle.termdag.specs.Store.{termsIn, Indexed, roomOf}
 use Rattle.index.specs.declared.Fill.{Fill}
@@ -51,6 +52,10 @@ abbrev pub effectBindings : Effect → List Binding → List Binding
 effectBindings (Effect.Bind x t) σ = record { name = x; term = t } ∷ σ
 effectBindings (Effect.Union a b) σ = σ
 effectBindings Effect.Nothing σ = σ
+
+-- An action that bound no name, or one that the bindings σ do not have.
+pub record Steady (a : Effect) (σ : List Binding) : Type 0 where
+  pub unbound : (x t : ℕ) → a ≡ Effect.Bind x t → lookup σ x ≡ none
 
 -- The pair is one of a union's two.
 abbrev pub effectHas : Effect → Proposition → Bool
