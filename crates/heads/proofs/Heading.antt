@@ -1,6 +1,6 @@
 -- The actions of a head, one after the other, and the pair that it claims.
 use mathlib.Core.Path.{_≡_, refl, sym, ap, subst, subst⁻¹, _∙_}
-use mathlib.Core.Bool.{Bool, true, false, _||_}
+use mathlib.Core.Bool.{Bool, true, false, _||_, true≢false}
 use mathlib.Core.List.{List, [], _∷_, _++_, map, append-nil}
 use Prim.Native.Nat.{ℕ, suc, _+_, _-_, _<_, _≤_}
 use native.Mathlib.Numerals.{add-one}
@@ -27,8 +27,9 @@ use Rattle.evaluate.specs.Value.{bindingsIn}
 use Rattle.evaluate.specs.Evaluation.{Sane}
 use Rattle.actions.specs.declared.Effect.{Effect}
 use Rattle.actions.specs.declared.Acted.{Acted}
-use Rattle.actions.specs.Acting.{Standing, effectBindings, effectHas, Acts, Pushed}
+use Rattle.actions.specs.Acting.{Standing, effectBindings, effectHas, Acts, Pushed, Going, Steady}
 use Rattle.actions.proofs.Acting.{among-append, standing-after}
+use Rattle.actions.proofs.Steady.{going-steady}
 use Rattle.heads.specs.declared.Headed.{Headed}
 use Rattle.heads.specs.Heading.{Heads}
 
@@ -54,7 +55,7 @@ module _ (J F : List ℕ) (rule : ℕ) (S G : List ℕ) (q : Proposition) (marki
   action = actionFor J
 
   -- after i of the actions xs, from the bindings σ
-  pub record Turn (xs : List ℕ) (σ : List Binding) (k₀ e₀ p₀ ix₀ : List ℕ) (f₀ : Fill) (memo₀ m₀ k e p ix : List ℕ) (f : Fill) (memo m T : List ℕ) (at : ℕ) (found : Bool) (i : ℕ) : Type 0 where
+  pub record Turn (xs : List ℕ) (σ : List Binding) (k₀ e₀ p₀ ix₀ : List ℕ) (f₀ : Fill) (memo₀ m₀ k e p ix : List ℕ) (f : Fill) (memo m T : List ℕ) (at : ℕ) (found kept : Bool) (i : ℕ) : Type 0 where
     pub context : ActionContext
     pub upto : i ≤ length xs
     pub full : length T ≡ 160
@@ -62,6 +63,7 @@ module _ (J F : List ℕ) (rule : ℕ) (S G : List ℕ) (q : Proposition) (marki
     pub free : (length xs - i) + (length xs - i) ≤ at
     pub first : Standing J F σ k₀ e₀ p₀ ix₀ f₀ memo₀ m₀
     pub stand : Standing J F (bindingsIn (drop at T) S G) k e p ix f memo m
+    pub going : kept ≡ true → Going J rule (bindingsIn (drop at T) S G) marking k e p f memo m
     pub lenMemo : length memo ≡ length memo₀
     pub lenM : length m ≡ length m₀
     pub bindings : context .bindings ≡ bindingsIn (drop at T) S G
@@ -72,7 +74,7 @@ module _ (J F : List ℕ) (rule : ℕ) (S G : List ℕ) (q : Proposition) (marki
     pub marks : marking ≡ true → Marks (termsIn k₀ e₀ p₀ f₀) m₀ [] → Marks (termsIn k e p f) m (context .pairs)
 
   pub start : {xs : List ℕ} {B k e p ix : List ℕ} {f : Fill} {memo m T : List ℕ} {at : ℕ} → Standing J F (bindingsIn B S G) k e p ix f memo m → length xs ≤ 64 → at ≤ 160 → 128 ≤ at
-      → length T ≡ 160 → drop at T ≡ B → Turn xs (bindingsIn B S G) k e p ix f memo m k e p ix f memo m T at false 0
+      → length T ≡ 160 → drop at T ≡ B → Turn xs (bindingsIn B S G) k e p ix f memo m k e p ix f memo m T at false false 0
   start {xs} {B} {k} {e} {p} {ix} {f} {memo} {m} {T} {at} st few low high full q = record {
     context = startContext (bindingsIn B S G);
     upto = omega arith;
@@ -81,6 +83,7 @@ module _ (J F : List ℕ) (rule : ℕ) (S G : List ℕ) (q : Proposition) (marki
     free = omega arith;
     first = st;
     stand = subst⁻¹ (λ (X : List ℕ). Standing J F (bindingsIn X S G) k e p ix f memo m) q st;
+    going = λ u. absurd (true≢false (sym u));
     lenMemo = refl;
     lenM = refl;
     bindings = ap (λ (X : List ℕ). bindingsIn X S G) (sym q);
@@ -91,8 +94,8 @@ module _ (J F : List ℕ) (rule : ℕ) (S G : List ℕ) (q : Proposition) (marki
     marks = λ t w. w;
   }
 
-  module _ {xs : List ℕ} {σ : List Binding} {k₀ e₀ p₀ ix₀ : List ℕ} {f₀ : Fill} {memo₀ m₀ k e p ix : List ℕ} {f : Fill} {memo m T : List ℕ} {at : ℕ} {found : Bool} {i : ℕ}
-      (t : Turn xs σ k₀ e₀ p₀ ix₀ f₀ memo₀ m₀ k e p ix f memo m T at found i) where
+  module _ {xs : List ℕ} {σ : List Binding} {k₀ e₀ p₀ ix₀ : List ℕ} {f₀ : Fill} {memo₀ m₀ k e p ix : List ℕ} {f : Fill} {memo m T : List ℕ} {at : ℕ} {found kept : Bool} {i : ℕ}
+      (t : Turn xs σ k₀ e₀ p₀ ix₀ f₀ memo₀ m₀ k e p ix f memo m T at found kept i) where
     abbrev s : List Term
     s = termsIn k e p f
 
@@ -137,9 +140,9 @@ module _ (J F : List ℕ) (rule : ℕ) (S G : List ℕ) (q : Proposition) (marki
         marks = λ z. absurd (n z);
       })
 
-      pub turns : a .refusal .number ≡ 0 → {has found₁ : Bool} → has ≡ effectHas (a .effect) q → found₁ ≡ (found || has) → {T₁ : List ℕ} {at₁ : ℕ} → Pushed T at (a .effect) T₁ at₁ → length T₁ ≡ length T
-          → length memo₁ ≡ length memo → length m₁ ≡ length m → Turn xs σ k₀ e₀ p₀ ix₀ f₀ memo₀ m₀ k₁ e₁ p₁ ix₁ (a .fill) memo₁ m₁ T₁ at₁ found₁ (i + 1)
-      turns n {found₁ = found₁} hq fq {T₁} {at₁} ps lT lMemo lM = let w = t .free in let v = ps .least in record {
+      pub turns : a .refusal .number ≡ 0 → Going J rule (bindingsIn (drop at T) S G) marking k₁ e₁ p₁ (a .fill) memo₁ m₁ → {kept₁ : Bool} → (kept₁ ≡ true → Steady (a .effect) (bindingsIn (drop at T) S G)) → {has found₁ : Bool} → has ≡ effectHas (a .effect) q → found₁ ≡ (found || has) → {T₁ : List ℕ} {at₁ : ℕ} → Pushed T at (a .effect) T₁ at₁ → length T₁ ≡ length T
+          → length memo₁ ≡ length memo → length m₁ ≡ length m → Turn xs σ k₀ e₀ p₀ ix₀ f₀ memo₀ m₀ k₁ e₁ p₁ ix₁ (a .fill) memo₁ m₁ T₁ at₁ found₁ kept₁ (i + 1)
+      turns n g w {found₁ = found₁} hq fq {T₁} {at₁} ps lT lMemo lM = let x = t .free in let v = ps .least in record {
         context = after;
         upto = omega arith;
         full = lT ∙ t .full;
@@ -147,6 +150,7 @@ module _ (J F : List ℕ) (rule : ℕ) (S G : List ℕ) (q : Proposition) (marki
         free = omega arith;
         first = t .first;
         stand = standing-after (t .stand) (d .does [] .grown) (subst (λ (τ : List Binding). Sane prog τ s₁) (pushed-bindings S G ps) (d .sane n)) (d .past n) lMemo lM;
+        going = λ u. subst (λ (τ : List Binding). Going J rule τ marking k₁ e₁ p₁ (a .fill) memo₁ m₁) (pushed-bindings S G ps) (going-steady (a .effect) (w u) g);
         lenMemo = lMemo ∙ t .lenMemo;
         lenM = lM ∙ t .lenM;
         bindings = bound-after;
@@ -189,6 +193,12 @@ part-is T at e = ap (λ (m : ℕ). take (m - at) (drop at T)) (sym e) ∙ to-end
 
 pub standing-part : (S G : List ℕ) {J F : List ℕ} {X Y k e p ix : List ℕ} {f : Fill} {memo m : List ℕ} → X ≡ Y → Standing J F (bindingsIn Y S G) k e p ix f memo m → Standing J F (bindingsIn X S G) k e p ix f memo m
 standing-part S G {J} {F} {k = k} {e = e} {p = p} {ix = ix} {f = f} {memo = memo} {m = m} q st = subst⁻¹ (λ (X : List ℕ). Standing J F (bindingsIn X S G) k e p ix f memo m) q st
+
+pub going-part : (S G : List ℕ) {J : List ℕ} {rule : ℕ} {marking : Bool} {X Y k e p : List ℕ} {f : Fill} {memo m : List ℕ} → X ≡ Y → Going J rule (bindingsIn Y S G) marking k e p f memo m → Going J rule (bindingsIn X S G) marking k e p f memo m
+going-part S G {J} {rule} {marking} {k = k} {e = e} {p = p} {f = f} {memo = memo} {m = m} q g = subst⁻¹ (λ (X : List ℕ). Going J rule (bindingsIn X S G) marking k e p f memo m) q g
+
+pub steady-part : (S G : List ℕ) {a : Effect} {X Y : List ℕ} → X ≡ Y → Steady a (bindingsIn X S G) → Steady a (bindingsIn Y S G)
+steady-part S G {a} q w = subst (λ (X : List ℕ). Steady a (bindingsIn X S G)) q w
 
 pub acts-part : (S G : List ℕ) {prog : Program} {rule : ℕ} {a : Action} {X Y : List ℕ} {marking : Bool} {K E P I : List ℕ} {f : Fill} {m K₁ E₁ P₁ I₁ : List ℕ} {r : Acted} {memo₁ m₁ : List ℕ} → X ≡ Y
     → Acts prog rule a (bindingsIn X S G) marking K E P I f m K₁ E₁ P₁ I₁ r memo₁ m₁ → Acts prog rule a (bindingsIn Y S G) marking K E P I f m K₁ E₁ P₁ I₁ r memo₁ m₁

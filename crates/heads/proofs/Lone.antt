@@ -86,7 +86,7 @@ module _ {J F : List ℕ} {name : ℕ} {σ : List Binding} {q : Proposition} {e 
     pub run-is : v .value ≡ q .lhs → {c : Checked} → c ≡ record { refusal = passed; value = 0; fill = v .fill } → Produces (programFor J) rule σ q k e′ p ix f k₁ e₁ p₁ ix₁ c memo₁
     unfolding lone-heads
     run-is u g =
-        let y = yields-value name S h d {marking = false} n refl refl in
+        let y = yields-value name S h d {marking = false} (λ _ t o. absurd o) n refl refl in
         produce-by (programFor J) rule σ q nq aq (lone-heads (exprFor J e) y) n
         (sym (ap (λ (w : Proposition). among w (y .value .pairs)) (λ j. record { lhs = sym u j; rhs = (sym i ∙ sym u) j }) ∙ member-among (v .value) (y .value .pairs) (y .own n)))
         (produced-yes name (q .lhs) (q .rhs) g refl)
@@ -97,7 +97,7 @@ module _ {J F : List ℕ} {name : ℕ} {σ : List Binding} {q : Proposition} {e 
         → (r .fill ≡ v .fill) × ((s : List Term) → outcomeOf (r .refusal) tt s ≡ checkThat claimed 31 (name ∷ q .lhs ∷ q .rhs ∷ []) s)
         → Produces (programFor J) rule σ q k e′ p ix f k₁ e₁ p₁ ix₁ r memo₁
     run-marks w z s g l b r =
-        let H = lone-heads (exprFor J e) (yields-value name S h d {marking = true} n s g) in
+        let H = lone-heads (exprFor J e) (yields-value name S h d {marking = true} (λ _ t o. absurd o) n s g) in
         let a = S .cells in
         let x = d .does .grown .lenK in
         produce-by (programFor J) rule σ q nq aq H n (b ∙ marked-is (programFor J) rule σ q nq aq H n refl i w z (omega arith)) r

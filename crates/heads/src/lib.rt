@@ -9,6 +9,7 @@ use decode::Merge;
 use decode::Name;
 use decode::Proposition;
 use evaluate::evaluate;
+use evaluate::lookup;
 use index::Fill;
 use lookups::merge_of;
 use outcome::Checked;
@@ -23,7 +24,9 @@ use program::read::action_at;
 use program::read::rule_actions_at;
 use program::read::rule_name_at;
 ghost use mathlib.Core.Path.{_≡_};
+ghost use mathlib.Core.Bool.{true};
 ghost use mathlib.Core.List.{List, [], _∷_, map};
+ghost use mathlib.Core.Option.{none};
 ghost use Prim.Native.Nat.{ℕ, _≤_, _<_};
 ghost use lib.ListN.{length, getD};
 ghost use Rattle.model.specs.Layout.{sizesOf};
@@ -36,10 +39,10 @@ ghost use Rattle.termdag.specs.Store.{termsIn, Stored, roomOf};
 ghost use Rattle.outcome.specs.Does.{outcomeOf};
 ghost use Rattle.marks.specs.Marks as closing;
 ghost use Rattle.program.specs.declared.Looked as looked;
-ghost use Rattle.program.specs.Ready.{Ready, programFor, ruleFor};
+ghost use Rattle.program.specs.Ready.{Ready, programFor, ruleFor, optionOf};
 ghost use Rattle.program.specs.Read.{exprFor, actionFor};
 ghost use Rattle.evaluate.specs.Value.{bindingsIn};
-ghost use Rattle.actions.specs.Acting.{Standing, Yields, effectHas};
+ghost use Rattle.actions.specs.Acting.{Standing, Steady, Yields, effectHas};
 ghost use Rattle.heads.specs.Heading.{clearedIf, claimedBy, LoneRun, Heads, Produces};
 
 // What a head's actions give: whether the claimed pair, if it is not reflexive, is among their pairs.
@@ -60,7 +63,28 @@ fn has_pair(effect: Effect, q: Proposition) -> bool
     }
 }
 
-// `process_actions` for a head.
+// No term was found.
+fn is_none(l: Looked) -> bool
+    ensures { λ r. ⌜ (r ≡ true → optionOf l ≡ none) ⌝ }
+{
+    match l {
+        Looked::Some(_) => false,
+        Looked::None => true,
+    }
+}
+
+// After an action the values noted stand: it bound no name, or one that was not bound.
+fn is_steady(effect: Effect, bound: &[u32], pairs: &[u32], globals: &[u32]) -> bool
+    ensures { λ r. ⌜ (r ≡ true → Steady effect (bindingsIn (now (bound .entry)) (now (pairs .entry)) (now (globals .entry)))) ⌝ }
+{
+    match effect {
+        Effect::Bind(x, _) => is_none(lookup(bound, pairs, globals, x)),
+        Effect::Union(_, _) => true,
+        Effect::Nothing => true,
+    }
+}
+
+// `process_actions` for a head. The actions share a round of the memo, up to a let that binds a name anew.
 fn head_actions(
     job: &[u32],
     found: &[u32],
@@ -90,6 +114,7 @@ fn head_actions(
     cells::copy(&mut table, at, bound);
     let mut have = fill;
     let mut seen = false;
+    let mut kept = false;
     let mut i = 0;
     while i < actions.len() {
         let r = process_action(
@@ -105,6 +130,7 @@ fn head_actions(
             index,
             have,
             memo,
+            kept,
             marking,
             marks,
             actions[i],
@@ -120,6 +146,7 @@ fn head_actions(
         }
         let effect = r.effect;
         seen = seen | has_pair(effect, q);
+        kept = is_steady(effect, &table[at..], pairs, globals);
         at = push_binding(&mut table, at, effect);
         i += 1;
     }
@@ -376,22 +403,25 @@ pub fn run_merge(
     let none = [0u32; 0];
     match merge {
         Merge::Nothing => refuse1(43, function, fill),
-        Merge::Expr(e) => yield_value(
-            job,
-            found,
-            &bound,
-            &none,
-            &none,
-            Name::MERGE_FUNCTION.number,
-            skinds,
-            sends,
-            spool,
-            index,
-            fill,
-            memo,
-            marking,
-            marks,
-            e,
-        ),
+        Merge::Expr(e) => {
+            memo::new_round(memo);
+            yield_value(
+                job,
+                found,
+                &bound,
+                &none,
+                &none,
+                Name::MERGE_FUNCTION.number,
+                skinds,
+                sends,
+                spool,
+                index,
+                fill,
+                memo,
+                marking,
+                marks,
+                e,
+            )
+        }
     }
 }

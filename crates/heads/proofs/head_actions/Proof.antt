@@ -1,5 +1,5 @@
 use mathlib.Core.Path.{refl, sym, _∙_}
-use Rattle.heads.proofs.Heading.{Turn, start, stops, turns, finishes, standing-part, acts-part, part-is, copied-at}
+use Rattle.heads.proofs.Heading.{Turn, start, stops, turns, finishes, standing-part, going-part, steady-part, acts-part, part-is, copied-at}
 use Rattle.evaluate.specs.Value.{bindingsIn}
 use Rattle.decode.specs.View.{propositionOf}
 use lib.ListN.{length}
@@ -11,11 +11,11 @@ use Rattle.heads.proofs.head_actions.Statement.{statement}
 use Rattle.heads.proofs.head_actions.Tie as tie
 
 abbrev Inv-loop : tie.InvT-loop
-Inv-loop job found bound pairs globals rule skinds₀ sends₀ spool₀ index₀ memo₀ marking marks₀ actions q table₀ at₀ have₀ seen₀ i₀ skinds sends spool index memo marks table at have seen i =
-    Turn job found rule pairs globals (propositionOf q) marking actions (bindingsIn bound pairs globals) skinds₀ sends₀ spool₀ index₀ have₀ memo₀ marks₀ skinds sends spool index have memo marks table at seen i
+Inv-loop job found bound pairs globals rule skinds₀ sends₀ spool₀ index₀ memo₀ marking marks₀ actions q table₀ at₀ have₀ seen₀ kept₀ i₀ skinds sends spool index memo marks table at have seen kept i =
+    Turn job found rule pairs globals (propositionOf q) marking actions (bindingsIn bound pairs globals) skinds₀ sends₀ spool₀ index₀ have₀ memo₀ marks₀ skinds sends spool index have memo marks table at seen kept i
 
 abbrev μ-loop : tie.MeasureT-loop
-μ-loop job found bound pairs globals rule skinds₀ sends₀ spool₀ index₀ memo₀ marking marks₀ actions q table₀ at₀ have₀ seen₀ i₀ skinds sends spool index memo marks table at have seen i =
+μ-loop job found bound pairs globals rule skinds₀ sends₀ spool₀ index₀ memo₀ marking marks₀ actions q table₀ at₀ have₀ seen₀ kept₀ i₀ skinds sends spool index memo marks table at have seen kept i =
     length actions - i
 
 sub-at : tie.Need-sub-at Inv-loop μ-loop
@@ -49,46 +49,61 @@ shared-slice-read-process-action : tie.Need-shared-slice-read-process-action Inv
 shared-slice-read-process-action c = search needs
 
 process-action-requires : tie.Need-process-action-requires Inv-loop μ-loop
-process-action-requires c κs = let a = c .before .before .before .before .before .before .before .before .before .before .before .before .before .before .before .before .before .before .before .before .before .before .before .before .before .before .args in let pre = c .before .before .before .before .before .before .before .before .before .before .before .before .before .before .before .before .before .before .before .before .before .before .before .before .before .before .pre in let t = c .before .before .before .before .before .before .before .before .before .before .loop .inv in (standing-part (a .pairs .now) (a .globals .now) (part-is (c .before .before .before .before .before .before .before .before .before .before .loop .table) (c .before .before .before .before .before .before .before .before .before .before .loop .at) (t .full)) (t .stand), pre .1 .1 .1 (c .before .before .before .before .before .before .before .before .before .before .loop .i) (c .before .before .before .before .before .before .before .before .before .loop-test .taken))
+process-action-requires c κs = let a = c .before .before .before .before .before .before .before .before .before .before .before .before .before .before .before .before .before .before .before .before .before .before .before .before .before .before .args in let pre = c .before .before .before .before .before .before .before .before .before .before .before .before .before .before .before .before .before .before .before .before .before .before .before .before .before .before .pre in let t = c .before .before .before .before .before .before .before .before .before .before .loop .inv in (standing-part (a .pairs .now) (a .globals .now) (part-is (c .before .before .before .before .before .before .before .before .before .before .loop .table) (c .before .before .before .before .before .before .before .before .before .before .loop .at) (t .full)) (t .stand), (λ u. going-part (a .pairs .now) (a .globals .now) (part-is (c .before .before .before .before .before .before .before .before .before .before .loop .table) (c .before .before .before .before .before .before .before .before .before .before .loop .at) (t .full)) (t .going u), pre .1 .1 .1 (c .before .before .before .before .before .before .before .before .before .before .loop .i) (c .before .before .before .before .before .before .before .before .before .loop-test .taken)))
 
 same-length : tie.Need-same-length Inv-loop μ-loop
-same-length c = c .before .before .before .before .before .before .before .before .before .before .before .before .before .before .before .before .process-action .ensures .does [] .grown .lenK ∙ c .before .before .before .before .before .before .before .before .before .before .before .before .before .before .before .before .before .before .before .before .before .before .before .before .before .before .before .loop .inv .grown .lenK
+same-length c = c .before .before .before .before .before .before .before .before .before .before .before .before .before .before .before .before .process-action .ensures .0 .does [] .grown .lenK ∙ c .before .before .before .before .before .before .before .before .before .before .before .before .before .before .before .before .before .before .before .before .before .before .before .before .before .before .before .loop .inv .grown .lenK
 
 same-length-2 : tie.Need-same-length-2 Inv-loop μ-loop
-same-length-2 c = c .before .before .before .before .before .before .before .before .before .before .before .before .before .before .before .before .process-action .ensures .does [] .grown .lenE ∙ c .before .before .before .before .before .before .before .before .before .before .before .before .before .before .before .before .before .before .before .before .before .before .before .before .before .before .before .loop .inv .grown .lenE
+same-length-2 c = c .before .before .before .before .before .before .before .before .before .before .before .before .before .before .before .before .process-action .ensures .0 .does [] .grown .lenE ∙ c .before .before .before .before .before .before .before .before .before .before .before .before .before .before .before .before .before .before .before .before .before .before .before .before .before .before .before .loop .inv .grown .lenE
 
 same-length-3 : tie.Need-same-length-3 Inv-loop μ-loop
-same-length-3 c = c .before .before .before .before .before .before .before .before .before .before .before .before .before .before .before .before .process-action .ensures .does [] .grown .lenP ∙ c .before .before .before .before .before .before .before .before .before .before .before .before .before .before .before .before .before .before .before .before .before .before .before .before .before .before .before .loop .inv .grown .lenP
+same-length-3 c = c .before .before .before .before .before .before .before .before .before .before .before .before .before .before .before .before .process-action .ensures .0 .does [] .grown .lenP ∙ c .before .before .before .before .before .before .before .before .before .before .before .before .before .before .before .before .before .before .before .before .before .before .before .before .before .before .before .loop .inv .grown .lenP
 
 same-length-4 : tie.Need-same-length-4 Inv-loop μ-loop
-same-length-4 c = c .before .before .before .before .before .before .before .before .before .before .before .before .before .before .before .before .process-action .ensures .does [] .grown .lenI ∙ c .before .before .before .before .before .before .before .before .before .before .before .before .before .before .before .before .before .before .before .before .before .before .before .before .before .before .before .loop .inv .grown .lenI
+same-length-4 c = c .before .before .before .before .before .before .before .before .before .before .before .before .before .before .before .before .process-action .ensures .0 .does [] .grown .lenI ∙ c .before .before .before .before .before .before .before .before .before .before .before .before .before .before .before .before .before .before .before .before .before .before .before .before .before .before .before .loop .inv .grown .lenI
 
 same-length-5 : tie.Need-same-length-5 Inv-loop μ-loop
 same-length-5 c = c .before .before .before .before .before .before .before .before .before .before .before .before .before .before .before .before .process-action .kept .1 .1 .1 .1 .1 .1 .1 .1 .1 .1 .1 .0 ∙ c .before .before .before .before .before .before .before .before .before .before .before .before .before .before .before .before .before .before .before .before .before .before .before .before .before .before .before .loop .inv .lenMemo
 
 same-length-6 : tie.Need-same-length-6 Inv-loop μ-loop
-same-length-6 c = c .before .before .before .before .before .before .before .before .before .before .before .before .before .before .before .before .process-action .kept .1 .1 .1 .1 .1 .1 .1 .1 .1 .1 .1 .1 .1 .0 ∙ c .before .before .before .before .before .before .before .before .before .before .before .before .before .before .before .before .before .before .before .before .before .before .before .before .before .before .before .loop .inv .lenM
+same-length-6 c = c .before .before .before .before .before .before .before .before .before .before .before .before .before .before .before .before .process-action .kept .1 .1 .1 .1 .1 .1 .1 .1 .1 .1 .1 .1 .1 .1 .0 ∙ c .before .before .before .before .before .before .before .before .before .before .before .before .before .before .before .before .before .before .before .before .before .before .before .before .before .before .before .loop .inv .lenM
 
 returns : tie.Need-returns Inv-loop μ-loop
-returns c = let a = c .before .before .before .before .before .before .before .before .before .before .before .before .before .before .before .before .before .before .before .before .before .before .before .before .before .before .before .before .before .before .before .before .before .before .before .before .before .before .before .before .before .before .before .args in let t = c .before .before .before .before .before .before .before .before .before .before .before .before .before .before .before .before .before .before .before .before .before .before .before .before .before .before .before .loop .inv in stops (a .job .now) (a .found .now) (a .rule) (a .pairs .now) (a .globals .now) (propositionOf (a .q)) (a .marking) t (c .before .before .before .before .before .before .before .before .before .before .before .before .before .before .before .before .before .before .before .before .before .before .before .before .before .before .loop-test .taken) (acts-part (a .pairs .now) (a .globals .now) (part-is (c .before .before .before .before .before .before .before .before .before .before .before .before .before .before .before .before .before .before .before .before .before .before .before .before .before .before .before .loop .table) (c .before .before .before .before .before .before .before .before .before .before .before .before .before .before .before .before .before .before .before .before .before .before .before .before .before .before .before .loop .at) (t .full)) (c .before .before .before .before .before .before .before .before .before .before .before .before .before .before .before .before .process-action .ensures)) (c .before .if1 .taken) refl
+returns c = let a = c .before .before .before .before .before .before .before .before .before .before .before .before .before .before .before .before .before .before .before .before .before .before .before .before .before .before .before .before .before .before .before .before .before .before .before .before .before .before .before .before .before .before .before .args in let t = c .before .before .before .before .before .before .before .before .before .before .before .before .before .before .before .before .before .before .before .before .before .before .before .before .before .before .before .loop .inv in stops (a .job .now) (a .found .now) (a .rule) (a .pairs .now) (a .globals .now) (propositionOf (a .q)) (a .marking) t (c .before .before .before .before .before .before .before .before .before .before .before .before .before .before .before .before .before .before .before .before .before .before .before .before .before .before .loop-test .taken) (acts-part (a .pairs .now) (a .globals .now) (part-is (c .before .before .before .before .before .before .before .before .before .before .before .before .before .before .before .before .before .before .before .before .before .before .before .before .before .before .before .loop .table) (c .before .before .before .before .before .before .before .before .before .before .before .before .before .before .before .before .before .before .before .before .before .before .before .before .before .before .before .loop .at) (t .full)) (c .before .before .before .before .before .before .before .before .before .before .before .before .before .before .before .before .process-action .ensures .0)) (c .before .if1 .taken) refl
 
 has-pair-requires : tie.Need-has-pair-requires Inv-loop μ-loop
 has-pair-requires c κs = search needs
 
+mul-is-steady : tie.Need-mul-is-steady Inv-loop μ-loop
+mul-is-steady c = let l = c .before .before .before .before .before .before .before .before .before .before .before .before .before .before .before .before .before .before .before .before .before .before .before .before .before .before .before .loop .inv .low in omega arith
+
+sub-is-steady : tie.Need-sub-is-steady Inv-loop μ-loop
+sub-is-steady c = let l = c .before .before .before .before .before .before .before .before .before .before .before .before .before .before .before .before .before .before .before .before .before .before .before .before .before .before .before .loop .inv .low in omega arith
+
+part-is-steady-start : tie.Need-part-is-steady-start Inv-loop μ-loop
+part-is-steady-start c = let l = c .before .before .before .before .before .before .before .before .before .before .before .before .before .before .before .before .before .before .before .before .before .before .before .before .before .before .before .before .loop .inv .low in omega arith
+
+part-is-steady-end : tie.Need-part-is-steady-end Inv-loop μ-loop
+part-is-steady-end c = let l = c .before .before .before .before .before .before .before .before .before .before .before .before .before .before .before .before .before .before .before .before .before .before .before .before .before .before .before .before .loop .inv .full in omega arith
+
+is-steady-requires : tie.Need-is-steady-requires Inv-loop μ-loop
+is-steady-requires c κs = search needs
+
 slice-aggregate-push-binding : tie.Need-slice-aggregate-push-binding Inv-loop μ-loop
-slice-aggregate-push-binding c = sym (c .before .before .before .before .before .before .before .before .before .before .before .before .before .before .before .before .before .before .before .before .before .before .before .before .before .before .before .before .loop .inv .full)
+slice-aggregate-push-binding c = sym (c .before .before .before .before .before .before .before .before .before .before .before .before .before .before .before .before .before .before .before .before .before .before .before .before .before .before .before .before .before .before .before .loop .inv .full)
 
 push-binding-requires : tie.Need-push-binding-requires Inv-loop μ-loop
-push-binding-requires c κs = let t = c .before .before .before .before .before .before .before .before .before .before .before .before .before .before .before .before .before .before .before .before .before .before .before .before .before .before .before .before .loop .inv in let f = t .free in let l = t .low in let h = t .full in let i = c .before .before .before .before .before .before .before .before .before .before .before .before .before .before .before .before .before .before .before .before .before .before .before .before .before .before .before .loop-test .taken in (omega arith, omega arith)
+push-binding-requires c κs = let t = c .before .before .before .before .before .before .before .before .before .before .before .before .before .before .before .before .before .before .before .before .before .before .before .before .before .before .before .before .before .before .before .loop .inv in let f = t .free in let l = t .low in let h = t .full in let i = c .before .before .before .before .before .before .before .before .before .before .before .before .before .before .before .before .before .before .before .before .before .before .before .before .before .before .before .before .before .before .loop-test .taken in (omega arith, omega arith)
 
 add-i : tie.Need-add-i Inv-loop μ-loop
-add-i c = let x = c .before .before .before .before .before .before .before .before .before .before .before .before .before .before .before .before .before .before .before .before .before .before .before .before .before .before .before .before .before .loop-test .taken in let y = c .before .before .before .before .before .before .before .before .before .before .before .before .before .before .before .before .before .before .before .before .before .before .before .before .before .before .before .before .before .before .before .before .before .before .before .before .before .before .before .before .before .before .before .before .before .before .pre .1 .1 .0 in omega arith
+add-i c = let x = c .before .before .before .before .before .before .before .before .before .before .before .before .before .before .before .before .before .before .before .before .before .before .before .before .before .before .before .before .before .before .before .before .loop-test .taken in let y = c .before .before .before .before .before .before .before .before .before .before .before .before .before .before .before .before .before .before .before .before .before .before .before .before .before .before .before .before .before .before .before .before .before .before .before .before .before .before .before .before .before .before .before .before .before .before .before .before .before .pre .1 .1 .0 in omega arith
 
 loop-less : tie.Need-loop-less Inv-loop μ-loop
-loop-less c = let x = c .before .before .before .before .before .before .before .before .before .before .before .before .before .before .before .before .before .before .before .before .before .before .before .before .before .before .before .before .before .loop-test .taken in let y = c .before .before .before .before .before .before .before .before .before .before .before .before .before .before .before .before .before .before .before .before .before .before .before .before .before .before .before .before .before .before .before .before .before .before .before .before .before .before .before .before .before .before .before .before .before .before .pre .1 .1 .0 in omega arith
+loop-less c = let x = c .before .before .before .before .before .before .before .before .before .before .before .before .before .before .before .before .before .before .before .before .before .before .before .before .before .before .before .before .before .before .before .before .loop-test .taken in let y = c .before .before .before .before .before .before .before .before .before .before .before .before .before .before .before .before .before .before .before .before .before .before .before .before .before .before .before .before .before .before .before .before .before .before .before .before .before .before .before .before .before .before .before .before .before .before .before .before .before .pre .1 .1 .0 in omega arith
 
 loop-again : tie.Need-loop-again Inv-loop μ-loop
-loop-again c = let a = c .before .before .before .before .before .before .before .before .before .before .before .before .before .before .before .before .before .before .before .before .before .before .before .before .before .before .before .before .before .before .before .before .before .before .before .before .before .before .before .before .before .before .before .before .before .before .args in let t = c .before .before .before .before .before .before .before .before .before .before .before .before .before .before .before .before .before .before .before .before .before .before .before .before .before .before .before .before .before .before .loop .inv in turns (a .job .now) (a .found .now) (a .rule) (a .pairs .now) (a .globals .now) (propositionOf (a .q)) (a .marking) t (c .before .before .before .before .before .before .before .before .before .before .before .before .before .before .before .before .before .before .before .before .before .before .before .before .before .before .before .before .before .loop-test .taken) (acts-part (a .pairs .now) (a .globals .now) (part-is (c .before .before .before .before .before .before .before .before .before .before .before .before .before .before .before .before .before .before .before .before .before .before .before .before .before .before .before .before .before .before .loop .table) (c .before .before .before .before .before .before .before .before .before .before .before .before .before .before .before .before .before .before .before .before .before .before .before .before .before .before .before .before .before .before .loop .at) (t .full)) (c .before .before .before .before .before .before .before .before .before .before .before .before .before .before .before .before .before .before .before .process-action .ensures)) (c .before .before .before .before .if1 .left) (c .before .before .before .has-pair .ensures) refl (c .before .push-binding .ensures) (c .before .push-binding .kept .0) (c .before .before .before .before .before .before .before .before .before .before .before .before .before .before .before .before .before .before .before .process-action .kept .1 .1 .1 .1 .1 .1 .1 .1 .1 .1 .1 .0) (c .before .before .before .before .before .before .before .before .before .before .before .before .before .before .before .before .before .before .before .process-action .kept .1 .1 .1 .1 .1 .1 .1 .1 .1 .1 .1 .1 .1 .0)
+loop-again c = let a = c .before .before .before .before .before .before .before .before .before .before .before .before .before .before .before .before .before .before .before .before .before .before .before .before .before .before .before .before .before .before .before .before .before .before .before .before .before .before .before .before .before .before .before .before .before .before .before .before .before .args in let t = c .before .before .before .before .before .before .before .before .before .before .before .before .before .before .before .before .before .before .before .before .before .before .before .before .before .before .before .before .before .before .before .before .before .loop .inv in turns (a .job .now) (a .found .now) (a .rule) (a .pairs .now) (a .globals .now) (propositionOf (a .q)) (a .marking) t (c .before .before .before .before .before .before .before .before .before .before .before .before .before .before .before .before .before .before .before .before .before .before .before .before .before .before .before .before .before .before .before .before .loop-test .taken) (acts-part (a .pairs .now) (a .globals .now) (part-is (c .before .before .before .before .before .before .before .before .before .before .before .before .before .before .before .before .before .before .before .before .before .before .before .before .before .before .before .before .before .before .before .before .before .loop .table) (c .before .before .before .before .before .before .before .before .before .before .before .before .before .before .before .before .before .before .before .before .before .before .before .before .before .before .before .before .before .before .before .before .before .loop .at) (t .full)) (c .before .before .before .before .before .before .before .before .before .before .before .before .before .before .before .before .before .before .before .before .before .before .process-action .ensures .0)) (c .before .before .before .before .before .before .before .if1 .left) (going-part (a .pairs .now) (a .globals .now) (sym (part-is (c .before .before .before .before .before .before .before .before .before .before .before .before .before .before .before .before .before .before .before .before .before .before .before .before .before .before .before .before .before .before .before .before .before .loop .table) (c .before .before .before .before .before .before .before .before .before .before .before .before .before .before .before .before .before .before .before .before .before .before .before .before .before .before .before .before .before .before .before .before .before .loop .at) (t .full))) (c .before .before .before .before .before .before .before .before .before .before .before .before .before .before .before .before .before .before .before .before .before .before .process-action .ensures .1 (c .before .before .before .before .before .before .before .if1 .left))) (λ u. steady-part (a .pairs .now) (a .globals .now) (part-is (c .before .before .before .before .before .before .before .before .before .before .before .before .before .before .before .before .before .before .before .before .before .before .before .before .before .before .before .before .before .before .before .before .before .loop .table) (c .before .before .before .before .before .before .before .before .before .before .before .before .before .before .before .before .before .before .before .before .before .before .before .before .before .before .before .before .before .before .before .before .before .loop .at) (t .full)) (c .before .before .before .is-steady .ensures u)) (c .before .before .before .before .before .before .has-pair .ensures) refl (c .before .push-binding .ensures) (c .before .push-binding .kept .0) (c .before .before .before .before .before .before .before .before .before .before .before .before .before .before .before .before .before .before .before .before .before .before .process-action .kept .1 .1 .1 .1 .1 .1 .1 .1 .1 .1 .1 .0) (c .before .before .before .before .before .before .before .before .before .before .before .before .before .before .before .before .before .before .before .before .before .before .process-action .kept .1 .1 .1 .1 .1 .1 .1 .1 .1 .1 .1 .1 .1 .1 .0)
 
 same-length-7 : tie.Need-same-length-7 Inv-loop μ-loop
 same-length-7 c = c .before .loop .inv .grown .lenK
@@ -136,6 +151,11 @@ head-actions-spec =
     same-length-6
     returns
     has-pair-requires
+    mul-is-steady
+    sub-is-steady
+    part-is-steady-start
+    part-is-steady-end
+    is-steady-requires
     slice-aggregate-push-binding
     push-binding-requires
     add-i
