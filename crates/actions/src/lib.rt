@@ -406,8 +406,21 @@ pub fn process_action(
 {
     new_round_unless(kept, memo);
     act(
-        job, found, bound, pairs, globals, rule, skinds, sends, spool, index, fill, memo, marking,
-        marks, i,
+        job,
+        found,
+        bound,
+        pairs,
+        globals,
+        rule,
+        skinds,
+        sends,
+        spool,
+        index,
+        fill,
+        memo,
+        marking,
+        marks,
+        i,
     )
 }
 

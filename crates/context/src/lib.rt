@@ -120,6 +120,7 @@ fn global_action(
         index,
         fill,
         memo,
+        false,
         true,
         marks,
         i,

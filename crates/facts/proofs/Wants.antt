@@ -8,6 +8,7 @@ use native.Mathlib.Numerals.{add-one}
 use lib.Dec.{eqb}
 use lib.ListN.{length, getD, set, take, length-set}
 use lib.Seq.{take-suc-set}
+use Rattle.model.specs.Layout.{sizesOf}
 use Rattle.model.specs.Term.{Term, app}
 use Rattle.model.specs.Program.{Expr, Exprs, Fact, equal, bare, Proposition, Binding, Program}
 use Rattle.model.specs.Decode.{argumentsBy}
@@ -18,17 +19,19 @@ use Rattle.model.specs.Fact.{argsOf, functionFact, wantedEquality, wanted, matc
 use Rattle.index.specs.declared.Fill.{Fill}
 use Rattle.decode.specs.View.{propositionOf}
 use Rattle.termdag.specs.Store.{termsIn, Indexed, roomOf}
-use Rattle.memo.specs.Memo.{Past}
+use Rattle.memo.specs.Memo.{Past, Started}
 use Rattle.outcome.specs.Does.{passed, outcomeOf, Does}
 use Rattle.outcome.specs.declared.Refusal.{Refusal}
 use Rattle.outcome.specs.declared.Checked.{Checked}
-use Rattle.outcome.proofs.Laws.{does-here, does-map}
+use Rattle.outcome.proofs.Laws.{does-here, does-map, room-same}
 use Rattle.program.specs.Ready.{programFor, optionOf}
 use Rattle.program.specs.declared.Looked.{Looked}
 use Rattle.program.specs.Read.{exprFor, argumentsFor}
-use Rattle.evaluate.specs.Value.{valueOf, valueFor}
-use Rattle.evaluate.specs.Evaluation.{EvaluatesRoot, Checks}
+use Rattle.evaluate.specs.Value.{valueOf, evalFor, valueFor}
+use Rattle.evaluate.specs.Evaluation.{Memo, Evaluates, Checks}
 use Rattle.evaluate.proofs.Checking.{checks-then, checks-stop, checks-does, checks-here, checks-as, value-fact}
+use Rattle.evaluate.proofs.Settling.{value-term}
+use Rattle.evaluate.proofs.Turns.{root-memo}
 use Rattle.evaluate.proofs.Collecting.{each, each-is, Run, run-start, run-stop, run-turn, run-done}
 use Rattle.facts.specs.Call.{functionFactOf}
 use Rattle.facts.specs.declared.Asked.{Asked}
@@ -43,8 +46,20 @@ then-pure : {A : Type 0} (o : Outcome A) → andThen o pure ≡ o
 then-pure (ok a s) = refl
 then-pure (refused r s) = refl
 
--- the arguments of a call, one after the other
 module _ (J : List ℕ) (rule : ℕ) (σ : List Binding) where
+  -- an evaluation in a round that is there: it is a check, and the round goes on
+  abbrev eval : Room → ℕ → Check ℕ
+  eval = evalFor true J rule σ
+
+  module _ {e : ℕ} {K E P I : List ℕ} {f : Fill} {m K₁ E₁ P₁ I₁ : List ℕ} {c : Checked} {m₁ : List ℕ}
+      (d : Evaluates (argumentsFor J) eval (sizesOf J .expressions) e K E P I f m K₁ E₁ P₁ I₁ c m₁) where
+    pub checks-eval : Checks K E P I f K₁ E₁ P₁ I₁ (c .fill) (c .refusal) (c .value) m₁ (valueFor true J rule σ (roomOf K P) e (termsIn K E P f))
+    checks-eval = checks-as (sym (value-term true (roomOf K P) (programFor J) rule σ (exprFor J e) (termsIn K E P f))) (record { does = d .does; past = λ z. d .memo z .past })
+
+    pub round-on : c .refusal .number ≡ 0 → Memo (argumentsFor J) (eval (roomOf K₁ P₁)) (sizesOf J .expressions) (termsIn K₁ E₁ P₁ (c .fill)) m₁
+    round-on z = subst (λ (x : Room). Memo (argumentsFor J) (eval x) (sizesOf J .expressions) (termsIn K₁ E₁ P₁ (c .fill)) m₁) (sym (room-same (d .does .grown))) (d .memo z)
+
+  -- the arguments of a call, one after the other
   abbrev value : Room → ℕ → Check ℕ
   value = valueFor true J rule σ
 
@@ -58,15 +73,16 @@ module _ (J : List ℕ) (rule : ℕ) (σ : List Binding) where
   -- after i of them, whose numbers are xs
   pub record Turn (e : ℕ) (xs K₀ E₀ P₀ I₀ : List ℕ) (f₀ : Fill) (m₀ v₀ K₁ E₁ P₁ I₁ : List ℕ) (f₁ : Fill) (m vals : List ℕ) (i : ℕ) : Type 0 where
     pub run : Run value (λ room. pure) xs K₀ E₀ P₀ I₀ f₀ K₁ E₁ P₁ I₁ f₁ vals i (values (roomOf K₀ P₀) (argumentsFor J e) (termsIn K₀ E₀ P₀ f₀))
-    pub past : Past m
+    pub memo : Memo (argumentsFor J) (eval (roomOf K₁ P₁)) (sizesOf J .expressions) (termsIn K₁ E₁ P₁ f₁) m
     pub lenM : length m ≡ length m₀
     pub lenV : length vals ≡ length v₀
 
-  pub arguments-start : {e : ℕ} {xs K₀ E₀ P₀ I₀ : List ℕ} {f₀ : Fill} {m v : List ℕ} → xs ≡ argumentsFor J e → Indexed K₀ E₀ P₀ I₀ f₀ → Past m → Turn e xs K₀ E₀ P₀ I₀ f₀ m v K₀ E₀ P₀ I₀ f₀ m v 0
-  arguments-start {e} {xs} {K₀} {E₀} {P₀} {I₀} {f₀} q S p = record {
+  pub arguments-start : {e : ℕ} {xs K₀ E₀ P₀ I₀ : List ℕ} {f₀ : Fill} {m v : List ℕ} → xs ≡ argumentsFor J e → Indexed K₀ E₀ P₀ I₀ f₀ → sizesOf J .expressions + sizesOf J .expressions < length m → Started m
+      → Turn e xs K₀ E₀ P₀ I₀ f₀ m v K₀ E₀ P₀ I₀ f₀ m v 0
+  arguments-start {e} {xs} {K₀} {E₀} {P₀} {I₀} {f₀} q S l p = record {
     run = run-start S (then-pure (each (value (roomOf K₀ P₀)) xs (termsIn K₀ E₀ P₀ f₀)) ∙ values-each (roomOf K₀ P₀) xs (termsIn K₀ E₀ P₀ f₀)
         ∙ ap (λ (ys : List ℕ). values (roomOf K₀ P₀) ys (termsIn K₀ E₀ P₀ f₀)) q);
-    past = p;
+    memo = root-memo l p;
     lenM = refl;
     lenV = refl;
   }
@@ -75,15 +91,15 @@ module _ (J : List ℕ) (rule : ℕ) (σ : List Binding) where
     abbrev whole : Outcome (List ℕ)
     whole = values (roomOf K₀ P₀) (argumentsFor J e) (termsIn K₀ E₀ P₀ f₀)
 
-    module _ {args : ℕ → List ℕ} {n : ℕ} {K₂ E₂ P₂ I₂ : List ℕ} {c : Checked} {m₂ : List ℕ} (h : i < length xs)
-        (d : EvaluatesRoot args value n (getD xs i 0) K₁ E₁ P₁ I₁ f₁ K₂ E₂ P₂ I₂ c m₂) where
+    module _ {K₂ E₂ P₂ I₂ : List ℕ} {c : Checked} {m₂ : List ℕ} (h : i < length xs)
+        (d : Evaluates (argumentsFor J) eval (sizesOf J .expressions) (getD xs i 0) K₁ E₁ P₁ I₁ f₁ m K₂ E₂ P₂ I₂ c m₂) where
       pub arguments-stop : (ts : List ℕ) → (c .refusal .number ≡ 0 → ⊥) → Checks K₀ E₀ P₀ I₀ f₀ K₂ E₂ P₂ I₂ (c .fill) (c .refusal) ts m₂ whole
-      arguments-stop ts q = record { does = run-stop (T .run) h (d .does) ts q; past = λ p. absurd (q p) }
+      arguments-stop ts q = record { does = run-stop (T .run) h (checks-eval d .does) ts q; past = λ p. absurd (q p) }
 
       pub arguments-turn : i < length vals → length m₂ ≡ length m → c .refusal .number ≡ 0 → Turn e xs K₀ E₀ P₀ I₀ f₀ m₀ v₀ K₂ E₂ P₂ I₂ (c .fill) m₂ (set vals i (c .value)) (i + 1)
       arguments-turn l k q = record {
-        run = run-turn (T .run) h (d .does) l q;
-        past = d .past q;
+        run = run-turn (T .run) h (checks-eval d .does) l q;
+        memo = round-on d q;
         lenM = k ∙ T .lenM;
         lenV = length-set vals i (c .value) ∙ T .lenV;
       }
@@ -93,7 +109,7 @@ module _ (J : List ℕ) (rule : ℕ) (σ : List Binding) where
     arguments-done q h g =
         subst (λ (x : Checked). Checks K₀ E₀ P₀ I₀ f₀ K₁ E₁ P₁ I₁ (x .fill) (x .refusal) (take (length (argumentsFor J e)) vals) m whole) (sym g)
         (subst (λ (ys : List ℕ). Checks K₀ E₀ P₀ I₀ f₀ K₁ E₁ P₁ I₁ f₁ passed (take (length ys) vals) m whole) q
-        (checks-does (T .past) (run-done (T .run) h (does-here (T .run .grown .indexed) refl))))
+        (checks-does (T .memo .past) (run-done (T .run) h (does-here (T .run .grown .indexed) refl))))
 
 -- a function fact, by the function and the variable that were found
 module _ {u : Looked} {o : Option ℕ} (p : Option ℕ) (first : optionOf u ≡ o) where

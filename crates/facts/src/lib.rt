@@ -66,7 +66,7 @@ fn custom_of(job: &[u32], e: u32) -> Looked
     }
 }
 
-// The values of the arguments of expression e in an ordinary fact, written into `values`.
+// The values of the arguments of expression e in an ordinary fact, written into `values`. They share one round: what two of them have in common is evaluated once.
 fn evaluate_arguments(
     job: &[u32],
     found: &[u32],
@@ -94,10 +94,11 @@ fn evaluate_arguments(
 {
     let args = arguments_at(job, wide(e));
     let count = args.len();
+    memo::new_round(memo);
     let mut have = fill;
     let mut i = 0;
     while i < count {
-        let r = evaluate(
+        let r = evaluate::eval(
             job,
             found,
             bound,
@@ -201,7 +202,7 @@ fn wanted_call(
     asks(t, t.value, t.value)
 }
 
-// What an equality asks for that is no function fact: the values of its sides.
+// What an equality asks for that is no function fact: the values of its sides, which share one round.
 fn wanted_values(
     job: &[u32],
     found: &[u32],
@@ -227,7 +228,8 @@ fn wanted_values(
     requires { ⌜ right < sizesOf (now job) .expressions ⌝ }
     ensures { λ r. ⌜ Checks (now (skinds .entry)) (now (sends .entry)) (now (spool .entry)) (now (index .entry)) fill (now (skinds .exit)) (now (sends .exit)) (now (spool .exit)) (now (index .exit)) (r .fill) (r .refusal) (propositionOf (r .pair)) (now (memo .exit)) (model.wantedEquality (roomOf (now (skinds .entry)) (now (spool .entry))) (programFor (now (job .entry))) rule (bindingsIn (now (bound .entry)) (now (pairs .entry)) (now (globals .entry))) (exprFor (now (job .entry)) left) (exprFor (now (job .entry)) right) none (termsIn (now (skinds .entry)) (now (sends .entry)) (now (spool .entry)) fill)) ⌝ }
 {
-    let a = evaluate(
+    memo::new_round(memo);
+    let a = evaluate::eval(
         job,
         found,
         bound,
@@ -246,7 +248,7 @@ fn wanted_values(
     if a.refusal.number != 0 {
         return asks(a, 0, 0);
     }
-    let b = evaluate(
+    let b = evaluate::eval(
         job,
         found,
         bound,

@@ -1,3 +1,4 @@
+use mathlib.Core.Bool.{true≢false}
 use mathlib.Core.Path.{sym}
 use Rattle.context.proofs.Starting.{bound-is, standing-as, turn-stops, turn-goes}
 use borrow.Author.Needs.{needs}
@@ -20,7 +21,7 @@ part-process-action-end : tie.Need-part-process-action-end
 part-process-action-end c = search needs
 
 process-action-requires : tie.Need-process-action-requires
-process-action-requires c κs = let a = c .before .before .before .before .before .before .before .before .before .before .before .before .before .before .before .before .before .before .before .args in (standing-as (sym (bound-is (a .table .now) (a .at))) (c .before .before .before .before .before .before .before .before .before .before .before .before .before .before .before .before .before .before .before .pre .0), c .before .before .before .before .before .before .before .before .before .before .before .before .before .before .before .before .before .before .before .pre .1 .0)
+process-action-requires c κs = let a = c .before .before .before .before .before .before .before .before .before .before .before .before .before .before .before .before .before .before .before .args in (standing-as (sym (bound-is (a .table .now) (a .at))) (c .before .before .before .before .before .before .before .before .before .before .before .before .before .before .before .before .before .before .before .pre .0), (λ u. absurd (true≢false (sym u)), c .before .before .before .before .before .before .before .before .before .before .before .before .before .before .before .before .before .before .before .pre .1 .0))
 
 same-length : tie.Need-same-length
 same-length c = search needs
@@ -44,7 +45,7 @@ same-length-7 : tie.Need-same-length-7
 same-length-7 c = search needs
 
 returns : tie.Need-returns
-returns c = let a = c .before .before .before .before .before .before .before .before .before .before .before .before .before .before .before .before .before .before .before .before .before .before .before .before .before .before .before .before .before .before .before .before .before .before .before .before .args in turn-stops (c .before .before .before .before .before .before .before .before .before .before .before .before .before .before .before .before .process-action .ensures) (a .table .now) (a .at) (a .unions .now) (a .n) (bound-is (a .table .now) (a .at)) (c .before .before .before .before .before .before .before .before .before .before .before .before .before .before .before .before .before .before .before .before .before .before .before .before .before .before .before .before .before .before .before .before .before .before .before .before .pre .1 .1 .1 .1 .1) (search needs)
+returns c = let a = c .before .before .before .before .before .before .before .before .before .before .before .before .before .before .before .before .before .before .before .before .before .before .before .before .before .before .before .before .before .before .before .before .before .before .before .before .args in turn-stops (c .before .before .before .before .before .before .before .before .before .before .before .before .before .before .before .before .process-action .ensures .0) (a .table .now) (a .at) (a .unions .now) (a .n) (bound-is (a .table .now) (a .at)) (c .before .before .before .before .before .before .before .before .before .before .before .before .before .before .before .before .before .before .before .before .before .before .before .before .before .before .before .before .before .before .before .before .before .before .before .before .pre .1 .1 .1 .1 .1) (search needs)
 
 push-binding-requires : tie.Need-push-binding-requires
 push-binding-requires c κs = (c .before .before .before .before .before .before .before .before .before .before .before .before .before .before .before .before .before .before .before .before .before .before .before .before .before .before .before .before .before .before .before .before .before .before .before .before .before .pre .1 .1 .0, c .before .before .before .before .before .before .before .before .before .before .before .before .before .before .before .before .before .before .before .before .before .before .before .before .before .before .before .before .before .before .before .before .before .before .before .before .before .pre .1 .1 .1 .0)
@@ -77,7 +78,7 @@ same-length-15 : tie.Need-same-length-15
 same-length-15 c = search needs
 
 returns-2 : tie.Need-returns-2
-returns-2 c = let a = c .before .before .before .before .before .before .before .before .before .before .before .before .before .before .before .before .before .before .before .before .before .before .before .before .before .before .before .before .before .before .before .before .before .before .before .before .before .before .before .before .before .before .before .before .args in turn-goes (c .before .before .before .before .before .before .before .before .before .before .before .before .before .before .before .before .before .before .before .before .before .before .before .before .process-action .ensures) (a .table .now) (a .at) (a .unions .now) (a .n) (bound-is (a .table .now) (a .at)) (c .before .before .before .before .before .before .push-binding .ensures) (c .before .before .push-union .ensures)
+returns-2 c = let a = c .before .before .before .before .before .before .before .before .before .before .before .before .before .before .before .before .before .before .before .before .before .before .before .before .before .before .before .before .before .before .before .before .before .before .before .before .before .before .before .before .before .before .before .before .args in turn-goes (c .before .before .before .before .before .before .before .before .before .before .before .before .before .before .before .before .before .before .before .before .before .before .before .before .process-action .ensures .0) (a .table .now) (a .at) (a .unions .now) (a .n) (bound-is (a .table .now) (a .at)) (c .before .before .before .before .before .before .push-binding .ensures) (c .before .before .push-union .ensures)
 
 pub global-action-spec : {M : Type 1} → statement M
 global-action-spec =
