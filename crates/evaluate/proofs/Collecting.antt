@@ -7,6 +7,7 @@ use native.Mathlib.Omega.{arith}
 use lib.ListN.{length, getD, set, take, drop, drop-of-length-le}
 use lib.Seq.{drop-cons, take-suc-set}
 use Rattle.model.specs.Term.{Term}
+use Rattle.model.specs.Check as model
 use Rattle.model.specs.Check.{Outcome, ok, refused, Check, andThen, _>>=_, pure, Room}
 use Rattle.index.specs.declared.Fill.{Fill}
 use Rattle.termdag.specs.Store.{termsIn, Indexed, roomOf}
@@ -52,10 +53,10 @@ module _ {B : Type 0} where
       unfolding each
       rest-by q = ap (λ (o : Outcome ℕ). andThen (andThen o (λ t. each eval xs >>= λ ts. pure (t ∷ ts))) (λ ts. k (vs ++ ts))) q
 
-      rest-value : (t : ℕ) (s′ : List Term) → eval x s ≡ ok t s′ → rest eval k vs (x ∷ xs) s ≡ rest eval k (vs ++ (t ∷ [])) xs s′
+      pub rest-value : (t : ℕ) (s′ : List Term) → eval x s ≡ ok t s′ → rest eval k vs (x ∷ xs) s ≡ rest eval k (vs ++ (t ∷ [])) xs s′
       rest-value t s′ q = rest-by q ∙ collect (each eval xs s′) t _ _ (λ ts u. ap (λ (l : List ℕ). k l u) (sym (append-assoc vs (t ∷ []) ts)))
 
-      rest-refused : (r : Refusal) (s′ : List Term) → eval x s ≡ refused (refusalOf r) s′ → rest eval k vs (x ∷ xs) s ≡ refused (refusalOf r) s′
+      pub rest-refused : (r : model.Refusal) (s′ : List Term) → eval x s ≡ refused r s′ → rest eval k vs (x ∷ xs) s ≡ refused r s′
       rest-refused r s′ q = rest-by q
 
   -- after the first i of xs, whose values are in vals; the whole gives o
@@ -92,7 +93,7 @@ module _ {B : Type 0} where
 
       pub run-stop : (b : B) → (r .number ≡ 0 → ⊥) → Does K₀ E₀ P₀ I₀ f₀ K′ E′ P′ I′ f′ r b o
       run-stop b z = record {
-        outcome = refused-of r b s′ z ∙ sym (rest-refused (eval room) (k room) (take i vals) (getD xs i 0) (drop (suc i) xs) s r s′ (sym next ∙ refused-of r a s′ z)) ∙ left-next;
+        outcome = refused-of r b s′ z ∙ sym (rest-refused (eval room) (k room) (take i vals) (getD xs i 0) (drop (suc i) xs) s (refusalOf r) s′ (sym next ∙ refused-of r a s′ z)) ∙ left-next;
         grown = grown-then (R .grown) (d .grown);
       }
 

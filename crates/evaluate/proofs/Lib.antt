@@ -4,3 +4,4 @@ pub mod HeadValues
 pub mod Settling
 pub mod Turns
 pub mod Keeping
+pub mod Waiting

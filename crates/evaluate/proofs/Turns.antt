@@ -72,12 +72,12 @@ module _ (fact : Bool) (prog : Program) (rule : ℕ) (σ : List Binding) (n : �
   unfolding evalTerms
   terms-each room xs s = each-is (eval room) (λ ys. evalTerms fact room prog rule σ (argumentsBy expr ys)) (λ u. refl) (λ y ys u. refl) xs s
 
-  rest-all : (room : Room) (e : ℕ) (s : List Term) → expr e ≡ node e (head e) (argumentsBy expr (args e)) → rest (eval room) (value e room) [] (args e) s ≡ eval room e s
+  pub rest-all : (room : Room) (e : ℕ) (s : List Term) → expr e ≡ node e (head e) (argumentsBy expr (args e)) → rest (eval room) (value e room) [] (args e) s ≡ eval room e s
   unfolding evalTerm
   rest-all room e s q = ap (λ (o : Outcome (List ℕ)). andThen o (value e room)) (terms-each room (args e) s) ∙ ap (λ (x : Expr). evalTerm fact room prog rule σ x s) (sym q)
 
   -- a memo in a room of the same size, and in a larger store
-  memo-room : {a b : Room} {s : List Term} {m : List ℕ} → a ≡ b → Memo args (eval a) n s m → Memo args (eval b) n s m
+  pub memo-room : {a b : Room} {s : List Term} {m : List ℕ} → a ≡ b → Memo args (eval a) n s m → Memo args (eval b) n s m
   memo-room {s = s} {m = m} q M = subst (λ (x : Room). Memo args (eval x) n s m) q M
 
   -- after i arguments of e, whose numbers are xs
@@ -118,18 +118,11 @@ module _ (fact : Bool) (prog : Program) (rule : ℕ) (σ : List Binding) (n : �
     same-room : roomOf K P ≡ room
     same-room = room-same (T .run .grown)
 
-    -- what the evaluator asks of its next call
+    -- what is asked of the next argument
     pub next-memo : Memo args (eval (roomOf K P)) n (termsIn K E P f) m
     next-memo = memo-room (sym same-room) (T .memo)
 
     module _ {K′ E′ P′ I′ : List ℕ} {c : Checked} {m′ : List ℕ} (h : i < length xs) (d : Evaluates args eval n (getD xs i 0) K E P I f m K′ E′ P′ I′ c m′) where
-      pub stops : (c .refusal .number ≡ 0 → ⊥) → Evaluates args eval n e K₀ E₀ P₀ I₀ f₀ m₀ K′ E′ P′ I′ c m′
-      stops z = record {
-        does = run-stop (T .run) h (d .does) (c .value) z;
-        memo = λ q. absurd (z q);
-        noted = λ q. absurd (z q);
-      }
-
       pub turns : xs ≡ args e → length xs ≤ 16 → ((j : ℕ) → j < length xs → getD xs j 0 < n) → length m′ ≡ length m → c .refusal .number ≡ 0
           → Turn e xs K₀ E₀ P₀ I₀ f₀ m₀ K′ E′ P′ I′ (c .fill) m′ (set vals i (c .value)) (i + 1)
       turns q few low l z = record {
@@ -236,7 +229,7 @@ module _ (fact : Bool) (prog : Program) (rule : ℕ) (σ : List Binding) (n : �
       (head-does fact (roomOf K P) prog rule σ _ (termsIn K E P f) (view.Head.Var x) (view.Head.Var x) refl
       (variable-does S (given-some (record { refusal = passed; value = t; fill = f }) t 45 (rule ∷ x ∷ []) f refl (ap (λ (v : ℕ). some v) (sym y) ∙ q)))))
       (g ∙ ap (noteAt m e) y)
-  knows h d a S M (unknown p g) z = let y : _≡_ {A = ℕ} 0 1 = cc in absurd (omega arith)
+  knows h d a S M (unknown u p g) z = let y : _≡_ {A = ℕ} 0 1 = cc in absurd (omega arith)
 
   -- the next argument: its value is known, or nothing changed
   module _ {e : ℕ} {xs K₀ E₀ P₀ I₀ : List ℕ} {f₀ : Fill} {m₀ K E P I : List ℕ} {f : Fill} {m vals : List ℕ} {i : ℕ} (T : Turn e xs K₀ E₀ P₀ I₀ f₀ m₀ K E P I f m vals i)
@@ -244,14 +237,6 @@ module _ (fact : Bool) (prog : Program) (rule : ℕ) (σ : List Binding) (n : �
     pub turn-known : {t : ℕ} → i < length xs → xs ≡ args e → length xs ≤ 16 → ((j : ℕ) → j < length xs → getD xs j 0 < n) → ((a : ℕ) → expr a ≡ node a (head a) (argumentsBy expr (args a)))
         → ((a x : ℕ) → variable x ≡ head a → args a ≡ []) → length m′ ≡ length m → r ≡ Looked.Some t → Turn e xs K₀ E₀ P₀ I₀ f₀ m₀ K E P I f m′ (set vals i t) (i + 1)
     turn-known h q few low d a l z = turns T h (knows (low i h) (d (getD xs i 0)) (a (getD xs i 0)) (T .run .grown .indexed) (next-memo T) w z) q few low l refl
-
-    pub turn-unknown : r ≡ Looked.None → Turn e xs K₀ E₀ P₀ I₀ f₀ m₀ K E P I f m′ vals i
-    turn-unknown z = go w
-      where
-        go : Knows head σ (getD xs i 0) m r m′ → Turn e xs K₀ E₀ P₀ I₀ f₀ m₀ K E P I f m′ vals i
-        go (noted p q g) = let y : _≡_ {A = ℕ} 0 1 = cc in absurd (omega arith)
-        go (bound x u p q b g) = let y : _≡_ {A = ℕ} 0 1 = cc in absurd (omega arith)
-        go (unknown p g) = subst⁻¹ (λ (l : List ℕ). Turn e xs K₀ E₀ P₀ I₀ f₀ m₀ K E P I f l vals i) g T
 
 -- an expression of an admitted job is its head over its arguments
 pub node-for : {J : List ℕ} → Ready J → (e : ℕ) → exprFor J e ≡ node e (headFor J e) (argumentsBy (exprFor J) (argumentsFor J e))

@@ -4,8 +4,8 @@ use mathlib.Core.Path.{_≡_}
 use mathlib.Core.Logic.{_⊎_}
 use mathlib.Core.List.{List, List·Memᴰ}
 use mathlib.Core.Option.{some}
-use mathlib.Core.Bool.{true}
-use lib.ListN.{length}
+use mathlib.Core.Bool.{true, false}
+use lib.ListN.{length, getD, set}
 use Rattle.model.specs.Term.{Term, Ordered}
 use Rattle.model.specs.Program.{Head, variable, Binding, Row, Program}
 use Rattle.model.specs.Check.{Outcome, ok, Check, Room}
@@ -36,7 +36,13 @@ pub record Memo (args : ℕ → List ℕ) (eval : ℕ → Check ℕ) (n : ℕ) (
 pub data Knows (head : ℕ → Head) (σ : List Binding) (e : ℕ) (m : List ℕ) (r : Looked) (m′ : List ℕ) : Type 0 where
   noted : isNoted m e ≡ true → r ≡ Looked.Some (valueAt m e) → m′ ≡ m → Knows head σ e m r m′
   bound : (x t : ℕ) → variable x ≡ head e → some t ≡ lookup σ x → r ≡ Looked.Some t → m′ ≡ noteAt m e t → Knows head σ e m r m′
-  unknown : r ≡ Looked.None → m′ ≡ m → Knows head σ e m r m′
+  unknown : isNoted m e ≡ false → r ≡ Looked.None → m′ ≡ m → Knows head σ e m r m′
+
+-- The values of the first i of xs, put into vals, need no evaluation.
+pub data KnowsFirst (head : ℕ → Head) (σ : List Binding) (xs m₀ vals₀ : List ℕ) : ℕ → List ℕ → List ℕ → Type 0 where
+  none : KnowsFirst head σ xs m₀ vals₀ 0 m₀ vals₀
+  more : {i t : ℕ} {m m′ vals : List ℕ} → KnowsFirst head σ xs m₀ vals₀ i m vals → i < length xs → Knows head σ (getD xs i 0) m (Looked.Some t) m′
+      → KnowsFirst head σ xs m₀ vals₀ (i + 1) m′ (set vals i t)
 
 -- What is noted after the evaluation of e: what was, and e with all below it.
 pub record Noted (args : ℕ → List ℕ) (n e : ℕ) (m m′ : List ℕ) : Type 0 where

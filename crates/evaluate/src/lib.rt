@@ -18,9 +18,9 @@ use program::read::arguments_at;
 use program::read::head_at;
 ghost use mathlib.Core.Path.{_≡_};
 ghost use mathlib.Core.List.{List, [], _∷_};
-ghost use mathlib.Core.Bool.{cond};
+ghost use mathlib.Core.Bool.{cond, false};
 ghost use Prim.Native.Nat.{ℕ, _+_, _≤_, _<_};
-ghost use lib.ListN.{length};
+ghost use lib.ListN.{length, getD};
 ghost use Rattle.model.specs.Layout.{sizesOf};
 ghost use Rattle.model.specs.Term.{Term};
 ghost use Rattle.model.specs.Check.{orRefuse};
@@ -30,11 +30,11 @@ ghost use Rattle.program.specs.Ready.{Ready, programFor, optionOf};
 ghost use Rattle.lookups.specs.Keyed.{Keyed};
 ghost use Rattle.decode.specs.View.{headOf};
 ghost use Rattle.decode.specs.declared.Head as heads;
-ghost use Rattle.memo.specs.Memo.{Past};
+ghost use Rattle.memo.specs.Memo.{isNoted, Past};
 ghost use Rattle.outcome.specs.Does.{outcomeOf, Does};
 ghost use Rattle.program.specs.Read.{headFor, argumentsFor};
 ghost use Rattle.evaluate.specs.Value.{customTerm, headTerm, bindingsIn, evalFor, valueFor};
-ghost use Rattle.evaluate.specs.Evaluation.{Memo, Knows, Evaluates, EvaluatesRoot};
+ghost use Rattle.evaluate.specs.Evaluation.{Memo, Knows, KnowsFirst, Evaluates, EvaluatesRoot};
 
 // The term bound to a name: by conditions and lets, by the substitution, by the globals.
 pub fn lookup(bound: &[u32], pairs: &[u32], globals: &[u32], name: u32) -> Looked
@@ -206,7 +206,37 @@ fn known_value(
     }
 }
 
-// The value of expression e, noted. One that is noted is not evaluated again; the term that it was in an earlier round is looked at first.
+// The values of a call's arguments, from the first on, as far as they need no evaluation; how many they are.
+fn known_values(
+    job: &[u32],
+    bound: &[u32],
+    pairs: &[u32],
+    globals: &[u32],
+    memo: &mut [u32],
+    args: &[u32],
+    vals: &mut [u32; 16],
+) -> usize
+    requires { ⌜ Ready (now job) ⌝ }
+    requires { ⌜ sizesOf (now job) .expressions + sizesOf (now job) .expressions < length (now memo) ⌝ }
+    requires { ⌜ length (now args) ≤ 16 ⌝ }
+    requires { ⌜ ((j : ℕ) → j < length (now args) → getD (now args) j 0 < sizesOf (now job) .expressions) ⌝ }
+    ensures known { λ r. ⌜ KnowsFirst (headFor (now (job .entry))) (bindingsIn (now (bound .entry)) (now (pairs .entry)) (now (globals .entry))) (now (args .entry)) (now (memo .entry)) (now (vals .entry)) r (now (memo .exit)) (now (vals .exit)) ⌝ }
+    ensures next { λ r. ⌜ (r < length (now (args .entry)) → isNoted (now (memo .exit)) (getD (now (args .entry)) r 0) ≡ false) ⌝ }
+{
+    let mut i = 0;
+    while i < args.len() {
+        let known = known_value(job, bound, pairs, globals, memo, args[i]);
+        let Looked::Some(t) = known else {
+            return i;
+        };
+        vals[i] = t;
+        i += 1;
+    }
+    i
+}
+
+// The value of expression e, noted. One that is noted is not evaluated again. An expression that waits for the value of an argument is that argument's value in the memo
+// until it has one, so that the way back needs no stack.
 pub fn eval(
     job: &[u32],
     found: &[u32],
@@ -230,23 +260,25 @@ pub fn eval(
     requires { ⌜ Memo (argumentsFor (now job)) (evalFor fact (now job) rule (bindingsIn (now bound) (now pairs) (now globals)) (roomOf (now skinds) (now spool))) (sizesOf (now job) .expressions) (termsIn (now skinds) (now sends) (now spool) fill) (now memo) ⌝ }
     ensures { λ r. ⌜ Evaluates (argumentsFor (now (job .entry))) (evalFor fact (now (job .entry)) rule (bindingsIn (now (bound .entry)) (now (pairs .entry)) (now (globals .entry)))) (sizesOf (now (job .entry)) .expressions) e (now (skinds .entry)) (now (sends .entry)) (now (spool .entry)) (now (index .entry)) fill (now (memo .entry)) (now (skinds .exit)) (now (sends .exit)) (now (spool .exit)) (now (index .exit)) r (now (memo .exit)) ⌝ }
 {
-    let at = wide(e);
-    if memo::is_noted(memo, at) {
-        return pass(memo::value_of(memo, at), fill);
+    let root = wide(e);
+    if memo::is_noted(memo, root) {
+        return pass(memo::value_of(memo, root), fill);
     }
-    let args = arguments_at(job, at);
-    let count = args.len();
     let mut vals = [0u32; 16];
     let mut have = fill;
-    let mut i = 0;
-    while i < count {
-        let known = known_value(job, bound, pairs, globals, memo, args[i]);
-        if let Looked::Some(t) = known {
-            vals[i] = t;
-            i += 1;
+    let mut at = e;
+    loop {
+        let i = wide(at);
+        let args = arguments_at(job, i);
+        let count = known_values(job, bound, pairs, globals, memo, args, &mut vals);
+        if count < args.len() {
+            let below = args[count];
+            memo::put_value(memo, wide(below), at);
+            at = below;
             continue;
         }
-        let r = eval(
+        let head = head_at(job, i);
+        let r = head_value(
             job,
             found,
             bound,
@@ -259,35 +291,20 @@ pub fn eval(
             spool,
             index,
             have,
-            memo,
-            args[i],
+            head,
+            &vals[..count],
         );
         if r.refusal.number != 0 {
             return r;
         }
-        vals[i] = r.value;
+        let above = memo::value_of(memo, i);
+        memo::note(memo, i, r.value);
+        if at == e {
+            return r;
+        }
         have = r.fill;
-        i += 1;
+        at = above;
     }
-    let head = head_at(job, at);
-    let r = head_value(
-        job,
-        found,
-        bound,
-        pairs,
-        globals,
-        rule,
-        fact,
-        skinds,
-        sends,
-        spool,
-        index,
-        have,
-        head,
-        &vals[..count],
-    );
-    memo::note(memo, at, r.value);
-    r
 }
 
 // The value of expression e: in an ordinary fact, or elsewhere.

@@ -8,7 +8,7 @@ use lib.Dec.{eqb}
 use borrow.Author.Tests.{eqb-true, eqb-false, eq-eqb, ne-eqb}
 use lib.ListN.{length, getD, set, replicate, length-set, length-replicate}
 use lib.Seq.{getD-set-same, getD-set-other}
-use Rattle.memo.specs.Memo.{roundOf, stampAt, valueAt, isNoted, noteAt, Past, Started}
+use Rattle.memo.specs.Memo.{roundOf, stampAt, valueAt, isNoted, putValue, noteAt, Past, Started}
 
 -- a note of the value t of expression e
 module _ (m : List ℕ) (e t : ℕ) where
@@ -62,6 +62,29 @@ module _ (m : List ℕ) (e t : ℕ) where
             let z = note-stamp-other k (eqb-false k e q) in
             let y = note-round in
             let x = p .each k in omega arith
+
+-- another word as the value of expression e
+module _ (m : List ℕ) (e t : ℕ) where
+  pub put-length : length (putValue m e t) ≡ length m
+  put-length = length-set m (e + e + 2) t
+
+  put-round : roundOf (putValue m e t) ≡ roundOf m
+  put-round = getD-set-other m (e + e + 2) 0 t 0 (λ q. omega arith)
+
+  put-stamp : (k : ℕ) → stampAt (putValue m e t) k ≡ stampAt m k
+  put-stamp k = getD-set-other m (e + e + 2) (k + k + 1) t 0 (λ q. omega arith)
+
+  pub put-noted : (k : ℕ) → isNoted (putValue m e t) k ≡ isNoted m k
+  put-noted k = λ i. eqb (put-stamp k i) (put-round i)
+
+  pub put-value : e + e + 2 < length m → valueAt (putValue m e t) e ≡ t
+  put-value h = getD-set-same m (e + e + 2) t 0 h
+
+  pub put-value-other : (k : ℕ) → (k ≡ e → ⊥) → valueAt (putValue m e t) k ≡ valueAt m k
+  put-value-other k h = getD-set-other m (e + e + 2) (k + k + 2) t 0 (λ q. h (omega arith))
+
+  pub put-past : Past m → Past (putValue m e t)
+  put-past p = record { each = λ k. let a = put-stamp k in let b = put-round in let c = p .each k in omega arith }
 
 -- rounds
 replicate-word : (n i : ℕ) → getD {A = ℕ} (replicate n 0) i 0 ≡ 0

@@ -22,6 +22,10 @@ valueAt m k = getD m (k + k + 2) 0
 abbrev pub isNoted : List ℕ → ℕ → Bool
 isNoted m k = eqb (stampAt m k) (roundOf m)
 
+-- The memo with another word as the value of expression k.
+abbrev pub putValue : List ℕ → ℕ → ℕ → List ℕ
+putValue m k t = set m (k + k + 2) t
+
 -- The memo with the value t of expression k.
 unfoldable pub noteAt : List ℕ → ℕ → ℕ → List ℕ
 noteAt m k t = set (set m (k + k + 1) (roundOf m)) (k + k + 2) t

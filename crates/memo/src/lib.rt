@@ -1,9 +1,9 @@
 // The memo of an evaluation: the value of each expression that was evaluated in this round. Word 0 is the round; two words for each expression are the round
-// in which it was evaluated last, and its value.
+// in which it was evaluated last, and its value; while it is evaluated, the value is the expression that waits for it.
 ghost use mathlib.Core.Path.{_≡_};
 ghost use Prim.Native.Nat.{_+_, _<_};
 ghost use lib.ListN.{length, set, replicate};
-ghost use Rattle.memo.specs.Memo.{valueAt, isNoted, noteAt, Past, Started};
+ghost use Rattle.memo.specs.Memo.{valueAt, isNoted, putValue, noteAt, Past, Started};
 
 // Expression e was evaluated in this round.
 pub fn is_noted(memo: &[u32], e: usize) -> bool
@@ -27,6 +27,14 @@ pub fn note(memo: &mut [u32], e: usize, t: u32)
     ensures { λ r. ⌜ now (memo .exit) ≡ noteAt (now (memo .entry)) e t ⌝ }
 {
     memo[e + e + 1] = memo[0];
+    memo[e + e + 2] = t;
+}
+
+// Sets the value of expression e, whether it is noted or not.
+pub fn put_value(memo: &mut [u32], e: usize, t: u32)
+    requires { ⌜ e + e + 2 < length (now memo) ⌝ }
+    ensures { λ r. ⌜ now (memo .exit) ≡ putValue (now (memo .entry)) e t ⌝ }
+{
     memo[e + e + 2] = t;
 }
 

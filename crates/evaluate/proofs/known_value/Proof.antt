@@ -44,7 +44,7 @@ same-length-2 c = search needs
 
 -- src/lib.rt:193:9
 returns-2 : tie.Need-returns-2
-returns-2 c = unknown refl refl
+returns-2 c = unknown (ap (isNoted (c .before .before .before .before .before .before .before .before .before .before .before .args .memo .now)) (sym (c .before .before .before .before .before .wide .ensures)) ∙ sym (c .before .before .before .is-noted .ensures) ∙ c .before .before .if1 .left) refl refl
 
 -- src/lib.rt:195:11
 lookup-requires : tie.Need-lookup-requires
@@ -76,7 +76,7 @@ same-length-4 c = search needs
 
 -- src/lib.rt:174:1
 returns-4 : tie.Need-returns-4
-returns-4 c = unknown refl refl
+returns-4 c = unknown (ap (isNoted (c .before .before .before .before .before .before .before .before .before .before .before .before .before .before .before .before .args .memo .now)) (sym (c .before .before .before .before .before .before .before .before .before .before .wide .ensures)) ∙ sym (c .before .before .before .before .before .before .before .before .is-noted .ensures) ∙ c .before .before .before .before .before .before .before .if1 .left) refl refl
 
 pub known-value-spec : {M : Type 1} → statement M
 known-value-spec =
