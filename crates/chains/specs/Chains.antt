@@ -9,7 +9,7 @@ use lib.ListN.{length, getD, set, drop}
 use Rattle.model.specs.Cell.{noCell, sameWords, cellsOf}
 use Rattle.cells.specs.declared.Fill.{Fill}
 use Rattle.cells.specs.declared.Found.{Found}
-use Rattle.index.specs.Mixing.{stirred, slotOf}
+use Rattle.index.specs.Mixing.{golden, stirred, slotOf}
 
 -- A key is a cell's first word and, of a row, its arguments.
 abbrev pub keyArguments : Bool → List ℕ → List ℕ
@@ -21,7 +21,7 @@ hasKey rows ws h us = eqb (getD ws 0 0) h && sameWords (keyArguments rows ws) us
 
 -- The slot of a key among n, by the multiplier x.
 abbrev pub keySlot : ℕ → ℕ → ℕ → List ℕ → ℕ
-keySlot x n h us = slotOf x n (record { kind = stirred x 0 h; words = us })
+keySlot x n h us = slotOf x n (record { kind = stirred x 0 h golden; words = us })
 
 -- The words of cell i of a table whose first cell has that number.
 abbrev pub wordsFrom : List ℕ → List ℕ → List ℕ → Fill → ℕ → ℕ → List ℕ

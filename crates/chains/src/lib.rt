@@ -8,7 +8,7 @@ use cells::same_words;
 use cells::wide;
 use cells::words;
 use index::home;
-use index::stir;
+use index::stir_last;
 ghost use mathlib.Core.Path.{_≡_};
 ghost use Prim.Native.Nat.{ℕ, _+_, _≤_, _<_, _^_};
 ghost use lib.ListN.{length};
@@ -41,7 +41,7 @@ fn slot_of(x: u32, n: usize, head: u32, args: &[u32]) -> usize
     ensures is { λ r. ⌜ r ≡ keySlot x n head (now (args .entry)) ⌝ }
     ensures within { λ r. ⌜ r < n ⌝ }
 {
-    home(n, x, stir(x, 0, head), args)
+    home(n, x, stir_last(x, 0, head), args)
 }
 
 // Empties n slots: each has the number past the last.

@@ -3,7 +3,7 @@ use mathlib.Core.Path.{_≡_, refl, _∙_}
 use mathlib.Core.Logic.{⊎-elim, _⊎_, inl, inr}
 use mathlib.Core.Bool.{Bool, true, false}
 use mathlib.Core.List.{List, [], _∷_}
-use Prim.Native.Nat.{ℕ, _+_, _-_, _*_, _/_, _%_, _≤_, _<_, _^_}
+use Prim.Native.Nat.{ℕ, suc, _+_, _-_, _*_, _/_, _%_, _≤_, _<_, _^_}
 use native.Mathlib.Nat.{mod-eq-of-lt, mod-eq-sub-mod, mod-lt, mul-le-mul}
 use native.Mathlib.Numerals.{add-one}
 use native.Mathlib.Omega.{arith}
@@ -12,7 +12,7 @@ use lib.Dec.{eqb, leb}
 use lib.Seq.{drop-cons}
 use borrow.Author.Tests.{eqb-true, eqb-false, leb-true, leb-false, le-leb, lt-leb}
 use Rattle.model.specs.Cell.{Cell}
-use Rattle.index.specs.Mixing.{stirred, mixFrom, spread, mixOf, highBits, slotOf}
+use Rattle.index.specs.Mixing.{golden, stirred, mixFrom, spread, mixOf, highBits, slotOf}
 
 pub le-or-lt : (a b : ℕ) → (a ≤ b) ⊎ (b < a)
 le-or-lt a b = go (leb a b) refl
@@ -54,10 +54,14 @@ reached {n} {s} {a} h l = ⊎-elim
     (λ q. record { steps = a + n - s; few = omega arith; there = let e : s + (a + n - s) ≡ a + n = omega arith in rw e (round-high n (a + n) (omega arith) (omega arith) ∙ omega arith) })
     (le-or-lt s a)
 
--- the mix, word by word
-pub mix-more : (x h : ℕ) (ws : List ℕ) (i : ℕ) → i < length ws → mixFrom x h (drop i ws) ≡ mixFrom x (stirred x h (getD ws i 0)) (drop (i + 1) ws)
+-- the mix, two words by two
+pub mix-more : (x h : ℕ) (ws : List ℕ) (i : ℕ) → i + 1 < length ws → mixFrom x h (drop i ws) ≡ mixFrom x (stirred x h (getD ws i 0) (getD ws (i + 1) 0)) (drop (i + 2) ws)
 unfolding mixFrom
-mix-more x h ws i l = rw (drop-cons ws i 0 l, mixFrom, add-one)
+mix-more x h ws i l = let e : i + 2 ≡ suc (suc i) = omega arith in rw (drop-cons ws i 0 (omega arith), drop-cons ws (suc i) 0 (omega arith), mixFrom, add-one, e)
+
+pub mix-last : (x h : ℕ) (ws : List ℕ) (i : ℕ) → i + 1 ≡ length ws → mixFrom x h (drop i ws) ≡ stirred x h (getD ws i 0) golden
+unfolding mixFrom
+mix-last x h ws i l = let e : length ws ≤ suc i = omega arith in rw (drop-cons ws i 0 (omega arith), drop-of-length-le ws e)
 
 pub mix-end : (x h : ℕ) (ws : List ℕ) (i : ℕ) → length ws ≤ i → mixFrom x h (drop i ws) ≡ h
 unfolding mixFrom

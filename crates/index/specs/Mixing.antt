@@ -13,17 +13,19 @@ golden = 2654435761
 unfoldable pub multiplierOf : ℕ → ℕ
 multiplierOf w = (golden + (w + w) % 2 ^ 32) % 2 ^ 32
 
--- A word with its upper half added to it.
-unfoldable pub upper : ℕ → ℕ
-upper y = (y + y / 65536) % 2 ^ 32
+-- A product modulo 2 to the 32 less 5, a prime, but for the carries: what is above 2 to the 32 counts five times.
+unfoldable pub times : ℕ → ℕ → ℕ
+times a b = (a * b % 2 ^ 32 + a * b / 2 ^ 32 * 5) % 2 ^ 32
 
--- The mix h with one more word, by the multiplier x, twice: of a product alone the low bits see only the low bits of x.
-unfoldable pub stirred : ℕ → ℕ → ℕ → ℕ
-stirred x h w = upper (upper ((h + w) % 2 ^ 32 * x % 2 ^ 32) * x % 2 ^ 32)
+-- The mix h with two more words. So a mix is a polynomial in x, with a word for each power.
+unfoldable pub stirred : ℕ → ℕ → ℕ → ℕ → ℕ
+stirred x h w v = (times ((h + w) % 2 ^ 32) (times x x) + times v x) % 2 ^ 32
 
+-- A last word without another has the constant beside it, which is no term's number.
 unfoldable pub mixFrom : ℕ → ℕ → List ℕ → ℕ
 mixFrom x h [] = h
-mixFrom x h (w ∷ ws) = mixFrom x (stirred x h w) ws
+mixFrom x h (w ∷ []) = stirred x h w golden
+mixFrom x h (w ∷ v ∷ ws) = mixFrom x (stirred x h w v) ws
 
 -- The last step, so that words in a row do not stay in a row: h (2 h + 1), times the constant.
 unfoldable pub spread : ℕ → ℕ

@@ -8,7 +8,7 @@ ghost use Prim.Native.Nat.{_+_, _*_, _%_, _≤_, _<_, _^_};
 ghost use lib.ListN.{length, getD, set, replicate};
 ghost use Rattle.model.specs.Cell.{cellAt, cellsOf};
 ghost use Rattle.cells.specs.Table.{Formed, Once, addCell, tableOf};
-ghost use Rattle.index.specs.Mixing.{multiplierOf, upper, stirred, spread, mixOf, slotOf};
+ghost use Rattle.index.specs.Mixing.{golden, multiplierOf, times, stirred, spread, mixOf, slotOf};
 ghost use Rattle.index.specs.Listing.{Lists, Looked, tableFill, Ready, Kept, Enlisted, Filled};
 
 // How much of an indexed table is in use, the number of cells and of pool words, and the multiplier of its index.
@@ -63,19 +63,27 @@ pub fn multiplier(index: &[u32]) -> u32
     wrapping_add_u32(2654435761, wrapping_add_u32(w, w))
 }
 
-// The product with the multiplier, its upper half added.
-fn times(y: u32, x: u32) -> u32
-    ensures { λ r. ⌜ r ≡ upper (y * x % 2 ^ 32) ⌝ }
+// a b, modulo 2^32 - 5 but for the carries.
+fn times(a: u32, b: u32) -> u32
+    ensures { λ r. ⌜ r ≡ times a b ⌝ }
 {
-    let p = wrapping_mul32(y, x);
-    wrapping_add_u32(p, p / 65536)
+    let p = long(a) * long(b);
+    ((p % 4294967296 + p / 4294967296 * 5) % 4294967296) as u32
+}
+
+// The mix with two more words, by x and its square y.
+fn stir(x: u32, y: u32, h: u32, w: u32, v: u32) -> u32
+    requires { ⌜ y ≡ times x x ⌝ }
+    ensures { λ r. ⌜ r ≡ stirred x h w v ⌝ }
+{
+    wrapping_add_u32(times(wrapping_add_u32(h, w), y), times(v, x))
 }
 
 // The mix with one more word.
-pub fn stir(x: u32, h: u32, w: u32) -> u32
-    ensures { λ r. ⌜ r ≡ stirred x h w ⌝ }
+pub fn stir_last(x: u32, h: u32, w: u32) -> u32
+    ensures { λ r. ⌜ r ≡ stirred x h w golden ⌝ }
 {
-    times(times(wrapping_add_u32(h, w), x), x)
+    stir(x, times(x, x), h, w, 2654435761)
 }
 
 // The mix's last step.
@@ -90,11 +98,15 @@ fn spread(h: u32) -> u32
 pub fn mix(x: u32, kind: u32, ws: &[u32]) -> u32
     ensures { λ r. ⌜ r ≡ mixOf x (record { kind = kind; words = now (ws .entry) }) ⌝ }
 {
+    let y = times(x, x);
     let mut h = kind;
     let mut i = 0;
-    while i < ws.len() {
-        h = stir(x, h, ws[i]);
-        i += 1;
+    while 1 < ws.len() - i {
+        h = stir(x, y, h, ws[i], ws[i + 1]);
+        i += 2;
+    }
+    if i < ws.len() {
+        return spread(stir_last(x, h, ws[i]));
     }
     spread(h)
 }
