@@ -57,9 +57,10 @@ impl Aimed {
 /// Terms of one slot where the lent word is 0: integers, variables, applications of nothing and of a term;
 /// and a fiat.
 pub fn terms(count: u32) -> Tables {
-    let mut aimed = Aimed::at_last_slot();
+    let mut shapes = [(); 4].map(|()| Aimed::at_last_slot());
     let mut tables = Tables::default();
     for number in 0..count {
+        let aimed = &mut shapes[number as usize % 4];
         match number % 4 {
             0 => {
                 let high = aimed.expect(0, &[2, number], &[]);
@@ -96,6 +97,7 @@ pub fn last_calls(terms: usize, calls: usize, steps: usize) -> Tables {
     for _ in 1..terms - calls {
         tables.term_variable(aimed.expect(1, &[], &[]));
     }
+    let mut aimed = Aimed::at_last_slot();
     let names: Vec<u32> = (0..calls).map(|_| aimed.expect(2, &[], &[])).collect();
     for &name in &names {
         tables.term_application(name, &[]);
@@ -136,14 +138,13 @@ pub fn table_names() -> Vec<u32> {
 /// of rows of primitive 0 that have these before.
 pub fn row_ends(before: &[u32], count: usize, terms: u32) -> Vec<[u32; 2]> {
     let mix = Mix::new(0);
-    let start = mix.all_stirred(mix.all_stirred(TABLE, &[0]), before);
-    let ends = (0..terms).flat_map(|first| {
-        let stirred = mix.all_stirred(start, &[first]);
-        let aimed = move |last: &u32| mix.slot(stirred, &[*last], count) == count - 1;
-        let lasts = (0..terms).filter(aimed);
-        lasts.map(move |last| [first, last])
-    });
-    ends.take(count).collect()
+    let mut arguments = [before, &[0, 0]].concat();
+    let aimed = |ends: &[u32; 2]| {
+        arguments[before.len()..].copy_from_slice(ends);
+        mix.key_slot(0, &arguments, count) == count - 1
+    };
+    let ends = (0..terms).flat_map(|first| (0..terms).map(move |last| [first, last]));
+    ends.filter(aimed).take(count).collect()
 }
 
 /// The job with other names, so that the first term of each has this slot for a lent word; none where it

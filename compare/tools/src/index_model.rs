@@ -3,50 +3,46 @@
 
 use job::{Job, OwnedCell, Table};
 
-/// The multiplier where the lent word is 0.
+/// The multiplier where the lent word is 0, and what a last word without another has beside it.
 pub const MULTIPLIER: u32 = 2_654_435_761;
+
+/// A product is taken modulo 2^32 less this, a prime.
+const LESS: u32 = 5;
+const PRIME: u64 = (1 << 32) - LESS as u64;
 
 /// The mix that a lent word gives.
 #[derive(Clone, Copy, PartialEq, Eq, Debug)]
 pub struct Mix {
     multiplier: u32,
+    square: u32,
 }
 
 impl Mix {
     /// By the word that the index's first slot holds when it is lent.
     pub fn new(word: u32) -> Mix {
         let twice = word.wrapping_mul(2);
+        let multiplier = MULTIPLIER.wrapping_add(twice);
         Mix {
-            multiplier: MULTIPLIER.wrapping_add(twice),
+            multiplier,
+            square: times(multiplier, multiplier),
         }
     }
 
-    /// The product with the multiplier, its upper half added.
-    fn times(self, mixed: u32) -> u32 {
-        let product = mixed.wrapping_mul(self.multiplier);
-        product.wrapping_add(product >> 16)
+    fn stirred(self, mixed: u32, [first, second]: [u32; 2]) -> u32 {
+        let product = times(mixed.wrapping_add(first), self.square);
+        product.wrapping_add(times(second, self.multiplier))
     }
 
-    fn stirred(self, mixed: u32, word: u32) -> u32 {
-        self.times(self.times(mixed.wrapping_add(word)))
+    /// What is stirred to this with these two words; for about half there is nothing.
+    fn unstirred(self, mixed: u32, [first, second]: [u32; 2]) -> Option<u32> {
+        let product = mixed.wrapping_sub(times(second, self.multiplier));
+        Some(divided(product, self.square)?.wrapping_sub(first))
     }
 
-    /// What `times` takes to this; for few there is nothing.
-    fn untimed(self, mixed: u32) -> Option<u32> {
-        let (upper, lower) = (mixed / 65_537, mixed % 65_537);
-        let product = (lower < 65_536).then_some(upper << 16 | lower)?;
-        Some(product.wrapping_mul(inverse(self.multiplier)))
-    }
-
-    /// What is stirred to this, before it is multiplied; for few there is nothing.
-    fn unstirred(self, mixed: u32) -> Option<u32> {
-        self.untimed(self.untimed(mixed)?)
-    }
-
-    /// What words are stirred to, starting from a kind or from what the words before were stirred to.
+    /// What words are stirred to, starting from a kind or from what pairs of words before were stirred to.
     pub fn all_stirred(self, kind: u32, words: &[u32]) -> u32 {
-        let stir = |mixed, &word| self.stirred(mixed, word);
-        words.iter().fold(kind, stir)
+        let stir = |mixed, words| self.stirred(mixed, pair(words));
+        words.chunks(2).fold(kind, stir)
     }
 
     /// The mix of a term.
@@ -61,16 +57,46 @@ impl Mix {
         (scaled >> 32) as usize
     }
 
-    /// The word between those before and those behind with which a term has this mix; for few there is
-    /// none.
-    pub fn word_for(self, kind: u32, before: &[u32], behind: &[u32], mix: u32) -> Option<u32> {
-        let mut mixed = unspread(mix);
-        for &word in behind.iter().rev() {
-            mixed = self.unstirred(mixed)?.wrapping_sub(word);
-        }
-        let sum = self.unstirred(mixed)?;
-        Some(sum.wrapping_sub(self.all_stirred(kind, before)))
+    /// The slot of a table's key, a head and arguments.
+    pub fn key_slot(self, head: u32, arguments: &[u32], slots: usize) -> usize {
+        self.slot(self.all_stirred(0, &[head]), arguments, slots)
     }
+
+    /// The word between those before and those behind with which a term has this mix, if there is one.
+    pub fn word_for(self, kind: u32, before: &[u32], behind: &[u32], mix: u32) -> Option<u32> {
+        let (pairs, first) = before.split_at(before.len() / 2 * 2);
+        let start = self.all_stirred(kind, pairs);
+        let (second, rest) = behind.split_at(behind.len().min(1 - first.len()));
+        let unstir = |mixed, words| self.unstirred(mixed, pair(words));
+        let mixed = rest.chunks(2).rev().try_fold(unspread(mix), unstir)?;
+        match first {
+            [] => self.unstirred(mixed, pair(&[&[start], second].concat())),
+            [first, ..] => {
+                let product = mixed.wrapping_sub(self.stirred(start, [*first, 0]));
+                divided(product, self.multiplier)
+            }
+        }
+    }
+}
+
+/// Two words, or the last one and what it has beside it.
+fn pair(words: &[u32]) -> [u32; 2] {
+    [words[0], words.get(1).copied().unwrap_or(MULTIPLIER)]
+}
+
+/// The product modulo the prime, but for the carries.
+fn times(a: u32, b: u32) -> u32 {
+    let product = u64::from(a) * u64::from(b);
+    let upper = (product >> 32) as u32;
+    (product as u32).wrapping_add(upper.wrapping_mul(LESS))
+}
+
+/// A word whose product with an odd one is this, among those that it may be for so many carries.
+fn divided(product: u32, odd: u32) -> Option<u32> {
+    let inverse = inverse(u64::from(odd));
+    let sums = (0..=LESS).map(|carries| u64::from(product) + u64::from(LESS * carries));
+    let mut words = sums.map(|sum| (sum % PRIME * inverse % PRIME) as u32);
+    words.find(|&word| times(word, odd) == product)
 }
 
 /// What is done when all words are stirred in.
@@ -88,10 +114,16 @@ fn unspread(mix: u32) -> u32 {
     (0..32).fold(0, set)
 }
 
-/// The number that an odd one is multiplied with to give 1; each turn doubles the bits that are right.
-fn inverse(odd: u32) -> u32 {
-    let better = |near: u32| near.wrapping_mul(2u32.wrapping_sub(odd.wrapping_mul(near)));
-    (0..5).fold(odd, |near, _| better(near))
+/// The number that this one is multiplied with to give 1 modulo the prime: its power by two less.
+fn inverse(number: u64) -> u64 {
+    let (mut power, mut square) = (1, number % PRIME);
+    for bit in 0..32 {
+        if (PRIME - 2) >> bit & 1 == 1 {
+            power = power * square % PRIME;
+        }
+        square = square * square % PRIME;
+    }
+    power
 }
 
 /// An index with the terms that it lists.

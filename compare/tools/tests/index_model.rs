@@ -8,7 +8,7 @@ use job::build::integer_words;
 use job::limits::{CELLS, PROGRAM_BYTES, PROGRAM_CELLS, PROGRAM_INDEX, TERMS};
 use job::{Job, Table, Tables};
 use tools::colliding::{self, added_calls, last_calls};
-use tools::index_model::{Index, Mix};
+use tools::index_model::{Index, MULTIPLIER, Mix};
 
 /// Of request Q-4: the integers 0 to 4,999 and name 4 of each, into so many slots.
 const INTEGERS: u32 = 5_000;
@@ -16,11 +16,11 @@ const SLOTS: usize = 32_768;
 /// The request's bound.
 const FEW: u64 = 20_000;
 /// What loading takes where the lent word is 0; the proved program counts the same.
-const COMPARISONS: u64 = 2_189;
+const COMPARISONS: u64 = 2_164;
 /// The same where each integer is followed by its application.
-const IN_TURN: u64 = 2_219;
+const IN_TURN: u64 = 2_096;
 /// The most for 1,000 random words.
-const MOST: u64 = 2_419;
+const MOST: u64 = 2_421;
 /// For the largest store.
 const MOST_SLOTS: usize = 131_072;
 
@@ -86,13 +86,10 @@ fn a_mix_by_hand() {
     let modulus = 1u64 << 32;
     for word in [0, 1, 0x8000_0000, u32::MAX] {
         let multiplier = (2_654_435_761 + 2 * u64::from(word)) % modulus;
-        let times = |mixed: u64| {
-            let product = mixed * multiplier % modulus;
-            (product + product / 65_536) % modulus
-        };
-        let first = times(times(2 + 4));
-        let second = times(times((first + 3) % modulus));
-        let squared = second * ((2 * second + 1) % modulus) % modulus;
+        let times = |a: u64, b: u64| (a * b % modulus + a * b / modulus * 5) % modulus;
+        let mixed = times(2 + 4, times(multiplier, multiplier)) + times(3, multiplier);
+        let mixed = mixed % modulus;
+        let squared = mixed * ((2 * mixed + 1) % modulus) % modulus;
         let mixed = squared * 2_654_435_761 % modulus;
         let mix = Mix::new(word);
         assert_eq!(u64::from(mix.of(2, &[4, 3])), mixed);
@@ -103,30 +100,32 @@ fn a_mix_by_hand() {
     }
 }
 
-/// A word that gives a wanted mix does, wherever it stands; hardly ever there is none.
+/// A word that gives a wanted mix does, wherever it stands; each step back finds one for about half of the mixes.
 #[test]
 fn words_for_a_mix() {
-    let mut none = 0;
+    let (mut found, mut asked) = (0, 0);
     for word in random_words(50) {
         let mix = Mix::new(word);
         for wanted in random_words(200) {
-            let found = [
-                (mix.word_for(1, &[], &[], wanted), 1, vec![], vec![]),
-                (mix.word_for(0, &[2, 7], &[], wanted), 0, vec![2, 7], vec![]),
-                (mix.word_for(2, &[], &[7, 9], wanted), 2, vec![], vec![7, 9]),
+            let places: [(u32, &[u32], &[u32]); 6] = [
+                (1, &[], &[]),
+                (0, &[2, 7], &[]),
+                (0, &[2], &[9]),
+                (2, &[], &[7]),
+                (2, &[], &[7, 9]),
+                (2, &[4, 5, 6], &[7, 8, 9]),
             ];
-            for (free, kind, before, behind) in found {
-                match free {
-                    Some(free) => {
-                        let words = [before, vec![free], behind].concat();
-                        assert_eq!(mix.of(kind, &words), wanted);
-                    }
-                    None => none += 1,
+            for (kind, before, behind) in places {
+                asked += 1;
+                if let Some(free) = mix.word_for(kind, before, behind, wanted) {
+                    found += 1;
+                    let words = [before, &[free], behind].concat();
+                    assert_eq!(mix.of(kind, &words), wanted);
                 }
             }
         }
     }
-    assert!(none < 10, "{none}");
+    assert!(asked == 60_000 && found > 25_000, "{found}");
 }
 
 /// A term is found where it was listed, round the end too, and listed once.
@@ -202,7 +201,7 @@ fn fullest(word: u32, keys: &[Vec<u32>]) -> usize {
     let mix = Mix::new(word);
     let mut slots = vec![0; keys.len()];
     for key in keys {
-        slots[mix.slot(0, key, keys.len())] += 1;
+        slots[mix.key_slot(key[0], &key[1..], keys.len())] += 1;
     }
     slots.into_iter().max().expect("a slot")
 }
@@ -251,26 +250,66 @@ fn renamed_jobs() {
     assert!(met > 150 && renamed > 200, "{met} {renamed}");
 }
 
-/// Integers of which the high word takes away what the low word would add to the mix, if a word were multiplied
-/// once and the multiplier's last twelve bits were those of 1.
-fn integers_by_chance() -> Vec<u32> {
+/// So many terms in groups of 2^(32 - k), by the numbers of group and member.
+fn in_groups(k: u32, term: impl Fn(&mut Tables, u32, u32)) -> Vec<u32> {
+    let members = (1u64 << (32 - k)).min(PROGRAM_CELLS as u64) as u32;
     let mut tables = Tables::default();
-    for upper in 0..PROGRAM_CELLS as u32 {
-        let low = upper << 20;
-        let high = low.wrapping_add(low >> 16).wrapping_neg();
-        tables.term_literal([2, low, high]);
+    for group in 0..PROGRAM_CELLS as u32 / members {
+        (0..members).for_each(|member| term(&mut tables, group, member));
     }
     tables.words()
+}
+
+/// Integers of which the high word takes away what multiples of 2^k in the low word add to the mix, for the
+/// multiplier that this coefficient is: wholly, and of its upper half alone.
+fn integers_by_chance(k: u32, coefficient: u32) -> [Vec<u32>; 2] {
+    let integers = |shift: u32| {
+        in_groups(k, |tables, group, member| {
+            let added = (member << k).wrapping_mul(coefficient) >> shift;
+            tables.term_literal([2, member << k | group, added.wrapping_neg()]);
+        })
+    };
+    [integers(0), integers(16)]
+}
+
+/// The same of calls: the second argument takes away what multiples of 2^k add in the name.
+fn calls_by_chance(k: u32, coefficient: u32) -> Vec<u32> {
+    in_groups(k, |tables, group, member| {
+        let added = (member << k).wrapping_mul(coefficient) >> 16;
+        tables.term_application(4 + group + (member << k), &[0, u32::from(u16::MAX) - added]);
+    })
+}
+
+/// Calls whose arguments have one sum, are alike, or follow each other.
+fn calls_in_a_row() -> [Vec<u32>; 3] {
+    let calls = |arguments: fn(u32) -> Vec<u32>| {
+        let mut tables = Tables::default();
+        for number in 0..PROGRAM_CELLS as u32 {
+            tables.term_application(4, &arguments(number));
+        }
+        tables.words()
+    };
+    [
+        calls(|number| vec![number, PROGRAM_CELLS as u32 - number]),
+        calls(|number| vec![number; 16]),
+        calls(|number| (number..number + 16).collect()),
+    ]
 }
 
 /// Who does not know the word cannot aim: for no word are there many more comparisons than terms.
 #[test]
 fn aiming_without_the_word() {
-    let job = integers_by_chance();
-    let words = random_words(2_000).into_iter();
-    let counts: Vec<u64> = words
-        .map(|word| comparisons(word, PROGRAM_INDEX, &job))
-        .collect();
-    let most = counts.iter().max().expect("a count");
-    assert!(*most < PROGRAM_CELLS as u64, "{most}");
+    let mut jobs = calls_in_a_row().to_vec();
+    for k in 16..32 {
+        for coefficient in [1, 9, MULTIPLIER] {
+            jobs.extend(integers_by_chance(k, coefficient));
+            jobs.push(calls_by_chance(k, coefficient));
+        }
+    }
+    for job in jobs {
+        for word in random_words(40) {
+            let count = comparisons(word, PROGRAM_INDEX, &job);
+            assert!(count < PROGRAM_CELLS as u64, "{word} {count}");
+        }
+    }
 }
