@@ -1,4 +1,4 @@
--- The 32-bit mix of a cell by a multiplier, and the slot that it gives. Sums and products wrap at 2 to the 32.
+-- The 32-bit mix of a cell by a multiplier, and the slot that it gives. Sums wrap at 2 to the 32, and so do products but for `times`.
 use mathlib.Core.Bool.{true, false}
 use mathlib.Core.List.{List, [], _∷_}
 use Prim.Native.Nat.{ℕ, _+_, _*_, _/_, _%_, _^_}
@@ -17,7 +17,7 @@ multiplierOf w = (golden + (w + w) % 2 ^ 32) % 2 ^ 32
 unfoldable pub times : ℕ → ℕ → ℕ
 times a b = (a * b % 2 ^ 32 + a * b / 2 ^ 32 * 5) % 2 ^ 32
 
--- The mix h with two more words. So a mix is a polynomial in x, with a word for each power.
+-- The mix h with two more words: by and by a polynomial in x, with a word for each power.
 unfoldable pub stirred : ℕ → ℕ → ℕ → ℕ → ℕ
 stirred x h w v = (times ((h + w) % 2 ^ 32) (times x x) + times v x) % 2 ^ 32
 
