@@ -199,7 +199,7 @@ module _ (fact : Bool) (prog : Program) (rule : ℕ) (σ : List Binding) (n : �
     first-argument {a} {xs} {m} {i} d q low h M w = record {
       leads = λ t x. (λ j. andThen (eval room (getD xs i 0) t) (λ _ u. sym (whole u) j))
           ∙ rest-leads (headTerm fact room prog rule σ (head a)) xs i h
-              (λ j l. (valueAt m (getD xs j 0), λ u z. term-again fact room prog rule σ (expr (getD xs j 0)) s s u (valueAt m (getD xs j 0)) (M .value (getD xs j 0) (low j (omega arith)) (w j l)) z)) [] t x
+          (λ j l. (valueAt m (getD xs j 0), λ u z. term-again fact room prog rule σ (expr (getD xs j 0)) s s u (valueAt m (getD xs j 0)) (M .value (getD xs j 0) (low j (omega arith)) (w j l)) z)) [] t x
           ∙ whole t;
     }
       where
