@@ -14,7 +14,7 @@ use Rattle.model.specs.Evaluate.{lookup}
 use Rattle.model.proofs.Post.{Post, post-ok, post-map, post-bind, post-result}
 use Rattle.index.specs.declared.Fill.{Fill}
 use Rattle.evaluate.specs.Value.{headTerm, evalTerm, evalTerms}
-use Rattle.evaluate.proofs.Settling.{head-settled}
+use Rattle.evaluate.proofs.Settling.{post-self, head-settled}
 use Rattle.program.specs.Ready.{programFor}
 use Rattle.program.specs.Read.{exprFor}
 use Rattle.termdag.specs.Store.{roomOf}
@@ -30,10 +30,6 @@ module _ (fact : Bool) (room : Room) (prog : Program) (rule : ℕ) (σ : List Bi
       go true q = let z : _≡_ {A = Option ℕ} none (some t) = sym n ∙ ap (lookup σ) (eqb-true (b .name) x q) ∙ e in let y : _≡_ {A = ℕ} 0 1 = cc in absurd (omega arith)
       go false q = e
 
-  self : {P : ℕ → List Term → Type 0} (o : Outcome ℕ) → Post o P → Post o (λ a s. o ≡ ok a s)
-  self (ok a s) p = post-ok refl
-  self (refused r s) p = record { holds = p .holds }
-
   given : (o : Option ℕ) (x : ℕ) (s : List Term) → ((t : ℕ) → o ≡ some t → lookup (b ∷ σ) x ≡ some t) → Post (orRefuse o 45 (rule ∷ x ∷ []) s) (λ a s′. orRefuse (lookup (b ∷ σ) x) 45 (rule ∷ x ∷ []) s ≡ ok a s′)
   unfolding orRefuse
   given (some t) x s h = post-ok (ap (λ (o : Option ℕ). orRefuse o 45 (rule ∷ x ∷ []) s) (h t refl))
@@ -41,11 +37,11 @@ module _ (fact : Bool) (room : Room) (prog : Program) (rule : ℕ) (σ : List Bi
 
   head-fresh : (h : Head) (ts : List ℕ) (s : List Term) → Post (headTerm fact room prog rule σ h ts s) (λ a s′. headTerm fact room prog rule (b ∷ σ) h ts s ≡ ok a s′)
   unfolding headTerm
-  head-fresh (literal l) ts s = self (headTerm fact room prog rule σ (literal l) ts s) (head-settled fact room prog rule σ (literal l) ts s)
+  head-fresh (literal l) ts s = post-self (headTerm fact room prog rule σ (literal l) ts s) (head-settled fact room prog rule σ (literal l) ts s)
   head-fresh (variable x) ts s = given (lookup σ x) x s (lookup-other x)
-  head-fresh (constructor f) ts s = self (headTerm fact room prog rule σ (constructor f) ts s) (head-settled fact room prog rule σ (constructor f) ts s)
-  head-fresh (custom f) ts s = self (headTerm fact room prog rule σ (custom f) ts s) (head-settled fact room prog rule σ (custom f) ts s)
-  head-fresh (primitive p) ts s = self (headTerm fact room prog rule σ (primitive p) ts s) (head-settled fact room prog rule σ (primitive p) ts s)
+  head-fresh (constructor f) ts s = post-self (headTerm fact room prog rule σ (constructor f) ts s) (head-settled fact room prog rule σ (constructor f) ts s)
+  head-fresh (custom f) ts s = post-self (headTerm fact room prog rule σ (custom f) ts s) (head-settled fact room prog rule σ (custom f) ts s)
+  head-fresh (primitive p) ts s = post-self (headTerm fact room prog rule σ (primitive p) ts s) (head-settled fact room prog rule σ (primitive p) ts s)
 
   mutual
     unfolding evalTerm

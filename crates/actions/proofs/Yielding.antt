@@ -1,5 +1,5 @@
 -- One evaluation of an action, refused or with a value.
-use mathlib.Core.Path.{_≡_, refl, sym, ap, subst, subst⁻¹, _∙_}
+use mathlib.Core.Path.{_≡_, refl, sym, ap, subst⁻¹, _∙_}
 use mathlib.Core.Bool.{Bool, true, false, true≢false, _||_}
 use mathlib.Core.List.{List, [], _∷_, List·Memᴰ, List·Memᴰ·head, List·Memᴰ·tail}
 use Prim.Native.Nat.{ℕ, _+_, _*_, _/_, _<_, _≤_}
@@ -20,21 +20,20 @@ use Rattle.termdag.specs.Store.{termsIn, roomOf}
 use Rattle.outcome.specs.Does.{refusalOf}
 use Rattle.outcome.specs.declared.Refusal.{Refusal}
 use Rattle.outcome.specs.declared.Checked.{Checked}
-use Rattle.outcome.proofs.Laws.{ok-of, refused-of, room-same}
+use Rattle.outcome.proofs.Laws.{ok-of, refused-of}
 use Rattle.marks.proofs.Marking.{marks-extends, marks-adds}
 use Rattle.termdag.proofs.Laws.{terms-length}
 use Rattle.program.specs.Ready.{programFor}
 use Rattle.program.specs.Read.{exprFor, argumentsFor}
 use Rattle.evaluate.specs.Value.{termOutcome, valueOf, evalFor, valueFor, here}
 use Rattle.evaluate.proofs.Settling.{value-term, term-sane, term-again}
-use Rattle.evaluate.specs.Evaluation.{Memo, Evaluates, EvaluatesMore}
+use Rattle.evaluate.specs.Evaluation.{Evaluates, EvaluatesMore}
 use Rattle.pairs.proofs.Values.{pairs-values}
 use Rattle.marks.specs.Covering as Covering
 use Rattle.pairs.proofs.Roots.{root-evaluated, root-adds}
-use Rattle.evaluate.proofs.Turns.{root-memo, more-done}
+use Rattle.evaluate.proofs.Turns.{root-memo, more-done, memo-after}
 use Rattle.memo.specs.Memo.{valueAt, isNoted, Started}
 use Rattle.model.proofs.Post.{post-result}
-use Rattle.model.specs.Check.{Room}
 use Rattle.pairs.proofs.Marking.{values-mark}
 use Rattle.actions.specs.Acting.{Standing, Going, markedIf, Yields}
 
@@ -136,7 +135,7 @@ module _ (rule : ℕ) {J F : List ℕ} {σ : List Binding} {e : ℕ} {marking : 
 
   pub going-after : r .refusal .number ≡ 0 → {c : ℕ} {m₁ : List ℕ} → c ≡ sizesOf J .expressions → m₁ ≡ markedIf marking memo₁ c m → Going J rule σ marking k₁ e₁ p₁ (r .fill) memo₁ m₁
   going-after n {c} {m₁} w q = record {
-    holds = subst (λ (x : Room). Memo (argumentsFor J) (evalFor false J rule σ x) (sizesOf J .expressions) (termsIn k₁ e₁ p₁ (r .fill)) memo₁) (sym (room-same (d .does .grown))) (d .memo n);
+    holds = memo-after d n;
     marked = λ t i l u. rw (q ∙ (λ j. markedIf (t j) memo₁ (w j) m)) (values-mark memo₁ m (sizesOf J .expressions) i l u (inside i l u));
   }
     where

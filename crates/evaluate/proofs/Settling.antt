@@ -89,9 +89,13 @@ unfolding valueOf
 value-term true room prog rule σ e s = fact-term room prog rule σ e s
 value-term false room prog rule σ e s = plain-term room prog rule σ e s
 
+-- one value
+pub same-value : {A : Type 0} {a b : A} {s s′ : List Term} → ok a s ≡ ok b s′ → a ≡ b
+same-value e = cc
+
 -- an outcome, with what it is
 module _ {A : Type 0} where
-  post-self : {P : A → List Term → Type 0} (o : Outcome A) → Post o P → Post o (λ a s. o ≡ ok a s)
+  pub post-self : {P : A → List Term → Type 0} (o : Outcome A) → Post o P → Post o (λ a s. o ≡ ok a s)
   post-self (ok a s) p = post-ok refl
   post-self (refused r s) p = record { holds = p .holds }
 

@@ -37,7 +37,7 @@ use Rattle.evaluate.specs.Value.{evalFor, valueFor, headTerm, evalTerm, 
 use Rattle.evaluate.specs.Evaluation.{Memo, Knows, noted, bound, unknown, Noted, Evaluates, EvaluatesMore, EvaluatesRoot}
 use Rattle.evaluate.proofs.HeadValues.{given-some, head-does, variable-does}
 use Rattle.evaluate.proofs.Collecting.{each, each-is, rest, Run, run-start, run-stop, run-turn, run-done}
-use Rattle.evaluate.proofs.Settling.{value-term, head-settled, term-settled, term-again}
+use Rattle.evaluate.proofs.Settling.{value-term, same-value, head-settled, term-settled, term-again}
 
 -- members by place
 pub member-at : (xs : List ℕ) (i : ℕ) → i < length xs → List·Memᴰ (getD xs i 0) xs
@@ -262,8 +262,10 @@ root-memo {m = m} l S = record {
   closed = λ k a h p w. absurd (true≢false (sym p ∙ S .none k));
 }
 
-one-value : {a b : ℕ} {s : List Term} → ok a s ≡ ok b s → a ≡ b
-one-value e = cc
+-- after an evaluation the memo holds in the room that there is then
+pub memo-after : {args : ℕ → List ℕ} {eval : Room → ℕ → Check ℕ} {n e : ℕ} {K E P I : List ℕ} {f : Fill} {m K′ E′ P′ I′ : List ℕ} {c : Checked} {m′ : List ℕ}
+    → Evaluates args eval n e K E P I f m K′ E′ P′ I′ c m′ → c .refusal .number ≡ 0 → Memo args (eval (roomOf K′ P′)) n (termsIn K′ E′ P′ (c .fill)) m′
+memo-after {args} {eval} {n} {K′ = K′} {E′ = E′} {P′ = P′} {c = c} {m′ = m′} d z = subst (λ (x : Room). Memo args (eval x) n (termsIn K′ E′ P′ (c .fill)) m′) (sym (room-same (d .does .grown))) (d .memo z)
 
 module _ (fact : Bool) (J : List ℕ) (rule : ℕ) (σ : List Binding) where
   value-is : (room : Room) (e : ℕ) (s : List Term) → evalFor fact J rule σ room e s ≡ valueFor fact J rule σ room e s
@@ -287,7 +289,7 @@ module _ (fact : Bool) (J : List ℕ) (rule : ℕ) (σ : List Binding) where
         let s′ = termsIn k′ e″ p′ (c .fill) in
         let x = post-result (term-settled fact (roomOf k p) (programFor J) rule σ (exprFor J e) s) (sym (d .does .outcome) ∙ ok-of (c .refusal) (c .value) s′ q) .grows in
         let again = term-again fact (roomOf k p) (programFor J) rule σ (exprFor J j) s s s′ (valueAt m j) (M .value j l u) x in
-        one-value (sym again ∙ d .memo q .value j l v)
+        same-value (sym again ∙ d .memo q .value j l v)
 
     pub more-done : {Old : ℕ → Type 0} → ((j : ℕ) → j < sizesOf J .expressions → isNoted m j ≡ true → Old (valueAt m j))
         → EvaluatesMore Old (argumentsFor J) (valueFor fact J rule σ) (sizesOf J .expressions) e k e′ p ix f k′ e″ p′ ix′ c m′

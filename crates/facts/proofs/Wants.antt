@@ -23,7 +23,7 @@ use Rattle.memo.specs.Memo.{Past, Started}
 use Rattle.outcome.specs.Does.{passed, outcomeOf, Does}
 use Rattle.outcome.specs.declared.Refusal.{Refusal}
 use Rattle.outcome.specs.declared.Checked.{Checked}
-use Rattle.outcome.proofs.Laws.{does-here, does-map, room-same}
+use Rattle.outcome.proofs.Laws.{does-here, does-map}
 use Rattle.program.specs.Ready.{programFor, optionOf}
 use Rattle.program.specs.declared.Looked.{Looked}
 use Rattle.program.specs.Read.{exprFor, argumentsFor}
@@ -31,7 +31,7 @@ use Rattle.evaluate.specs.Value.{valueOf, evalFor, valueFor}
 use Rattle.evaluate.specs.Evaluation.{Memo, Evaluates, Checks}
 use Rattle.evaluate.proofs.Checking.{checks-then, checks-stop, checks-does, checks-here, checks-as, value-fact}
 use Rattle.evaluate.proofs.Settling.{value-term}
-use Rattle.evaluate.proofs.Turns.{root-memo}
+use Rattle.evaluate.proofs.Turns.{root-memo, memo-after}
 use Rattle.evaluate.proofs.Collecting.{each, each-is, Run, run-start, run-stop, run-turn, run-done}
 use Rattle.facts.specs.Call.{functionFactOf}
 use Rattle.facts.specs.declared.Asked.{Asked}
@@ -47,7 +47,7 @@ then-pure (ok a s) = refl
 then-pure (refused r s) = refl
 
 module _ (J : List ℕ) (rule : ℕ) (σ : List Binding) where
-  -- an evaluation in a round that is there: it is a check, and the round goes on
+  -- an evaluation in a round that is there is a check
   abbrev eval : Room → ℕ → Check ℕ
   eval = evalFor true J rule σ
 
@@ -55,9 +55,6 @@ module _ (J : List ℕ) (rule : ℕ) (σ : List Binding) where
       (d : Evaluates (argumentsFor J) eval (sizesOf J .expressions) e K E P I f m K₁ E₁ P₁ I₁ c m₁) where
     pub checks-eval : Checks K E P I f K₁ E₁ P₁ I₁ (c .fill) (c .refusal) (c .value) m₁ (valueFor true J rule σ (roomOf K P) e (termsIn K E P f))
     checks-eval = checks-as (sym (value-term true (roomOf K P) (programFor J) rule σ (exprFor J e) (termsIn K E P f))) (record { does = d .does; past = λ z. d .memo z .past })
-
-    pub round-on : c .refusal .number ≡ 0 → Memo (argumentsFor J) (eval (roomOf K₁ P₁)) (sizesOf J .expressions) (termsIn K₁ E₁ P₁ (c .fill)) m₁
-    round-on z = subst (λ (x : Room). Memo (argumentsFor J) (eval x) (sizesOf J .expressions) (termsIn K₁ E₁ P₁ (c .fill)) m₁) (sym (room-same (d .does .grown))) (d .memo z)
 
   -- the arguments of a call, one after the other
   abbrev value : Room → ℕ → Check ℕ
@@ -99,7 +96,7 @@ module _ (J : List ℕ) (rule : ℕ) (σ : List Binding) where
       pub arguments-turn : i < length vals → length m₂ ≡ length m → c .refusal .number ≡ 0 → Turn e xs K₀ E₀ P₀ I₀ f₀ m₀ v₀ K₂ E₂ P₂ I₂ (c .fill) m₂ (set vals i (c .value)) (i + 1)
       arguments-turn l k q = record {
         run = run-turn (T .run) h (checks-eval d .does) l q;
-        memo = round-on d q;
+        memo = memo-after d q;
         lenM = k ∙ T .lenM;
         lenV = length-set vals i (c .value) ∙ T .lenV;
       }

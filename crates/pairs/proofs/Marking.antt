@@ -20,7 +20,8 @@ use Rattle.marks.proofs.Marking.{AddsMarks}
 use Rattle.evaluate.specs.Value.{Reaches}
 use Rattle.pairs.specs.Marking.{markIf, markValues}
 use Rattle.pairs.proofs.Laws.{length-values}
-use Rattle.pairs.proofs.Values.{Valued, same-value}
+use Rattle.evaluate.proofs.Settling.{same-value}
+use Rattle.pairs.proofs.Values.{Valued}
 
 -- t is the value of an expression below n that is noted
 pub record NotedValue (memo : List ℕ) (n t : ℕ) : Type 0 where

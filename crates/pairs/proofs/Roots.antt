@@ -24,9 +24,9 @@ use Rattle.program.specs.Ready.{tablesFor, Ready, programFor}
 use Rattle.program.specs.Read.{exprFor, argumentsFor}
 use Rattle.evaluate.specs.Value.{termOutcome, valueOf, evalFor, valueFor, Reaches, here, down}
 use Rattle.evaluate.specs.Evaluation.{Sane, EvaluatesMore}
-use Rattle.evaluate.proofs.Settling.{value-term, term-sane}
+use Rattle.evaluate.proofs.Settling.{value-term, same-value, term-sane}
 use Rattle.pairs.specs.Marking.{markValues}
-use Rattle.pairs.proofs.Values.{same-value, pairs-values, pairs-reflexive}
+use Rattle.pairs.proofs.Values.{pairs-values, pairs-reflexive}
 use Rattle.pairs.proofs.Marking.{NotedBelow, values-adds}
 
 -- the evaluation of e from the store s gives the term t in the store s′: its value, with pairs that are all reflexive, and what holds of the store then

@@ -26,7 +26,7 @@ use Rattle.program.specs.Ready.{tablesFor, Ready, programFor}
 use Rattle.program.specs.Read.{exprFor, argumentsFor}
 use Rattle.evaluate.specs.Value.{termOutcome, valueOf, evalTerm, evalFor, Reaches, here, down}
 use Rattle.evaluate.specs.Evaluation.{Sane}
-use Rattle.evaluate.proofs.Settling.{value-term}
+use Rattle.evaluate.proofs.Settling.{value-term, same-value}
 
 -- x is the value of e or of an expression below it, or a subterm of one
 pub record Valued (args : ℕ → List ℕ) (eval : ℕ → Check ℕ) (s : List Term) (e x : ℕ) : Type 0 where
@@ -41,10 +41,6 @@ module _ {A : Type 0} {P Q : A → List Term → Type 0} where
   post-both : (o : Outcome A) → Post o P → Post o Q → Post o (λ a s. P a s × Q a s)
   post-both (ok a s) p q = post-ok (p .holds, q .holds)
   post-both (refused r s) p q = record { holds = p .holds }
-
--- one value
-pub same-value : {A : Type 0} {a b : A} {s s′ : List Term} → ok a s ≡ ok b s′ → a ≡ b
-same-value e = cc
 
 -- a reflexive pair has equal sides
 reflexive-sides : (s : List Term) (t : ℕ) (q : Proposition) → List·Memᴰ q (reflexive s t) → q .lhs ≡ q .rhs

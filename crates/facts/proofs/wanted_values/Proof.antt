@@ -3,8 +3,8 @@ use Rattle.program.specs.Read.{exprFor}
 use Rattle.program.specs.Ready.{programFor}
 use native.Mathlib.Omega.{arith}
 use mathlib.Core.Path.{_∙_}
-use Rattle.evaluate.proofs.Turns.{root-memo}
-use Rattle.facts.proofs.Wants.{checks-eval, round-on, values-refused, values-ask}
+use Rattle.evaluate.proofs.Turns.{root-memo, memo-after}
+use Rattle.facts.proofs.Wants.{checks-eval, values-refused, values-ask}
 use borrow.Author.Needs.{needs}
 use Rattle.facts.proofs.wanted_values.Statement.{statement}
 use Rattle.facts.proofs.wanted_values.Tie as tie
@@ -37,7 +37,7 @@ returns : tie.Need-returns
 returns c = let a = c .before .before .before .before .before .before .before .before .before .before .before .before .before .before .before .before .before .before .before .before .before .before .before .before .before .before .before .before .before .before .before .before .before .args in let pre = c .before .before .before .before .before .before .before .before .before .before .before .before .before .before .before .before .before .before .before .before .before .before .before .before .before .before .before .before .before .before .before .before .before .pre in let prog = programFor (a .job .now) in let σ = bindingsIn (a .bound .now) (a .pairs .now) (a .globals .now) in let expr = exprFor (a .job .now) in values-refused prog (a .rule) σ (expr (a .left)) (expr (a .right)) (c .before .before .before .before .before .before .before .before .before .before .before .before .before .eval .result) (checks-eval (a .job .now) (a .rule) σ (c .before .before .before .before .before .before .before .before .before .before .before .before .before .eval .ensures)) (c .before .if1 .taken) (c .asks .ensures)
 
 eval-requires-2 : tie.Need-eval-requires-2
-eval-requires-2 c κs = let a = c .before .before .before .before .before .before .before .before .before .before .before .before .before .before .before .before .before .before .before .before .before .before .before .before .before .before .before .before .before .before .before .before .before .before .before .before .before .args in let p = c .before .before .before .before .before .before .before .before .before .before .before .before .before .before .before .before .before .before .before .before .before .before .before .before .before .before .before .before .before .before .before .before .before .before .before .before .before .pre in let e = c .before .before .before .before .before .before .before .before .before .before .before .before .before .before .before .before .before .eval in (p .0, (p .1 .0, (e .ensures .does .grown .indexed, (p .1 .1 .1 .1 .1 .1, round-on (a .job .now) (a .rule) (bindingsIn (a .bound .now) (a .pairs .now) (a .globals .now)) (e .ensures) (c .before .before .before .before .before .if1 .left)))))
+eval-requires-2 c κs = let a = c .before .before .before .before .before .before .before .before .before .before .before .before .before .before .before .before .before .before .before .before .before .before .before .before .before .before .before .before .before .before .before .before .before .before .before .before .before .args in let p = c .before .before .before .before .before .before .before .before .before .before .before .before .before .before .before .before .before .before .before .before .before .before .before .before .before .before .before .before .before .before .before .before .before .before .before .before .before .pre in let e = c .before .before .before .before .before .before .before .before .before .before .before .before .before .before .before .before .before .eval in (p .0, (p .1 .0, (e .ensures .does .grown .indexed, (p .1 .1 .1 .1 .1 .1, memo-after (e .ensures) (c .before .before .before .before .before .if1 .left)))))
 
 asks-requires-2 : tie.Need-asks-requires-2
 asks-requires-2 c κs = search needs

@@ -3,7 +3,7 @@ use mathlib.Core.Path.{_≡_, refl, sym, ap, _∙_}
 use borrow.Author.Needs.{needs}
 use native.Mathlib.Omega.{arith}
 use lib.ListN.{length, drop}
-use Rattle.index.specs.Mixing.{times, mixFrom, spread}
+use Rattle.index.specs.Mixing.{mixFrom, spread}
 use Rattle.index.proofs.Arithmetic.{mix-more, mix-last, mix-end}
 use Rattle.index.proofs.mix.Statement.{statement}
 use Rattle.index.proofs.mix.Tie as tie
