@@ -1,7 +1,7 @@
 -- Laws of chains: numbers linked one by one from the last on, and the way along a chain.
 use mathlib.Core.Path.{_≡_, refl, sym, ap, ap₂, subst, _∙_}
 use mathlib.Core.Logic.{_⊎_, inl, inr}
-use mathlib.Core.Bool.{Bool, true, false, _&&_}
+use mathlib.Core.Bool.{Bool, true, false, true≢false, _&&_}
 use mathlib.Core.List.{List}
 use Prim.Native.Nat.{ℕ, suc, _+_, _≤_, _<_}
 use native.Mathlib.Omega.{arith}
@@ -10,10 +10,10 @@ use lib.ListN.{length, getD, set, length-set}
 use lib.Seq.{getD-set-same, getD-set-other}
 use borrow.Author.Tests.{ltb-true, ltb-false, eq-eqb, ne-eqb}
 use Rattle.model.specs.Cell.{sameWords}
-use Rattle.model.proofs.Tests.{eq-of, and-left, and-right, words-eq, never}
+use Rattle.model.proofs.Tests.{eq-of, and-left, and-right, words-eq, words-same, never}
 use Rattle.cells.specs.declared.Found.{Found}
 use Rattle.index.proofs.Arithmetic.{le-or-lt, eq-or-ne}
-use Rattle.chains.specs.Chains.{keyArguments, hasKey, keySlot, sameKey, Next, Chained, Within, Emptied, Linked, FirstHit, foundBefore, Differ}
+use Rattle.chains.specs.Chains.{keyArguments, hasKey, keySlot, slotAt, sameKey, Next, Chained, Within, Emptied, Linked, FirstHit, foundBefore, Differ}
 
 pub within-same : (b k : ℕ) (T : List ℕ) → Within b k T T
 within-same b k T = record { even = refl; same = λ i _. refl }
@@ -122,36 +122,39 @@ key-slot x n rows ws h us e =
     let w = words-eq (keyArguments rows ws) us (and-right (eqb (getD ws 0 0) h) (sameWords (keyArguments rows ws) us) e) in
     ap₂ (keySlot x n) a w
 
--- on the way along the chain of slot s, at number i: none before it hits
-pub record Passed (slot : ℕ → ℕ) (hit : ℕ → Bool) (n s i : ℕ) : Type 0 where
+-- on the way along the chain of slot s from number m on, at number i: none between them hits
+pub record Passed (slot : ℕ → ℕ) (hit : ℕ → Bool) (n s m i : ℕ) : Type 0 where
+  pub least : m ≤ i
   pub most : i ≤ n
   pub is : i < n → slot i ≡ s
-  pub before : (j : ℕ) → j < i → hit j ≡ false
+  pub before : (j : ℕ) → m ≤ j → j < i → hit j ≡ false
 
 no-hit : (b : Bool) → (b ≡ true → ⊥) → b ≡ false
 no-hit true h = absurd (h refl)
 no-hit false h = refl
 
-module _ {slot : ℕ → ℕ} {hit : ℕ → Bool} {n s : ℕ} (hits : (j : ℕ) → hit j ≡ true → slot j ≡ s) where
-  pub passed-first : {e : ℕ} → Next slot n s 0 e → Passed slot hit n s e
+module _ {slot : ℕ → ℕ} {hit : ℕ → Bool} {n s m : ℕ} (hits : (j : ℕ) → hit j ≡ true → slot j ≡ s) where
+  pub passed-first : {e : ℕ} → Next slot n s m e → Passed slot hit n s m e
   passed-first x = record {
+    least = x .least;
     most = x .most;
     is = x .is;
-    before = λ j h. no-hit (hit j) (λ y. x .before j (omega arith) h (hits j y));
+    before = λ j u h. no-hit (hit j) (λ y. x .before j u h (hits j y));
   }
 
-  pub passed-more : {i e : ℕ} → Passed slot hit n s i → i < n → hit i ≡ false → Next slot n (slot i) (suc i) e → Passed slot hit n s e
+  pub passed-more : {i e : ℕ} → Passed slot hit n s m i → i < n → hit i ≡ false → Next slot n (slot i) (suc i) e → Passed slot hit n s m e
   passed-more {i} {e} p h y x = record {
+    least = omega (arith, p .least, x .least);
     most = x .most;
     is = λ l. x .is l ∙ p .is h;
-    before = λ j l. elim (le-or-lt j i) [ inl u ↦ elim (eq-or-ne j i) [ inl v ↦ ap hit v ∙ y | inr v ↦ p .before j (omega arith) ] | inr u ↦ no-hit (hit j) (λ z. x .before j u l (hits j z ∙ sym (p .is h))) ];
+    before = λ j w l. elim (le-or-lt j i) [ inl u ↦ elim (eq-or-ne j i) [ inl v ↦ ap hit v ∙ y | inr v ↦ p .before j w (omega arith) ] | inr u ↦ no-hit (hit j) (λ z. x .before j u l (hits j z ∙ sym (p .is h))) ];
   }
 
-module _ {slot : ℕ → ℕ} {hit : ℕ → Bool} {n s i : ℕ} (p : Passed slot hit n s i) where
+module _ {slot : ℕ → ℕ} {hit : ℕ → Bool} {n s i : ℕ} (p : Passed slot hit n s 0 i) where
   pub hit-there : i < n → hit i ≡ true → FirstHit hit n (Found.At i)
   hit-there h y = record {
     there = λ j e. let r : i ≡ j = cc in (omega arith, ap hit (sym r) ∙ y);
-    before = λ j k e l. let r : i ≡ j = cc in p .before k (omega arith);
+    before = λ j k e l. let r : i ≡ j = cc in p .before k (omega arith) (omega arith);
     none = λ e. let z : _≡_ {A = ℕ} 0 1 = cc in absurd (omega arith);
   }
 
@@ -159,11 +162,11 @@ module _ {slot : ℕ → ℕ} {hit : ℕ → Bool} {n s i : ℕ} (p : Passed slo
   hit-none h = record {
     there = λ j e. let z : _≡_ {A = ℕ} 0 1 = cc in absurd (omega arith);
     before = λ j k e l. let z : _≡_ {A = ℕ} 0 1 = cc in absurd (omega arith);
-    none = λ _ j l. p .before j (omega arith);
+    none = λ _ j l. p .before j (omega arith) (omega arith);
   }
 
 pub none-there : (slot : ℕ → ℕ) (hit : ℕ → Bool) {n : ℕ} → n ≡ 0 → FirstHit hit n Found.Nothing
-none-there slot hit {n} e = hit-none {slot = slot} {hit = hit} {n = n} {s = 0} {i = 0} (record { most = omega arith; is = λ l. absurd (omega arith); before = λ j l. absurd (omega arith) }) (omega arith)
+none-there slot hit {n} e = hit-none {slot = slot} {hit = hit} {n = n} {s = 0} {i = 0} (record { least = omega arith; most = omega arith; is = λ l. absurd (omega arith); before = λ j u l. absurd (omega arith) }) (omega arith)
 
 -- the first i numbers differ
 pub record Differs (same : ℕ → ℕ → Bool) (n i : ℕ) : Type 0 where
@@ -200,3 +203,39 @@ pub hits-of : (rows : Bool) (ws : ℕ → List ℕ) (i : ℕ) {w us : List ℕ} 
     → FirstHit (λ j. hasKey rows (ws j) h us) n f → FirstHit (λ j. sameKey rows ws j i) n f
 hits-of rows ws i {w} {us} {h} {n} {f} e p q x =
     subst (λ (v : List ℕ). FirstHit (λ j. hasKey rows (ws j) (getD v 0 0) (keyArguments rows v)) n f) e (subst (λ (v : List ℕ). FirstHit (λ j. hasKey rows (ws j) (getD w 0 0) v) n f) q (subst (λ (k : ℕ). FirstHit (λ j. hasKey rows (ws j) k us) n f) p x))
+
+-- two cells that have one key, either way
+key-back : (rows : Bool) (v w : List ℕ) → hasKey rows v (getD w 0 0) (keyArguments rows w) ≡ true → hasKey rows w (getD v 0 0) (keyArguments rows v) ≡ true
+key-back rows v w e =
+    let a = eq-of (getD v 0 0) (getD w 0 0) (and-left (eqb (getD v 0 0) (getD w 0 0)) (sameWords (keyArguments rows v) (keyArguments rows w)) e) in
+    let b = words-eq (keyArguments rows v) (keyArguments rows w) (and-right (eqb (getD v 0 0) (getD w 0 0)) (sameWords (keyArguments rows v) (keyArguments rows w)) e) in
+    sym (key-yes rows w (getD v 0 0) (keyArguments rows v) (sym a)) ∙ rw b (words-same (keyArguments rows w))
+
+-- no cell behind one of the first i has its key
+pub record Unlike (same : ℕ → ℕ → Bool) (n i : ℕ) : Type 0 where
+  pub low : i ≤ n
+  pub differ : (k j : ℕ) → k < i → k < j → j < n → same j k ≡ false
+
+pub unlike-none : (same : ℕ → ℕ → Bool) (n : ℕ) → Unlike same n 0
+unlike-none same n = record { low = omega arith; differ = λ k j h l w. absurd (omega arith) }
+
+pub unlike-more : {same : ℕ → ℕ → Bool} {n i : ℕ} → Unlike same n i → i < n → ((j : ℕ) → i < j → j < n → same j i ≡ false) → Unlike same n (i + 1)
+unlike-more {same} {n} {i} d h x = record {
+  low = omega arith;
+  differ = λ k j l m w. elim (eq-or-ne k i) [ inl u ↦ rw u (x j (omega arith) w) | inr u ↦ d .differ k j (omega arith) m w ];
+}
+
+pub unlike-all : (rows : Bool) (ws : ℕ → List ℕ) {n i : ℕ} → Unlike (sameKey rows ws) n i → n ≤ i → Differ (sameKey rows ws) n n
+unlike-all rows ws {n} {i} d h = record {
+  low = omega arith;
+  differ = λ k j l m. no-hit (sameKey rows ws j k) (λ e. true≢false (sym (key-back rows (ws j) (ws k) e) ∙ d .differ j k (omega arith) m l));
+  again = λ l. absurd (omega arith);
+}
+
+-- the key of cell i, read from its words w: cells that have it are in the slot of i, and are alike
+module _ (rows : Bool) (ws : ℕ → List ℕ) (i : ℕ) {w us : List ℕ} {h : ℕ} (e : w ≡ ws i) (p : h ≡ getD w 0 0) (q : us ≡ keyArguments rows w) where
+  pub own-slot : (x n j : ℕ) → hasKey rows (ws j) h us ≡ true → slotAt x n rows ws j ≡ slotAt x n rows ws i
+  own-slot x n j y = key-slot x n rows (ws j) h us y ∙ ap₂ (keySlot x n) (p ∙ ap (λ (v : List ℕ). getD v 0 0) e) (q ∙ ap (keyArguments rows) e)
+
+  pub own-key : (j : ℕ) → hasKey rows (ws j) h us ≡ sameKey rows ws j i
+  own-key j = ap₂ (hasKey rows (ws j)) (p ∙ ap (λ (v : List ℕ). getD v 0 0) e) (q ∙ ap (keyArguments rows) e)

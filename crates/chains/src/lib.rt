@@ -10,6 +10,7 @@ use cells::words;
 use index::home;
 use index::stir_last;
 ghost use mathlib.Core.Path.{_≡_};
+ghost use mathlib.Core.Bool.{true, false};
 ghost use Prim.Native.Nat.{ℕ, _+_, _≤_, _<_, _^_};
 ghost use lib.ListN.{length};
 ghost use Rattle.cells.specs.Table.{Formed};
@@ -144,6 +145,68 @@ fn found_before(f: Found, i: usize) -> bool
     }
 }
 
+// A cell behind cell i has its key, by the way along the chain from i on.
+fn again_later(
+    table: &[u32],
+    b: usize,
+    x: u32,
+    kinds: &[u32],
+    ends: &[u32],
+    pool: &[u32],
+    fill: Fill,
+    first: usize,
+    n: usize,
+    rows: bool,
+    i: usize,
+) -> bool
+    requires { ⌜ Formed (now kinds) (now ends) (now pool) fill ⌝ }
+    requires { ⌜ first + n ≤ fill .cells ⌝ }
+    requires { ⌜ Chained (slotAt x n rows (wordsFrom (now kinds) (now ends) (now pool) fill first)) n b 0 (now table) ⌝ }
+    requires { ⌜ i < n ⌝ }
+    ensures { λ r. ⌜ (r ≡ false → (j : ℕ) → i < j → j < n → sameKey rows (wordsFrom (now (kinds .entry)) (now (ends .entry)) (now (pool .entry)) fill first) j i ≡ false) ⌝ }
+{
+    let own = words(kinds, ends, pool, fill, first + i);
+    let head = at(own, 0);
+    let args = key_arguments(rows, own);
+    let mut k = wide(table[b + n + i]);
+    while k < n {
+        let ws = words(kinds, ends, pool, fill, first + k);
+        if has_key(rows, ws, head, args) {
+            return true;
+        }
+        k = wide(table[b + n + k]);
+    }
+    false
+}
+
+// All of the n cells from `first` on differ in their keys.
+fn all_differ(
+    table: &[u32],
+    b: usize,
+    x: u32,
+    kinds: &[u32],
+    ends: &[u32],
+    pool: &[u32],
+    fill: Fill,
+    first: usize,
+    n: usize,
+    rows: bool,
+) -> bool
+    requires { ⌜ Formed (now kinds) (now ends) (now pool) fill ⌝ }
+    requires { ⌜ first + n ≤ fill .cells ⌝ }
+    requires { ⌜ Chained (slotAt x n rows (wordsFrom (now kinds) (now ends) (now pool) fill first)) n b 0 (now table) ⌝ }
+    ensures { λ r. ⌜ (r ≡ true → Differ (sameKey rows (wordsFrom (now (kinds .entry)) (now (ends .entry)) (now (pool .entry)) fill first)) n n) ⌝ }
+{
+    let mut i = 0;
+    while i < n {
+        if again_later(table, b, x, kinds, ends, pool, fill, first, n, rows, i) {
+            return false;
+        }
+        i += 1;
+    }
+    true
+}
+
 // How many of the n cells from `first` on differ in their keys from those before them, up to one that does not.
 pub fn differing(
     table: &[u32],
@@ -162,6 +225,9 @@ pub fn differing(
     requires { ⌜ Chained (slotAt x n rows (wordsFrom (now kinds) (now ends) (now pool) fill first)) n b 0 (now table) ⌝ }
     ensures { λ r. ⌜ Differ (sameKey rows (wordsFrom (now (kinds .entry)) (now (ends .entry)) (now (pool .entry)) fill first)) n r ⌝ }
 {
+    if all_differ(table, b, x, kinds, ends, pool, fill, first, n, rows) {
+        return n;
+    }
     let mut i = 0;
     while i < n {
         let ws = words(kinds, ends, pool, fill, first + i);

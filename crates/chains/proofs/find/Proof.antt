@@ -12,7 +12,7 @@ use Rattle.chains.proofs.find.Tie as tie
 
 abbrev Inv-loop : tie.InvT-loop
 Inv-loop table b x kinds ends pool fill first n rows head args s i₀ i =
-    Passed (slotAt x n rows (wordsFrom kinds ends pool fill first)) (λ j. hasKey rows (wordsFrom kinds ends pool fill first j) head args) n s i
+    Passed (slotAt x n rows (wordsFrom kinds ends pool fill first)) (λ j. hasKey rows (wordsFrom kinds ends pool fill first j) head args) n s 0 i
 
 abbrev μ-loop : tie.MeasureT-loop
 μ-loop table b x kinds ends pool fill first n rows head args s i₀ i = n - i
