@@ -1,4 +1,6 @@
 // Actions, rule heads and merges, from proof_checker.rs. Pairs are not collected: marks stand for the reflexive ones, and a union's two are tested or kept.
+#![tactic(auto)]
+
 ghost use Rattle.std.specs.Prelude.{◌≡◌, true, false, ◌+◌, ◌≤◌, ◌<◌, length};
 ghost use Rattle.model.specs.Layout.{sizes_of};
 ghost use Rattle.model.specs.Program.{bind, union, run};

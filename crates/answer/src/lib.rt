@@ -1,4 +1,6 @@
 // The answer: eight words, of which the first is the number.
+#![tactic(auto)]
+
 ghost use Rattle.std.specs.Prelude.{◌≡◌, ◌<◌, ◌^◌, length, get_or};
 ghost use Rattle.model.specs.Answer.{refusal_words};
 ghost use Rattle.outcome.specs.Does.{refusal_of};

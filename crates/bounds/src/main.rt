@@ -1,5 +1,7 @@
 // Loads jobs at the limits of document 01 and writes each answer: too few words; every size at its limit and one past it; and
 // the largest terms and pool, all cells as they should be, with the terms as alike as distinct terms can be.
+#![tactic(auto)]
+
 ghost use Rattle.std.specs.Prelude.{◌≡◌, ◌+◌, ◌*◌, ◌≤◌, ◌<◌, length};
 
 use cells::{copy, wide};

@@ -1,4 +1,6 @@
 // A table of cells in three arrays of words: reading a cell, comparing, and adding one. Above, only loading and the search for a name speak of ends.
+#![tactic(auto)]
+
 ghost use Rattle.std.specs.Prelude.{◌≡◌, true, false, ◌+◌, ◌-◌, ◌≤◌, ◌<◌, length, get_or};
 ghost use Rattle.model.specs.Cell.{Cell, no_cell, same_words, same_cell, start_of, cells_of};
 ghost use Rattle.cells.specs.Table.{Formed, find_cell, found_by, put, Ran, add_cell, append_cell, table_of};

@@ -1,5 +1,7 @@
 // Chains of a table's cells by their keys, in words of an array: of each slot the first cell, of each cell the next one of its slot. So the first cell of a key is found
 // without a look at those of other slots, whether a key stands once or again.
+#![tactic(auto)]
+
 ghost use Rattle.std.specs.Prelude.{◌≡◌, true, false, ℕ, ◌+◌, ◌≤◌, ◌<◌, ◌^◌, length};
 ghost use Rattle.cells.specs.Table.{Formed};
 ghost use Rattle.chains.specs.Chains.{key_arguments, has_key, key_slot, words_from, slot_at, same_key, Chained, Within, Emptied, Linked, FirstHit, found_before, Differ};

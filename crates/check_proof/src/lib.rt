@@ -1,4 +1,6 @@
 // `check_proof` of proof_checker.rs, for an admitted job whose terms are in the store: the global actions, then the walk.
+#![tactic(auto)]
+
 ghost use Rattle.std.specs.Prelude.{◌≡◌, ◌<◌};
 ghost use Rattle.model.specs.Layout.{sizes_of};
 ghost use Rattle.model.specs.Walk.{claim_at, check_proof};

@@ -1,4 +1,6 @@
 // The program: reads a job on standard input and writes the eight words of the answer for its last proof.
+#![tactic(auto)]
+
 ghost use Rattle.std.specs.Prelude.{◌≡◌, ◌≤◌, ◌-◌, length};
 ghost use Rattle.model.specs.Layout.{sizes_of};
 ghost use Rattle.model.specs.Host.{words_of, program_answer};

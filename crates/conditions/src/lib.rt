@@ -1,4 +1,6 @@
 // Container side conditions, from proof_checker.rs: what a condition binds.
+#![tactic(auto)]
+
 ghost use Rattle.std.specs.Prelude.{◌≡◌, Bool, List, ℕ, ◌+◌, ◌<◌, length};
 ghost use Rattle.std.proofs.Math.Option.{Option, none, some};
 ghost use Rattle.model.specs.Layout.{sizes_of};

@@ -1,4 +1,6 @@
 // Words from standard input and to standard output, for the programs.
+#![tactic(auto)]
+
 ghost use Rattle.std.specs.Prelude.{◌≤◌, length};
 
 use load::bytes::words_of_bytes;

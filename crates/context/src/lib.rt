@@ -1,4 +1,6 @@
 // `ProofCheckContext::new`, from proof_checker.rs. The global pairs are not collected: marks stand for the reflexive ones, a table of unions for the others.
+#![tactic(auto)]
+
 ghost use Rattle.std.specs.Prelude.{◌≡◌, List, [], ◌+◌, ◌≤◌, ◌<◌, length, drop};
 ghost use Rattle.model.specs.Layout.{sizes_of};
 ghost use Rattle.model.specs.Program as model;

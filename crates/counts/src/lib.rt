@@ -1,4 +1,6 @@
 // Signed counts: the values of the primitives of kinds 4 to 8. No sum, difference or product here passes 64 bits.
+#![tactic(auto)]
+
 ghost use Rattle.std.specs.Prelude.{◌≡◌, List, [], ◌∷◌, cond, not, suc, ◌≤◌, ◌<◌, ◌^◌, ℤ, pos, nat_abs, neg_ℤ, ◌+ℤ◌, ◌*ℤ◌};
 ghost use Rattle.std.proofs.Math.Option.{Option, none};
 ghost use Rattle.std.proofs.Math.IntN.{sub_ℕ};

@@ -1,4 +1,6 @@
 // What a cell says: typed views of its kind and its words. Names, and what is named by number in a table, stay numbers.
+#![tactic(auto)]
+
 ghost use Rattle.std.specs.Prelude.{◌≡◌, [], ◌∷◌, ℕ, ◌+◌, ◌≤◌, ◌<◌, length, get_or, take, drop};
 ghost use Rattle.model.specs.Term.{read_literal, read_term};
 ghost use Rattle.model.specs.Program as program;

@@ -1,5 +1,7 @@
 // Checks the jobs on standard input, each behind its length and its asked proof, and writes the eight words of each answer on a line. The jobs
 // are compare/tools/src/doubling.rs's: by paths they are 2^60 large, and each is answered at once.
+#![tactic(auto)]
+
 ghost use Rattle.std.specs.Prelude.{◌≤◌, ◌<◌, length};
 
 use cells::wide;

@@ -1,4 +1,6 @@
 // The entry of the checker: eight words of answer for a job's words and an asked proof, with lent arrays for the store.
+#![tactic(auto)]
+
 ghost use Rattle.std.specs.Prelude.{◌≡◌, ◌<◌, ◌^◌, length, get_or};
 ghost use Rattle.model.specs.Layout.{sizes_of};
 ghost use Rattle.model.specs.Height.{height};

@@ -1,5 +1,7 @@
 // The value of an expression: `eval_expr_with_subst` of proof_checker.rs, and the method of `ProofStore` that has the same name. Each expression is evaluated at
 // most once in an evaluation.
+#![tactic(auto)]
+
 ghost use Rattle.std.specs.Prelude.{◌≡◌, List, [], ◌∷◌, cond, false, ℕ, suc, ◌+◌, ◌≤◌, ◌<◌, length, get_or, take, drop};
 ghost use Rattle.model.specs.Layout.{sizes_of};
 ghost use Rattle.model.specs.Term.{Term, app};

@@ -1,4 +1,6 @@
 // The ordinary facts of a rule's body against their premises, from proof_checker.rs.
+#![tactic(auto)]
+
 ghost use Rattle.std.specs.Prelude.{◌≡◌, List, ◌+◌, ◌<◌, eqb, length, take};
 ghost use Rattle.std.proofs.Math.Option.{none, some};
 ghost use Rattle.model.specs.Layout.{sizes_of};

@@ -1,4 +1,6 @@
 // Rule heads and merges, from proof_checker.rs: `check_rule_produces_equality` and `run_merge`. A claimed pair is looked for while the actions are evaluated.
+#![tactic(auto)]
+
 ghost use Rattle.std.specs.Prelude.{◌≡◌, true, List, [], ◌∷◌, map, ℕ, ◌≤◌, ◌<◌, length, get_or};
 ghost use Rattle.std.proofs.Math.Option.{none};
 ghost use Rattle.model.specs.Layout.{sizes_of};

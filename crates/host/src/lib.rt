@@ -1,4 +1,6 @@
 // The entries for C and Rust: a job as bytes with a store of the host's own, and a job as words with a lent store.
+#![tactic(auto)]
+
 ghost use Rattle.std.specs.Prelude.{◌≡◌, [], ◌≤◌, length, get_or};
 ghost use Rattle.model.specs.Answer.{entry, refusal_words};
 ghost use Rattle.model.specs.Answer.{check as Answer·check};

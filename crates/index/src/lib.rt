@@ -1,4 +1,6 @@
 // An index of a table's cells in a lent slice, by open addressing: the mix, look-up, adding a cell by it, and listing the cells there are.
+#![tactic(auto)]
+
 ghost use Rattle.std.specs.Prelude.{◌≡◌, ◌+◌, ◌*◌, ◌%◌, ◌^◌, ◌<◌, ◌≤◌, length, replicate, slice_index, slice_set};
 ghost use Rattle.model.specs.Cell.{cell_at, cells_of};
 ghost use Rattle.cells.specs.Table.{Formed, Once, add_cell, table_of};

@@ -1,5 +1,7 @@
 // Lists the integers 0 to 4,999 and the application of name 4 to each in an index of 32,768 slots, and writes how many cells were listed and how many
 // comparisons that took.
+#![tactic(auto)]
+
 ghost use Rattle.std.specs.Prelude.{◌≡◌, length};
 ghost use Rattle.cells.specs.Table.{Formed};
 

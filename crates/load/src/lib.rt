@@ -1,4 +1,6 @@
 // Loading: from a job's words to the refusal below 20, or none. Each test is that of the definitions' Load.
+#![tactic(auto)]
+
 pub mod bytes;
 pub mod sizes;
 pub mod tables;

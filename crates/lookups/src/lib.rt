@@ -1,4 +1,6 @@
 // Look-ups in the tables of an admitted job's program, and the normal form of a container. Where a table has many cells, they are chained by their keys.
+#![tactic(auto)]
+
 ghost use Rattle.std.specs.Prelude.{◌≡◌, Bool, true, false, List, [], ℕ, ◌+◌, ◌≤◌, ◌<◌, length, take};
 ghost use Rattle.std.proofs.Math.Option.{some};
 ghost use Rattle.model.specs.Term as terms;

@@ -1,4 +1,6 @@
 // Marks on the terms of a store, a bit for each, for the reflexive pairs of an evaluation: a mark stands for a term and all its subterms.
+#![tactic(auto)]
+
 ghost use Rattle.std.specs.Prelude.{◌≡◌, true, false, ℕ, ◌-◌, ◌<◌, ◌≤◌, ◌^◌, length};
 ghost use Rattle.termdag.specs.Store.{terms_in, Stored};
 ghost use Rattle.marks.specs.Marks.{zeros, words_for, is_marked, with_mark, mark_all, close_at, close};

@@ -1,5 +1,7 @@
 // The memo of an evaluation: the value of each expression that was evaluated in this round. Word 0 is the round; two words for each expression are the round
 // in which it was evaluated last, and its value; while it is evaluated, the value is the expression that waits for it.
+#![tactic(auto)]
+
 ghost use Rattle.std.specs.Prelude.{◌≡◌, ◌+◌, ◌<◌, length, set, replicate};
 ghost use Rattle.memo.specs.Memo.{value_at, is_noted, put_value, note_at, Past, Started};
 

@@ -1,4 +1,6 @@
 // The merge step of a proof, from `check_proof_with_context` of proof_checker.rs: two views of one function are merged, and the view of the merged value is added.
+#![tactic(auto)]
+
 ghost use Rattle.std.specs.Prelude.{◌≡◌, List, [], ◌∷◌, false, ◌||◌, ◌<◌, eqb, length, set};
 ghost use Rattle.model.specs.Term as terms;
 ghost use Rattle.model.specs.Check.{check_that, add_node};

@@ -73,7 +73,7 @@ is_bare (bare i e) = true
 abbrev pub NoBareCondition : Program → Type 0
 NoBareCondition prog = (r : Rule) → Memᴰ r prog.rules → (f : Fact) → Memᴰ f r.facts → is_container_side_condition prog f ≡ true → is_bare f ≡ false
 
-module _ {prog : Program} (none_bare : NoBareCondition prog) where
+module _ (prog : Program) (none_bare : NoBareCondition prog) where
   conditions-alike : (room : Room) (strict strict' : Bool) (r : Rule) → Memᴰ r prog.rules → ModesAlike room prog strict strict' r.facts
   conditions-alike room strict strict' r m f k c = go f (none_bare r m f k c)
     where
@@ -89,7 +89,7 @@ module _ {prog : Program} (none_bare : NoBareCondition prog) where
 
 loaded-alike : (job : Job) → NoBareCondition job.program → (p : ℕ) (a : Arrays) (o : Option Refusal) → loaded job p false a o ≡ loaded job p true a o
 unfolding checked
-loaded-alike job none_bare p a none = ap (checked_by job p a) (proofs-alike none_bare _ job.proofs false true p job.terms)
+loaded-alike job none_bare p a none = ap (checked_by job p a) (proofs-alike job.program none_bare _ job.proofs false true p job.terms)
 loaded-alike job none_bare p a (some r) = refl
 
 -- WHERE THE MODES AGREE: on a job without bare container conditions the entry returns and leaves the same in both modes, for whatever it is handed

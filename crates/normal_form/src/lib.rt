@@ -1,4 +1,6 @@
 // Proof normal form of a rule's body: `assert_body_proof_normal_form` and `is_container_side_condition` of proof_checker.rs. Each expression is searched once.
+#![tactic(auto)]
+
 ghost use Rattle.std.specs.Prelude.{◌≡◌, List, true, ℕ, ◌/◌, ◌≤◌, ◌<◌, length};
 ghost use Rattle.model.specs.Layout.{sizes_of};
 ghost use Rattle.model.specs.Term.{Term};

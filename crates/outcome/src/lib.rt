@@ -1,4 +1,6 @@
 // What a check gives: a value or a refusal, and the fill of the store after it.
+#![tactic(auto)]
+
 ghost use Rattle.std.specs.Prelude.{◌≡◌, [], ◌∷◌, ◌≤◌, ◌<◌, ◌^◌, length};
 ghost use Rattle.model.specs.Term.{lit, app};
 ghost use Rattle.model.specs.Check.{add_node};

@@ -1,4 +1,6 @@
 // The pairs of an evaluation as marks: the value of each expression that was evaluated is marked.
+#![tactic(auto)]
+
 ghost use Rattle.std.specs.Prelude.{◌≡◌, ◌+◌, ◌<◌, length};
 ghost use Rattle.pairs.specs.Marking.{mark_value, mark_values};
 

@@ -1,4 +1,6 @@
 // The start of the entry: a job's words are loaded, and its terms copied into the lent arrays and listed in the lent index.
+#![tactic(auto)]
+
 ghost use Rattle.std.specs.Prelude.{◌≡◌, [], ◌∷◌};
 ghost use Rattle.model.specs.Layout.{sizes_of, kinds_of, ends_of, pool_of};
 ghost use Rattle.termdag.specs.Store.{Loaded as TermsLoaded};

@@ -1,4 +1,6 @@
 // Look-ups of a name in pairs, and of a primitive by its number.
+#![tactic(auto)]
+
 pub mod job;
 pub mod read;
 

@@ -1,4 +1,6 @@
 // Replays the fixed list of the Rust's answers and stores, on standard input, in mode 0. Its format stands in compare/data/fixed_list.txt.
+#![tactic(auto)]
+
 ghost use Rattle.std.specs.Prelude.{◌≡◌, ◌+◌, ◌≤◌, ◌<◌, length};
 
 use cells::wide;

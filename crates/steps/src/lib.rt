@@ -1,4 +1,6 @@
 // Proof steps other than a rule's, from `check_proof_with_context` of proof_checker.rs: what they do once the proofs that they refer to are checked.
+#![tactic(auto)]
+
 ghost use Rattle.std.specs.Prelude.{◌≡◌, List, cond, ◌≤◌, ◌<◌, length};
 ghost use Rattle.model.specs.Layout.{sizes_of};
 ghost use Rattle.model.specs.Check.{Room};

@@ -1,4 +1,6 @@
 // The term table of termdag.rs over three lent arrays: reading a term, adding a literal or an application, and loading the job's terms.
+#![tactic(auto)]
+
 ghost use Rattle.std.specs.Prelude.{◌≡◌, ◌≤◌, ◌<◌, length, get_or, drop};
 ghost use Rattle.std.proofs.Math.Option.{some};
 ghost use Rattle.model.specs.Cell.{cells_of};

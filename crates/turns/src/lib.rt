@@ -1,4 +1,6 @@
 // A step turn by turn: the proofs that it needs, what is done before and after each, and what ends the step. Nothing here walks a proof.
+#![tactic(auto)]
+
 ghost use Rattle.std.specs.Prelude.{◌≡◌, ◌+◌, ◌≤◌, ◌<◌, true, false, length, get_or, drop};
 ghost use Rattle.model.specs.Fact.{is_container_side_condition};
 ghost use Rattle.model.specs.Layout.{sizes_of};

@@ -1,4 +1,6 @@
 // The walk over the proofs: `check_proof_with_context` of proof_checker.rs. Each proof is checked once; a reference has a lower number.
+#![tactic(auto)]
+
 ghost use Rattle.std.specs.Prelude.{◌≡◌, true, List, suc, ◌+◌, ◌<◌, ◌≤◌, max, length, get_or, set};
 ghost use Rattle.model.specs.Layout.{sizes_of};
 ghost use Rattle.model.specs.Program.{Binding};
