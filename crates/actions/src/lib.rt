@@ -22,7 +22,7 @@ use program::job::{EXPRESSIONS, size};
 use program::read::action_at;
 
 // What an action did: bound a name to a term, joined two terms, or neither.
-#[derive(Drop)]
+#[derive(Clone, Copy)]
 pub enum Effect {
     Bind(u32, u32),
     Union(u32, u32),
@@ -30,7 +30,7 @@ pub enum Effect {
 }
 
 // What an action gives.
-#[derive(Drop)]
+#[derive(Clone, Copy)]
 pub struct Acted {
     pub refusal: Refusal,
     pub effect: Effect,

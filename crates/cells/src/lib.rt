@@ -6,21 +6,21 @@ ghost use Rattle.model.specs.Cell.{Cell, no_cell, same_words, same_cell, start_o
 ghost use Rattle.cells.specs.Table.{Formed, find_cell, found_by, put, Ran, add_cell, append_cell, table_of};
 
 // How much of a table is in use: the number of cells, and of pool words.
-#[derive(Drop)]
+#[derive(Clone, Copy)]
 pub struct Fill {
     pub cells: usize,
     pub words: usize,
 }
 
 // The number of the first cell that equals one looked for.
-#[derive(Drop)]
+#[derive(Clone, Copy)]
 pub enum Found {
     At(usize),
     Nothing,
 }
 
 // The number of a cell and the fill after. Where the table was full the number means nothing and the fill is as before.
-#[derive(Drop)]
+#[derive(Clone, Copy)]
 pub struct Added {
     pub number: u32,
     pub full: bool,
@@ -28,7 +28,7 @@ pub struct Added {
 }
 
 // What entering a cell gives beside the fill, which is lent: its number, and whether the table was full.
-#[derive(Drop)]
+#[derive(Clone, Copy)]
 pub struct Entered {
     pub number: u32,
     pub full: bool,

@@ -28,7 +28,7 @@ use program::Looked;
 use program::read::fact_at;
 
 // The value of a condition's side, if it has one.
-#[derive(Drop)]
+#[derive(Clone, Copy)]
 pub struct Side {
     pub refusal: Refusal,
     pub value: Looked,
@@ -36,14 +36,14 @@ pub struct Side {
 }
 
 // What a condition binds: nothing, or a name to a term.
-#[derive(Drop)]
+#[derive(Clone, Copy)]
 pub enum Binds {
     Nothing,
     Pair(u32, u32),
 }
 
 // What a condition gives.
-#[derive(Drop)]
+#[derive(Clone, Copy)]
 pub struct Condition {
     pub refusal: Refusal,
     pub binds: Binds,

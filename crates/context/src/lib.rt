@@ -24,7 +24,7 @@ use program::Looked;
 use program::job::globals;
 
 // What the global actions leave: where the bindings start in their table, the words of unions in theirs, and the fill of the store.
-#[derive(Drop)]
+#[derive(Clone, Copy)]
 pub struct Globals {
     pub refusal: Refusal,
     pub bindings: usize,

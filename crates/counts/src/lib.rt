@@ -12,14 +12,14 @@ ghost use Rattle.counts.specs.Counted.{integer, counted, Reads, Near, Given};
 use decode::Literal;
 
 // An integer: size, or -(size + 1) where it is below 0.
-#[derive(Drop)]
+#[derive(Clone, Copy)]
 pub struct Integer {
     pub below: bool,
     pub size: u64,
 }
 
 // A value, by its two words, or none.
-#[derive(Drop)]
+#[derive(Clone, Copy)]
 pub struct Count {
     pub has: bool,
     pub low: u32,

@@ -9,7 +9,7 @@ ghost use Rattle.model.specs.Decode.{read_head, read_arguments, read_fact, read_
 ghost use Rattle.decode.specs.View.{cell, literal_of, term_of, head_of, fact_of, action_of, function_of, primitive_of, row_of, normaliser_of, proposition_of, rule_premises, rule_pairs, Justifies};
 
 // A name, by the number that a job gives it.
-#[derive(Drop)]
+#[derive(Clone, Copy)]
 pub struct Name {
     pub number: u32,
 }
@@ -26,7 +26,7 @@ impl Name {
 }
 
 // A literal's three words.
-#[derive(Drop)]
+#[derive(Clone, Copy)]
 pub struct Literal {
     pub kind: u32,
     pub low: u32,
@@ -34,7 +34,7 @@ pub struct Literal {
 }
 
 // A term: a literal, a variable's name, or the head of an application, whose children `read_arguments` gives.
-#[derive(Drop)]
+#[derive(Clone, Copy)]
 pub enum Term {
     Lit(Literal),
     Var(u32),
@@ -42,7 +42,7 @@ pub enum Term {
 }
 
 // What stands at the top of an expression: a call of a constructor or a function by name, of a primitive by number.
-#[derive(Drop)]
+#[derive(Clone, Copy)]
 pub enum Head {
     Lit(Literal),
     Var(u32),
@@ -52,14 +52,14 @@ pub enum Head {
 }
 
 // A fact: two expressions that are equal, or one.
-#[derive(Drop)]
+#[derive(Clone, Copy)]
 pub enum Fact {
     Equal(u32, u32),
     Bare(u32),
 }
 
 // An action: let, with its name; union; set or expression; panic or change.
-#[derive(Drop)]
+#[derive(Clone, Copy)]
 pub enum Action {
     Let(u32, u32),
     Union(u32, u32),
@@ -68,21 +68,21 @@ pub enum Action {
 }
 
 // A function's merge: none, or an expression.
-#[derive(Drop)]
+#[derive(Clone, Copy)]
 pub enum Merge {
     Nothing,
     Expr(u32),
 }
 
 // A function: its name and its merge.
-#[derive(Drop)]
+#[derive(Clone, Copy)]
 pub struct Function {
     pub name: u32,
     pub merge: Merge,
 }
 
 // A primitive: whether it has a validator, and whether its output is a container sort. The validator of kinds 4 to 8 computes.
-#[derive(Drop)]
+#[derive(Clone, Copy)]
 pub struct Primitive {
     pub name: u32,
     pub kind: u32,
@@ -91,35 +91,35 @@ pub struct Primitive {
 }
 
 // What a primitive gives for the arguments that `row_arguments` has.
-#[derive(Drop)]
+#[derive(Clone, Copy)]
 pub struct Row {
     pub primitive: u32,
     pub result: u32,
 }
 
 // The primitive that normalises containers of this head.
-#[derive(Drop)]
+#[derive(Clone, Copy)]
 pub struct Normaliser {
     pub head: u32,
     pub primitive: u32,
 }
 
 // Two terms, said to be equal.
-#[derive(Drop)]
+#[derive(Clone, Copy)]
 pub struct Proposition {
     pub lhs: u32,
     pub rhs: u32,
 }
 
 // A step by a rule: its name and the number of its premises.
-#[derive(Drop)]
+#[derive(Clone, Copy)]
 pub struct RuleStep {
     pub name: u32,
     pub premises: u32,
 }
 
 // A step by a function's merge.
-#[derive(Drop)]
+#[derive(Clone, Copy)]
 pub struct MergeStep {
     pub function: u32,
     pub old_proof: u32,
@@ -127,7 +127,7 @@ pub struct MergeStep {
 }
 
 // A step by congruence: the child of this index is replaced.
-#[derive(Drop)]
+#[derive(Clone, Copy)]
 pub struct CongrStep {
     pub proof: u32,
     pub child_index: u32,
@@ -135,7 +135,7 @@ pub struct CongrStep {
 }
 
 // Why a proof holds; other proofs are given by number.
-#[derive(Drop)]
+#[derive(Clone, Copy)]
 pub enum Justification {
     Fiat,
     Rule(RuleStep),

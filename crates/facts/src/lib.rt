@@ -30,7 +30,7 @@ use program::Looked;
 use program::read::{arguments_at, fact_at, head_at};
 
 // What a fact asks its premise to prove.
-#[derive(Drop)]
+#[derive(Clone, Copy)]
 pub struct Asked {
     pub refusal: Refusal,
     pub pair: Proposition,
@@ -38,7 +38,7 @@ pub struct Asked {
 }
 
 // A custom call = variable: the function and the variable.
-#[derive(Drop)]
+#[derive(Clone, Copy)]
 pub enum FunctionCall {
     No,
     Call(u32, u32),

@@ -32,7 +32,7 @@ use program::job::{EXPRESSIONS, size};
 use program::read::{action_at, rule_actions_at, rule_name_at};
 
 // What a head's actions give: whether the claimed pair, if it is not reflexive, is among their pairs.
-#[derive(Drop)]
+#[derive(Clone, Copy)]
 pub struct Headed {
     pub refusal: Refusal,
     pub found: bool,

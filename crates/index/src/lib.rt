@@ -11,7 +11,7 @@ use cells::{same, wide, words};
 use std::num::wrapping_add_u32;
 
 // How much of an indexed table is in use, the number of cells and of pool words, and the multiplier of its index.
-#[derive(Drop)]
+#[derive(Clone, Copy)]
 pub struct Fill {
     pub cells: usize,
     pub words: usize,
@@ -19,7 +19,7 @@ pub struct Fill {
 }
 
 // The number of a cell and the fill after. Where the table was full the number is 0 and the fill is as before.
-#[derive(Drop)]
+#[derive(Clone, Copy)]
 pub struct Added {
     pub number: u32,
     pub full: bool,
@@ -27,7 +27,7 @@ pub struct Added {
 }
 
 // What a look-up finds: the number of an equal cell plus one, else 0 and the slot at which the cell is to be listed; and how many cells it compared.
-#[derive(Drop)]
+#[derive(Clone, Copy)]
 pub struct Probe {
     pub entry: u32,
     pub slot: usize,
@@ -35,7 +35,7 @@ pub struct Probe {
 }
 
 // How many cells were listed, and how many comparisons that took.
-#[derive(Drop)]
+#[derive(Clone, Copy)]
 pub struct Tally {
     pub listed: usize,
     pub compared: usize,

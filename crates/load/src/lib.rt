@@ -19,7 +19,7 @@ use cells::{Found, start, wide};
 use index::fill_once;
 
 // What loading answers: the job is admitted, the host is at fault, or the job's writer, with the least cell.
-#[derive(Drop)]
+#[derive(Clone, Copy)]
 pub enum Loaded {
     Admitted,
     Host(u32),

@@ -6,7 +6,7 @@ ghost use Rattle.load.specs.Held.{sizes_in, Words, counts_of};
 
 use cells::wide;
 
-#[derive(Drop)]
+#[derive(Clone, Copy)]
 pub struct Sizes {
     pub terms: usize,
     pub expressions: usize,

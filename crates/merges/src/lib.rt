@@ -28,7 +28,7 @@ use program::Looked;
 use termdag::children;
 
 // Two views to merge: their function and their values.
-#[derive(Drop)]
+#[derive(Clone, Copy)]
 struct Views {
     refusal: Refusal,
     head: u32,

@@ -21,7 +21,7 @@ use program::read::{arguments_at, fact_at, head_at};
 use program::{Looked, primitive_at};
 
 // An argument, by its expression number, that is not in proof normal form, or none.
-#[derive(Drop)]
+#[derive(Clone, Copy)]
 pub enum Offence {
     None,
     PrimitiveNonNormalArg(u32),

@@ -12,7 +12,7 @@ use decode::Literal;
 use index::{Added, Fill};
 
 // A refusal: its number, and its fields, of which the first `count` are used. The number 0 is none.
-#[derive(Drop)]
+#[derive(Clone, Copy)]
 pub struct Refusal {
     pub number: u32,
     pub count: usize,
@@ -20,7 +20,7 @@ pub struct Refusal {
 }
 
 // What a check gives: a value, unless there is a refusal, and the fill of the store.
-#[derive(Drop)]
+#[derive(Clone, Copy)]
 pub struct Checked {
     pub refusal: Refusal,
     pub value: u32,

@@ -13,7 +13,7 @@ use outcome::Refusal;
 use program::job::load_terms;
 
 // What preparing gives: the refusal below 20, whose number is 0 for none, and the fill of the store.
-#[derive(Drop)]
+#[derive(Clone, Copy)]
 pub struct Prepared {
     pub refusal: Refusal,
     pub fill: Fill,

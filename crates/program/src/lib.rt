@@ -15,7 +15,7 @@ use crate::job::{PRIMITIVES, kind_at, words_at};
 use decode::{Primitive, read_primitive};
 
 // What a look-up gives.
-#[derive(Drop)]
+#[derive(Clone, Copy)]
 pub enum Looked {
     Some(u32),
     None,

@@ -8,7 +8,7 @@ use console::read_words;
 use entry::check;
 
 // How a job of the list went.
-#[derive(Drop)]
+#[derive(Clone, Copy)]
 enum Replayed {
     Accepted,
     Refused,

@@ -33,7 +33,7 @@ use program::read::{claim_at, justification_at, premises_at, rule_facts_at, subs
 use steps::conclude;
 
 // What a step refers to: whether it is a rule's, else the proofs that it needs, at most two.
-#[derive(Drop)]
+#[derive(Clone, Copy)]
 pub struct Needs {
     pub rule: bool,
     pub name: u32,
@@ -110,7 +110,7 @@ fn operands(job: &[u32], p: u32) -> Needs
 }
 
 // What a step takes. A rule's: the rule of number r, whose name is `first`, with so many facts. Another's: the first so many of two proofs. Or the step's refusal.
-#[derive(Drop)]
+#[derive(Clone, Copy)]
 pub struct Plan {
     pub refusal: Refusal,
     pub rule: bool,
@@ -121,7 +121,7 @@ pub struct Plan {
 }
 
 // How far a stage of a step came: whether it is over, and what it bound.
-#[derive(Drop)]
+#[derive(Clone, Copy)]
 pub struct Stage {
     pub refusal: Refusal,
     pub settled: bool,
