@@ -1,0 +1,32 @@
+use mathlib.Core.Path.{refl, sym, ◌∙◌}
+use native.Mathlib.Omega.{arith}
+use Prim.Native.Nat.{◌-◌}
+use lib.ListN.{length}
+use Rattle.cells.proofs.Laws.{same_length, same-no, same-yes, same_end}
+use Rattle.cells.proofs.same_words.Goals as goal
+
+pub returns-then-a-b : goal.returns-then-a-b
+returns-then-a-b c = sym (same_length c.args.a.now c.args.b.now c.if-a-b.true)
+
+pub loop-k-init : goal.loop-k-init
+loop-k-init c = (omega arith, omega arith, refl)
+
+pub returns-then-a-k : goal.returns-then-a-k
+returns-then-a-k c = let l = c in
+    let s = l in
+    let a = s.args.a.now in
+    let b = s.args.b.now in
+    let i = l.loop-k.invariant in
+    sym (i.2 ∙ same-no a b l.loop-k.k (omega arith) (omega arith) c.if-a-k.true)
+
+pub loop-k-preserved : goal.loop-k-preserved
+loop-k-preserved c = let l = c in
+    let s = l in
+    let a = s.args.a.now in
+    let b = s.args.b.now in
+    let i = l.loop-k.invariant in
+    (omega arith, omega arith, i.2 ∙ same-yes a b l.loop-k.k (omega arith) (omega arith) c.if-a-k.false)
+
+pub returns : goal.returns
+returns c = let i = c.loop-k.invariant in
+    sym (i.2 ∙ same_end _ _ c.loop-k.k (omega arith) (omega arith))
