@@ -105,7 +105,8 @@ def main(root):
     changed = 0
     for p in specs + lemmas + walks + sources + edits:
         t = read(p)
-        n = word.sub(lambda m: turned.get(m.group(), m.group()), t)
+        kept = LEMMAS if p in sources or p in edits else {}
+        n = word.sub(lambda m: m.group() if m.group() in kept or t[max(0, m.start() - 1)] == "." and m.group() in LEMMAS else turned.get(m.group(), m.group()), t)
         if n != t:
             changed += 1
             with open(p, "w", encoding="utf-8") as f:

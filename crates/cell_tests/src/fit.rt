@@ -72,7 +72,7 @@ pub fn row_fits(kind: u32, ws: &[u32]) -> bool
     (kind == 0) & ((2 <= ws.len()) & (ws.len() <= 18))
 }
 
-pub fn rule_fits_lem(kind: u32, ws: &[u32]) -> bool
+pub fn rule_fits(kind: u32, ws: &[u32]) -> bool
     ensures { result ≡ rule_fits (record { kind = kind; words = ws.now }) }
 {
     let n = wide(at(ws, 1));

@@ -222,7 +222,7 @@ fn quotient(a: Integer, b: Integer) -> Count
 }
 
 // What a kind makes of one integer.
-fn of_one_lem(kind: u32, a: Integer) -> Count
+fn of_one(kind: u32, a: Integer) -> Count
     requires { a.size < 2 ^ 63 }
     ensures { counted result ≡ of_one kind (integer a) >>? fitting }
 {
@@ -233,7 +233,7 @@ fn of_one_lem(kind: u32, a: Integer) -> Count
 }
 
 // What a kind makes of two.
-fn of_two_lem(kind: u32, a: Integer, b: Integer) -> Count
+fn of_two(kind: u32, a: Integer, b: Integer) -> Count
     requires size_bound { a.size < 2 ^ 63 }
     requires size_bound_2 { b.size < 2 ^ 63 }
     ensures { counted result ≡ of_two kind (integer a) (integer b) >>? fitting }
@@ -254,7 +254,7 @@ fn one(kind: u32, a: Literal) -> Count
     if a.kind != 2 {
         return no_value();
     }
-    of_one_lem(kind, int_of(a.low, a.high))
+    of_one(kind, int_of(a.low, a.high))
 }
 
 // The value for two arguments.
@@ -267,7 +267,7 @@ fn two(kind: u32, a: Literal, b: Literal) -> Count
     if b.kind != 2 {
         return no_value();
     }
-    of_two_lem(kind, int_of(a.low, a.high), int_of(b.low, b.high))
+    of_two(kind, int_of(a.low, a.high), int_of(b.low, b.high))
 }
 
 // The value of a primitive of kind 4 to 8 for `count` arguments, of which a and b are the first two.

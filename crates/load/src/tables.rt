@@ -86,7 +86,7 @@ pub fn fits(
         return fit::row_fits(kind, ws);
     }
     if table == 8 {
-        return fit::rule_fits_lem(kind, ws);
+        return fit::rule_fits(kind, ws);
     }
     if table == 9 {
         return fit::proof_fits(kind, ws);
