@@ -86,11 +86,25 @@ pub record BySigns (f : ℤ → ℤ → ℤ) (g : ℕ → ℕ → ℕ) : Type 0 
       f a b ≡ signed_by (cond s (not t) t) (g (nat_abs a) (nat_abs b))
 
 -- The product and the quotient do.
+times-signs : (s t : Bool) (m n : ℕ) → let a = cond s (negsuc m) (pos m) in let b = cond t (negsuc n) (pos n) in
+    ◌*ℤ◌ a b ≡ signed_by (cond s (not t) t) (◌*◌ (nat_abs a) (nat_abs b))
+times-signs true true m n = refl
+times-signs true false m n = refl
+times-signs false true m n = refl
+times-signs false false m n = refl
+
 pub times : BySigns ◌*ℤ◌ ◌*◌
-times = record { is = λ s t m n. elim s [ true ↦ elim t [ true ↦ refl | false ↦ refl ] | false ↦ elim t [ true ↦ refl | false ↦ refl ] ] }
+times = record { is = times-signs }
+
+over-signs : (s t : Bool) (m n : ℕ) → let a = cond s (negsuc m) (pos m) in let b = cond t (negsuc n) (pos n) in
+    quot_z a b ≡ signed_by (cond s (not t) t) (◌/◌ (nat_abs a) (nat_abs b))
+over-signs true true m n = refl
+over-signs true false m n = refl
+over-signs false true m n = refl
+over-signs false false m n = refl
 
 pub over : BySigns quot_z ◌/◌
-over = record { is = λ s t m n. elim s [ true ↦ elim t [ true ↦ refl | false ↦ refl ] | false ↦ elim t [ true ↦ refl | false ↦ refl ] ] }
+over = record { is = over-signs }
 
 signed-zero : (t : Bool) (n : ℕ) → n ≡ 0 → signed_by t n ≡ pos 0
 signed-zero true n e = rw e

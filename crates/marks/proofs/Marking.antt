@@ -59,10 +59,10 @@ marks-same to back w = record { inside = w.inside; sound = λ x c. to x (w.sound
 
 -- the store may grow
 pub covered-extends : {s s' : List Term} {m : List ℕ} → Ordered s → Extends s s' → ((t : ℕ) → Marked m t → t < length s) → (x : ℕ) → Covered s m x → Covered s' m x
-covered-extends {s} {s'} o e i x c = record { root = c.root; marked = c.marked; under = under-extends s s' o e c.root x (i c.root c.marked) c.under }
+covered-extends {s} {s'} o e i x c = record { root = c.root; marked = c.marked; under = under-extends s s' o e x c.root (i c.root c.marked) c.under }
 
 pub covered-back : {s s' : List Term} {m : List ℕ} → Ordered s → Extends s s' → ((t : ℕ) → Marked m t → t < length s) → (x : ℕ) → Covered s' m x → Covered s m x
-covered-back {s} {s'} o e i x c = record { root = c.root; marked = c.marked; under = under_back s s' o e c.root x (i c.root c.marked) c.under }
+covered-back {s} {s'} o e i x c = record { root = c.root; marked = c.marked; under = under_back s s' o e x c.root (i c.root c.marked) c.under }
 
 pub marks-extends : {s s' : List Term} {m : List ℕ} {ps : List Proposition} → Ordered s → Extends s s' → Marks s m ps → Marks s' m ps
 marks-extends {s} {s'} o e w = let l : length s ≤ length s' = extends-length e in record {

@@ -66,18 +66,18 @@ under-reflexive s o t x u = mathlib.Core.List.Memᴰ.map same (under-sub s o (su
 
 -- a later store has the same subterms
 module _ (s s' : List Term) (o : Ordered s) (e : Extends s s') where
-  pub under-extends : (t x : ℕ) → t < length s → Under s x t → Under s' x t
-  under-extends t x h (here q) = here q
-  under-extends t x h (down {c = c} m u) =
+  pub under-extends : (x t : ℕ) → t < length s → Under s x t → Under s' x t
+  under-extends x t h (here q) = here q
+  under-extends x t h (down {c = c} m u) =
       let l = child-lower s o t c m in
-      down (subst (λ (q : Option Term). Memᴰ c (children q)) (sym (get-extends s s' e t h)) m) (under-extends c x (omega arith) u)
+      down (subst (λ (q : Option Term). Memᴰ c (children q)) (sym (get-extends s s' e t h)) m) (under-extends x c (omega arith) u)
 
-  pub under_back : (t x : ℕ) → t < length s → Under s' x t → Under s x t
-  under_back t x h (here q) = here q
-  under_back t x h (down {c = c} m u) =
+  pub under_back : (x t : ℕ) → t < length s → Under s' x t → Under s x t
+  under_back x t h (here q) = here q
+  under_back x t h (down {c = c} m u) =
       let m' : Memᴰ c (children (get_term s t)) = subst (λ (q : Option Term). Memᴰ c (children q)) (get-extends s s' e t h) m in
       let l = child-lower s o t c m' in
-      down m' (under_back c x (omega arith) u)
+      down m' (under_back x c (omega arith) u)
 
 -- the test for a reflexive pair decides membership
 or-also : (a b : Bool) → b ≡ true → (a || b) ≡ true

@@ -198,13 +198,13 @@ module _ (cells : List Cell) (lower : (e : ℕ) → Below e (read_arguments (get
         reaches = here refl;
         term = v.term;
         value = later s'' w;
-        under = under-extends s' s'' a.sane.ordered w v.term x a.inside (reflexive-under s' v.term x m);
+        under = under-extends s' s'' a.sane.ordered w x v.term a.inside (reflexive-under s' v.term x m);
       }
 
       back-cases : (s'' : List Term) → Extends s' s'' → (x k t : ℕ) → eval k s'' ≡ ok t s'' → Under s'' x t → Reaches arguments k e → Memᴰ (same x) (own ++ reflexive s' v.term)
       back-cases s'' w x k t q u (here r) =
           let i : t ≡ v.term = same-value (sym q ∙ ap (λ (j : ℕ). eval j s'') r ∙ later s'' w) in
-          Memᴰ.append_right own (under-reflexive s' a.sane.ordered v.term x (under_back s' s'' a.sane.ordered w v.term x a.inside (subst (Under s'' x) i u)))
+          Memᴰ.append_right own (under-reflexive s' a.sane.ordered v.term x (under_back s' s'' a.sane.ordered w x v.term a.inside (subst (Under s'' x) i u)))
       back-cases s'' w x k t q u (down {a = b} m r) =
           Memᴰ.append_left (reflexive s' v.term) (subst (Memᴰ (same x)) (sym (head-all (get_or cells e no_cell) b m h.values.pairs))
           (h.arguments.back s'' (extends-then h.grows w) b x m (record { at = k; reaches = r; term = t; value = q; under = u })))

@@ -16,7 +16,7 @@ loop-i-init c = let a = c.args in
     (chained-none (slot_at a.x a.n a.rows (words_from a.kinds.now a.ends.now a.pool.now a.fill a.first)) c.requires.n_in_bounds e, within_same a.b (a.n + a.n) _, omega arith)
 
 pub link-requires : goal.link-requires
-link-requires c = record { n_in_bounds = c.loop-i.invariant.0.long; s_lt_n = c.slot_of-s.ensures.1; i_lt_n = omega (arith, c.loop-i.invariant.2, c.loop-i-test.true); n_bound = omega (arith, c.requires.formed.few, c.requires.formed.kinds, c.requires.n_bound); }
+link-requires c = record { n_in_bounds = c.loop-i.invariant.0.long; s_lt_n = c.slot_of-s.ensures.within; i_lt_n = omega (arith, c.loop-i.invariant.2, c.loop-i-test.true); n_bound = omega (arith, c.requires.formed.few, c.requires.formed.kinds, c.requires.n_bound); }
 
 pub loop-i-preserved : goal.loop-i-preserved
 loop-i-preserved c = let a = c.args in
@@ -26,11 +26,11 @@ loop-i-preserved c = let a = c.args in
     let l = c.loop-i.invariant in
     let e = c.link.ensures in
     let s = c.slot_of-s.result in
-    let q : s ≡ slot i = c.slot_of-s.ensures.0
+    let q : s ≡ slot i = c.slot_of-s.ensures.is
     ∙ ap₂ (key_slot a.x a.n) (c.at.ensures ∙ ap (λ (us : List ℕ). get_or us 0 0) c.words-ws.ensures) (c.key_arguments.ensures ∙ ap (key_arguments a.rows) c.words-ws.ensures) in
     let back : c.loop-i.i ≡ suc i = omega (arith, c.loop-i-test.true) in
     let h : i < a.n = omega (arith, l.2, c.loop-i-test.true) in
-    (chained_more e h c.slot_of-s.ensures.1 q (subst (λ (m : ℕ). Chained slot a.n a.b m c.loop-i.table) back l.0), within-linked e h c.slot_of-s.ensures.1 l.1, omega arith)
+    (chained_more e h c.slot_of-s.ensures.within q (subst (λ (m : ℕ). Chained slot a.n a.b m c.loop-i.table) back l.0), within-linked e h c.slot_of-s.ensures.within l.1, omega arith)
 
 pub shape_of-table : goal.shape_of-table
 shape_of-table c = c.loop-i.invariant.1.even ∙ c.empty.ensures.within.even

@@ -8,4 +8,4 @@ pub returns-then-a-ne2 : goal.returns-then-a-ne2
 returns-then-a-ne2 c = c.no_value.ensures ∙ sym (value-one-none _ (count_none (literal_of c.args.a) c.if-a-ne2.true))
 
 pub returns : goal.returns
-returns c = c.of_one_lem.ensures ∙ value-one _ (count-is (literal_of c.args.a) c.if-a-ne2.false ∙ ap some (sym c.Int-of.ensures.is))
+returns c = c.of_one.ensures ∙ value-one _ (count-is (literal_of c.args.a) c.if-a-ne2.false ∙ ap some (sym c.int_of.ensures.is))

@@ -11,4 +11,4 @@ pub returns-then-b-ne2 : goal.returns-then-b-ne2
 returns-then-b-ne2 c = c.no_value-then-b-ne2.ensures ∙ sym (value-two-right _ _ (count_none (literal_of c.args.b) c.if-b-ne2.true))
 
 pub returns : goal.returns
-returns c = c.of_two_lem.ensures ∙ value-two _ (count-is (literal_of c.args.a) c.if-a-ne2.false ∙ ap some (sym c.Int-of.ensures.is)) (count-is (literal_of c.args.b) c.if-b-ne2.false ∙ ap some (sym c.int_of-2.ensures.is))
+returns c = c.of_two.ensures ∙ value-two _ (count-is (literal_of c.args.a) c.if-a-ne2.false ∙ ap some (sym c.int_of.ensures.is)) (count-is (literal_of c.args.b) c.if-b-ne2.false ∙ ap some (sym c.int_of-2.ensures.is))
