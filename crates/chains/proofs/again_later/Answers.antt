@@ -25,4 +25,4 @@ pub loop-k-preserved : goal.loop-k-preserved
 loop-k-preserved c = let a = c.args in let k = c.loop-k.k in let miss = ap (λ us. has_key a.rows us c.at-head.result c.key_arguments-args.result.now) (sym c.words-ws.ensures) ∙ sym c.has_key.ensures ∙ c.if-has_key.false in rw c.wide-k-in-loop-k.ensures (passed-more (own-slot a.rows (words_from a.kinds.now a.ends.now a.pool.now a.fill a.first) a.i c.words-own.ensures c.at-head.ensures c.key_arguments-args.ensures a.x a.n) c.loop-k.invariant c.loop-k-test.true miss (c.requires.chained.numbers k (omega arith) c.loop-k-test.true))
 
 pub returns : goal.returns
-returns c = λ e j u w. let a = c.args in sym (own_key a.rows (words_from a.kinds.now a.ends.now a.pool.now a.fill a.first) a.i c.words-own.ensures c.at-head.ensures c.key_arguments-args.ensures j) ∙ c.loop-k.invariant j u (omega arith)
+returns c = λ e j u w. let a = c.args in sym (own_key a.rows (words_from a.kinds.now a.ends.now a.pool.now a.fill a.first) a.i c.words-own.ensures c.at-head.ensures c.key_arguments-args.ensures j) ∙ c.loop-k.invariant.before j u (omega arith)
