@@ -12,16 +12,17 @@ use Rattle.load.proofs.load_cells.Goals as goal
 pub returns-then-not-ends_rise : goal.returns-then-not-ends_rise
 returns-then-not-ends_rise c = let a = c.args in
     let l : Lent = record { kinds = a.lent-kinds; ends = a.lent-ends; pool = a.lent-pool; index = length a.index.now; scratch = a.scratch } in
-    let t = tables_for a.kinds.now a.ends.now a.pool.now a.z in let made = (refuses-5 a.ends.now (sizes_in a.z) t l (sym c.ends_rise.ensures ∙ c.if-not-ends_rise.true, not-admitted _ _ refl) in record { refusal = made.0; lists = made.1; }
+    let t = tables_for a.kinds.now a.ends.now a.pool.now a.z in
+    record { refusal = refuses-5 a.ends.now (sizes_in a.z) t l (sym c.ends_rise.ensures ∙ c.if-not-ends_rise.true); lists = not-admitted _ _ refl; }
 
 pub known_terms-distinct-requires : goal.known_terms-distinct-requires
-known_terms-distinct-requires c = held-of c.requires (sym c.ends_rise.ensures ∙ c.if-not-ends_rise.false
+known_terms-distinct-requires c = held-of c.requires (sym c.ends_rise.ensures ∙ c.if-not-ends_rise.false)
 
 pub writer_refusal-w-requires : goal.writer_refusal-w-requires
-writer_refusal-w-requires c = let made = (held-of c.requires (sym c.ends_rise.ensures ∙ c.if-not-ends_rise.false, c.known_terms-distinct.ensures.distinct) in record { held = made.0; distinct = made.1; }
+writer_refusal-w-requires c = record { held = held-of c.requires (sym c.ends_rise.ensures ∙ c.if-not-ends_rise.false); distinct = c.known_terms-distinct.ensures.distinct; }
 
 pub start-words-requires : goal.start-words-requires
-start-words-requires c = let h = held-of c.requires (sym c.ends_rise.ensures ∙ c.if-not-ends_rise.false in omega (arith, c.requires.ends)
+start-words-requires c = let h = held-of c.requires (sym c.ends_rise.ensures ∙ c.if-not-ends_rise.false) in omega (arith, c.requires.ends)
 
 pub no_room-requires : goal.no_room-requires
 no_room-requires c = c.requires.limits
@@ -64,10 +65,12 @@ pub returns-in-Host : goal.returns-in-Host
 returns-in-Host c = let a = c.args in
     let l : Lent = record { kinds = a.lent-kinds; ends = a.lent-ends; pool = a.lent-pool; index = length a.index.now; scratch = a.scratch } in
     let t = tables_for a.kinds.now a.ends.now a.pool.now a.z in
-    let g = ap refusal_of c.in-Host.is in let made = (g ∙ refuses-writer a.ends.now (sizes_in a.z) t l (sym c.ends_rise.ensures ∙ c.if-not-ends_rise.false _ (sym c.writer_refusal-w.ensures ∙ g), not-admitted _ _ g) in record { refusal = made.0; lists = made.1; }
+    let g = ap refusal_of c.in-Host.is in
+    record { refusal = g ∙ refuses-writer a.ends.now (sizes_in a.z) t l (sym c.ends_rise.ensures ∙ c.if-not-ends_rise.false) _ (sym c.writer_refusal-w.ensures ∙ g); lists = not-admitted _ _ g; }
 
 pub returns-in-Writer : goal.returns-in-Writer
 returns-in-Writer c = let a = c.args in
     let l : Lent = record { kinds = a.lent-kinds; ends = a.lent-ends; pool = a.lent-pool; index = length a.index.now; scratch = a.scratch } in
     let t = tables_for a.kinds.now a.ends.now a.pool.now a.z in
-    let g = ap refusal_of c.in-Writer.is in let made = (g ∙ refuses-writer a.ends.now (sizes_in a.z) t l (sym c.ends_rise.ensures ∙ c.if-not-ends_rise.false _ (sym c.writer_refusal-w.ensures ∙ g), not-admitted _ _ g) in record { refusal = made.0; lists = made.1; }
+    let g = ap refusal_of c.in-Writer.is in
+    record { refusal = g ∙ refuses-writer a.ends.now (sizes_in a.z) t l (sym c.ends_rise.ensures ∙ c.if-not-ends_rise.false) _ (sym c.writer_refusal-w.ensures ∙ g); lists = not-admitted _ _ g; }

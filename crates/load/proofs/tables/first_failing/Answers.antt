@@ -48,7 +48,7 @@ returns-then-not-passes c = let s = c in
     let size : length t ≡ a.count = table-length z cs long a.table s.requires.table_bound ∙ sym s.requires.count_value in
     let same : get_or t l.i no_cell ≡ get_or cs (a.first + l.i) no_cell = table-cell z cs long a.table s.requires.table_bound l.i (omega (arith, s.requires.count_value)) ∙ ap (λ (k : ℕ). get_or cs (k + l.i) no_cell) (sym s.requires.first_value) in
     let e = ap (f l.i) same ∙ sym c.passes.ensures in
-    found-yes f t a.first l.i (omega arith) (e ∙ c.if-not-passes.true ∙ sym l.invariant.1
+    found-yes f t a.first l.i (omega arith) (e ∙ c.if-not-passes.true) ∙ sym l.invariant.1
 
 pub loop-i-preserved : goal.loop-i-preserved
 loop-i-preserved c = let s = c in
@@ -63,7 +63,7 @@ loop-i-preserved c = let s = c in
     let size : length t ≡ a.count = table-length z cs long a.table s.requires.table_bound ∙ sym s.requires.count_value in
     let same : get_or t l.i no_cell ≡ get_or cs (a.first + l.i) no_cell = table-cell z cs long a.table s.requires.table_bound l.i (omega (arith, s.requires.count_value)) ∙ ap (λ (k : ℕ). get_or cs (k + l.i) no_cell) (sym s.requires.first_value) in
     let e = ap (f l.i) same ∙ sym c.passes.ensures in
-    (omega arith, l.invariant.1 ∙ found-no f t a.first l.i (omega arith) (e ∙ c.if-not-passes.false
+    (omega arith, l.invariant.1 ∙ found-no f t a.first l.i (omega arith) (e ∙ c.if-not-passes.false))
 
 pub returns : goal.returns
 returns c = let s = c in

@@ -1,15 +1,20 @@
 use Rattle.load.proofs.TableLaws.{valid-other, distinct-pass, once-other, late-pass, none_pass, sound-round}
+use Rattle.model.proofs.Tests.{or_left, or_right}
+use borrow.Author.Tests.{eqb-false}
 use native.Mathlib.Omega.{arith}
-use mathlib.Core.Bool.{false}
-use mathlib.Core.Path.{subst⁻¹}
+use lib.Dec.{eqb}
+use mathlib.Core.Bool.{false, ◌||◌}
+use mathlib.Core.Path.{◌≡◌, subst⁻¹}
 use Prim.Native.Nat.{ℕ}
 use Rattle.load.specs.Held.{tables_for, cell_held, Passing}
+use Rattle.load.proofs.tables.passed_first.Goals as goal
+
 module _ (k : ℕ) (e : (eqb k 6 || eqb k 7) ≡ false) where
   six : k ≡ 6 → ⊥
   six = eqb-false k 6 (or_left (eqb k 6) (eqb k 7) e)
+
   seven : k ≡ 7 → ⊥
   seven = eqb-false k 7 (or_right (eqb k 6) (eqb k 7) e)
-use Rattle.load.proofs.tables.passed_first.Goals as goal
 
 pub returns-then-table-eq0 : goal.returns-then-table-eq0
 returns-then-table-eq0 c = let s = c in

@@ -36,7 +36,7 @@ returns-then-round-eq0 c = let s = c in
     let h : at < n = omega (arith, place_inside (sizes_in a.z) a.table a.i s.requires.place.table s.requires.place.inside, s.requires.place.first) in
     let this = held-cell K E P n at c.words-ws.result.now h (c.words-ws.ensures ∙ ap (λ (x : Fill). (get_or (cells_of K E P x.cells) at no_cell).words) fe) in
     let t = tables_for K E P a.z in
-    rw c.if-round-eq0.true (c.fits2.ensures a.i ∙ ap (λ (x : Cell). get_or (fit_tests t) a.table passed a.i x) this)
+    rw c.if-round-eq0.true (c.fits.ensures a.i ∙ ap (λ (x : Cell). get_or (fit_tests t) a.table passed a.i x) this)
 
 pub returns-then-round-eq1 : goal.returns-then-round-eq1
 returns-then-round-eq1 c = let s = c in
