@@ -29,15 +29,13 @@ returns-then-too_large c = let a = c.args in
 pub returns-then-z-wide : goal.returns-then-z-wide
 returns-then-z-wide c = let a = c.args in
     let l : Lent = record { kinds = a.kinds; ends = a.ends; pool = a.pool; index = length a.index.now; scratch = a.scratch } in
-    let r = c.read_sizes-z in
-    let p = ap (λ (y : Sizes). leb y.proofs a.asked) (sym r.ensures.is) ∙ le-leb r.result.proofs a.asked (omega (arith, c.wide.ensures)) in
+    let p = ap (λ (y : Sizes). leb y.proofs a.asked) (sym c.read_sizes-z.ensures.is) ∙ le-leb c.read_sizes-z.result.proofs a.asked (omega (arith, c.wide.ensures)) in
     record { refusal = refuses-3 a.job.now a.asked a.mode l (sym c.wrong_length.ensures ∙ c.if-wrong_length.false) (ap too_large (sym c.read_sizes-z.ensures.is) ∙ sym c.too_large.ensures ∙ c.if-too_large.false) p; lists = not-admitted _ _ refl; }
 
 pub returns-then-mode-gt1 : goal.returns-then-mode-gt1
 returns-then-mode-gt1 c = let a = c.args in
     let l : Lent = record { kinds = a.kinds; ends = a.ends; pool = a.pool; index = length a.index.now; scratch = a.scratch } in
-    let r = c.read_sizes-z in
-    let p = ap (λ (y : Sizes). leb y.proofs a.asked) (sym r.ensures.is) ∙ lt-leb r.result.proofs a.asked (omega (arith, c.wide.ensures)) in
+    let p = ap (λ (y : Sizes). leb y.proofs a.asked) (sym c.read_sizes-z.ensures.is) ∙ lt-leb c.read_sizes-z.result.proofs a.asked (omega (arith, c.wide.ensures)) in
     record { refusal = refuses-11 a.job.now a.asked a.mode l (sym c.wrong_length.ensures ∙ c.if-wrong_length.false) (ap too_large (sym c.read_sizes-z.ensures.is) ∙ sym c.too_large.ensures ∙ c.if-too_large.false) p (lt-ltb 1 a.mode (omega arith)); lists = not-admitted _ _ refl; }
 
 pub cell_count-n-requires : goal.cell_count-n-requires
@@ -56,16 +54,12 @@ pub slice_bounds-load_cells-start-3 : goal.slice_bounds-load_cells-start-3
 slice_bounds-load_cells-start-3 c = let i = inside c.args.job.now c.read_sizes-z.result c.cell_count-n.result c.read_sizes-z.ensures.is c.cell_count-n.ensures (sym c.wrong_length.ensures ∙ c.if-wrong_length.false) in omega (arith, i)
 
 pub load_cells-requires : goal.load_cells-requires
-load_cells-requires c = let r = c.read_sizes-z in let n = c.cell_count-n in
-    cut_of c.args.job.now r.result n.result r.ensures.is n.ensures (sym c.wrong_length.ensures ∙ c.if-wrong_length.false) (limits_of (sizes_in r.result) (sym c.too_large.ensures ∙ c.if-too_large.false))
+load_cells-requires c = cut_of c.args.job.now c.read_sizes-z.result c.cell_count-n.result c.read_sizes-z.ensures.is c.cell_count-n.ensures (sym c.wrong_length.ensures ∙ c.if-wrong_length.false) (limits_of (sizes_in c.read_sizes-z.result) (sym c.too_large.ensures ∙ c.if-too_large.false))
 
 pub returns : goal.returns
 returns c = let a = c.args in
     let l : Lent = record { kinds = a.kinds; ends = a.ends; pool = a.pool; index = length a.index.now; scratch = a.scratch } in
     let w = sym c.wrong_length.ensures ∙ c.if-wrong_length.false in
-    let r = c.read_sizes-z in
-    let n = c.cell_count-n in
-    let d = c.load_cells in
-    let s = r.ensures.is in
-    let p = ap (λ (y : Sizes). leb y.proofs a.asked) (sym s) ∙ lt-leb r.result.proofs a.asked (omega (arith, c.wide.ensures)) in
-    record { refusal = d.ensures.refusal ∙ cut-refusal a.job.now r.result n.result s n.ensures w l ∙ behind-11 a.job.now a.asked a.mode l w (ap too_large (sym c.read_sizes-z.ensures.is) ∙ sym c.too_large.ensures ∙ c.if-too_large.false) p (le-ltb 1 a.mode (omega arith)); lists = λ q. subst (λ (cs : List Cell). Lists a.multiplier d.new.index.1.1.1.1.1.1.0 cs) (cut-terms a.job.now r.result n.result s n.ensures w) (d.ensures.1 q); }
+    let s = c.read_sizes-z.ensures.is in
+    let p = ap (λ (y : Sizes). leb y.proofs a.asked) (sym s) ∙ lt-leb c.read_sizes-z.result.proofs a.asked (omega (arith, c.wide.ensures)) in
+    record { refusal = c.load_cells.ensures.refusal ∙ cut-refusal a.job.now c.read_sizes-z.result c.cell_count-n.result s c.cell_count-n.ensures w l ∙ behind-11 a.job.now a.asked a.mode l w (ap too_large (sym c.read_sizes-z.ensures.is) ∙ sym c.too_large.ensures ∙ c.if-too_large.false) p (le-ltb 1 a.mode (omega arith)); lists = λ q. subst (λ (cs : List Cell). Lists a.multiplier c.load_cells.new.index cs) (cut-terms a.job.now c.read_sizes-z.result c.cell_count-n.result s c.cell_count-n.ensures w) (c.load_cells.ensures.lists q); }

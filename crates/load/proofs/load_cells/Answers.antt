@@ -11,7 +11,7 @@ use Rattle.load.proofs.load_cells.Goals as goal
 
 pub returns-then-not-ends_rise : goal.returns-then-not-ends_rise
 returns-then-not-ends_rise c = let a = c.args in
-    let l : Lent = record { kinds = a.lent-kinds; ends = a.lent-ends; pool = a.lent-pool; index = length a.index.now; scratch = a.scratch } in
+    let l : Lent = record { kinds = a.lent_kinds; ends = a.lent_ends; pool = a.lent_pool; index = length a.index.now; scratch = a.scratch } in
     let t = tables_for a.kinds.now a.ends.now a.pool.now a.z in
     record { refusal = refuses-5 a.ends.now (sizes_in a.z) t l (sym c.ends_rise.ensures ∙ c.if-not-ends_rise.true); lists = not-admitted _ _ refl; }
 
@@ -29,7 +29,7 @@ no_room-requires c = c.requires.limits
 
 pub returns-then-no_room : goal.returns-then-no_room
 returns-then-no_room c = let a = c.args in
-    let l : Lent = record { kinds = a.lent-kinds; ends = a.lent-ends; pool = a.lent-pool; index = length a.index.now; scratch = a.scratch } in
+    let l : Lent = record { kinds = a.lent_kinds; ends = a.lent_ends; pool = a.lent_pool; index = length a.index.now; scratch = a.scratch } in
     let t = tables_for a.kinds.now a.ends.now a.pool.now a.z in
     let e = sym c.ends_rise.ensures ∙ c.if-not-ends_rise.false in
     let w = sym c.writer_refusal-w.ensures ∙ ap refusal_of c.in-Admitted.is in
@@ -38,12 +38,12 @@ returns-then-no_room c = let a = c.args in
 
 pub wrong_slots-requires : goal.wrong_slots-requires
 wrong_slots-requires c = let a = c.args in
-    let l : Lent = record { kinds = a.lent-kinds; ends = a.lent-ends; pool = a.lent-pool; index = length a.index.now; scratch = a.scratch } in
+    let l : Lent = record { kinds = a.lent_kinds; ends = a.lent_ends; pool = a.lent_pool; index = length a.index.now; scratch = a.scratch } in
     room-cells (sizes_in a.z) c.start-words.result l (sym (c.no_room.ensures l.index) ∙ c.if-no_room.false)
 
 pub returns-then-wrong_slots : goal.returns-then-wrong_slots
 returns-then-wrong_slots c = let a = c.args in
-    let l : Lent = record { kinds = a.lent-kinds; ends = a.lent-ends; pool = a.lent-pool; index = length a.index.now; scratch = a.scratch } in
+    let l : Lent = record { kinds = a.lent_kinds; ends = a.lent_ends; pool = a.lent_pool; index = length a.index.now; scratch = a.scratch } in
     let t = tables_for a.kinds.now a.ends.now a.pool.now a.z in
     let e = sym c.ends_rise.ensures ∙ c.if-not-ends_rise.false in
     let w = sym c.writer_refusal-w.ensures ∙ ap refusal_of c.in-Admitted.is in
@@ -52,7 +52,7 @@ returns-then-wrong_slots c = let a = c.args in
 
 pub returns-else-wrong_slots : goal.returns-else-wrong_slots
 returns-else-wrong_slots c = let a = c.args in
-    let l : Lent = record { kinds = a.lent-kinds; ends = a.lent-ends; pool = a.lent-pool; index = length a.index.now; scratch = a.scratch } in
+    let l : Lent = record { kinds = a.lent_kinds; ends = a.lent_ends; pool = a.lent_pool; index = length a.index.now; scratch = a.scratch } in
     let t = tables_for a.kinds.now a.ends.now a.pool.now a.z in
     let e = sym c.ends_rise.ensures ∙ c.if-not-ends_rise.false in
     let w = sym c.writer_refusal-w.ensures ∙ ap refusal_of c.in-Admitted.is in
@@ -63,14 +63,14 @@ returns-else-wrong_slots c = let a = c.args in
 
 pub returns-in-Host : goal.returns-in-Host
 returns-in-Host c = let a = c.args in
-    let l : Lent = record { kinds = a.lent-kinds; ends = a.lent-ends; pool = a.lent-pool; index = length a.index.now; scratch = a.scratch } in
+    let l : Lent = record { kinds = a.lent_kinds; ends = a.lent_ends; pool = a.lent_pool; index = length a.index.now; scratch = a.scratch } in
     let t = tables_for a.kinds.now a.ends.now a.pool.now a.z in
     let g = ap refusal_of c.in-Host.is in
     record { refusal = g ∙ refuses-writer a.ends.now (sizes_in a.z) t l (sym c.ends_rise.ensures ∙ c.if-not-ends_rise.false) _ (sym c.writer_refusal-w.ensures ∙ g); lists = not-admitted _ _ g; }
 
 pub returns-in-Writer : goal.returns-in-Writer
 returns-in-Writer c = let a = c.args in
-    let l : Lent = record { kinds = a.lent-kinds; ends = a.lent-ends; pool = a.lent-pool; index = length a.index.now; scratch = a.scratch } in
+    let l : Lent = record { kinds = a.lent_kinds; ends = a.lent_ends; pool = a.lent_pool; index = length a.index.now; scratch = a.scratch } in
     let t = tables_for a.kinds.now a.ends.now a.pool.now a.z in
     let g = ap refusal_of c.in-Writer.is in
     record { refusal = g ∙ refuses-writer a.ends.now (sizes_in a.z) t l (sym c.ends_rise.ensures ∙ c.if-not-ends_rise.false) _ (sym c.writer_refusal-w.ensures ∙ g); lists = not-admitted _ _ g; }

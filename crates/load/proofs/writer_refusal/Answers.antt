@@ -18,9 +18,8 @@ returns-in-At c = let a = c.args in
     let z = sizes_in a.z in
     let t = tables_for a.kinds.now a.ends.now a.pool.now a.z in
     let l = c.loop-round in
-    let g = c.f-1.given in
     let e = ap (λ (k : ℕ). first_found 0 (marks (tests_for k z t) (table_list t))) c.wide.ensures in
-    sym (l.invariant.1 ∙ round-yes z t l.round g.0.0 (omega arith) (sym e ∙ sym c.first_marked-f.ensures ∙ g.1))
+    sym (l.invariant.1 ∙ round-yes z t l.round c.in-At.cell (omega arith) (sym e ∙ sym c.first_marked-f.ensures ∙ c.in-At.is))
 
 pub loop-round-preserved : goal.loop-round-preserved
 loop-round-preserved c = let a = c.args in

@@ -24,9 +24,9 @@ loop-i-init c = let s = c in
     let f = get_or (tests_for a.round z (tables_for K E P a.z)) a.table passed in
     let long : length cs ≡ n = cells-length K E P n in
     let size : length t ≡ get_or (counts_of z) a.table 0 = table-length z cs long a.table s.requires.table_bound in
-    let p = c.passed_first-i.ensures in (
-      omega (arith, p.few, s.requires.count_value),
-      found-past f t a.first c.passed_first-i.result (omega (arith, p.few)) (λ i h. p.pass i h ∙ ap (f i) (sym (table-cell z cs long a.table s.requires.table_bound i (omega (arith, p.few))))),
+    (
+      omega (arith, c.passed_first-i.ensures.few, s.requires.count_value),
+      found-past f t a.first c.passed_first-i.result (omega (arith, c.passed_first-i.ensures.few)) (λ i h. c.passed_first-i.ensures.pass i h ∙ ap (f i) (sym (table-cell z cs long a.table s.requires.table_bound i (omega (arith, c.passed_first-i.ensures.few))))),
     )
 
 pub passes-requires : goal.passes-requires

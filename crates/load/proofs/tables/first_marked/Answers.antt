@@ -27,7 +27,7 @@ first_failing-f-requires c = let s = c in
     let k = l.table in
     let ns : get_or c.counts-ns.result k 0 ≡ get_or (counts_of z) k 0 = ap (λ (xs : List ℕ). get_or xs k 0) c.counts-ns.ensures in
     let ten : length fs ≡ 10 = tests-ten a.round z t in
-    (s.requires.held, (omega arith, (l.invariant.1, (ns, s.requires.1))))
+    record { held = s.requires.held; table_bound = omega arith; first_value = l.invariant.1; count_value = ns; distinct = s.requires.distinct; sound = s.requires.sound; }
 
 pub returns-in-At : goal.returns-in-At
 returns-in-At c = let s = c in
@@ -39,8 +39,7 @@ returns-in-At c = let s = c in
     let k = l.table in
     let ns : get_or c.counts-ns.result k 0 ≡ get_or (counts_of z) k 0 = ap (λ (xs : List ℕ). get_or xs k 0) c.counts-ns.ensures in
     let ten : length fs ≡ 10 = tests-ten a.round z t in
-    let g = c.enum_told-1.given in
-    g.1 ∙ sym (l.invariant.2 ∙ tables-yes fs (table_list t) k l.first (omega arith) (omega arith) g.0.0 (sym c.first_failing-f.ensures ∙ g.1))
+    c.in-At.is ∙ sym (l.invariant.2 ∙ tables-yes fs (table_list t) k l.first (omega arith) (omega arith) c.in-At.field-0 (sym c.first_failing-f.ensures ∙ c.in-At.is))
 
 pub overflow_add-first : goal.overflow_add-first
 overflow_add-first c = let s = c in

@@ -18,10 +18,10 @@ pub loop-j-init : goal.loop-j-init
 loop-j-init c = (omega arith, refl)
 
 pub words-requires : goal.words-requires
-words-requires c = let fe = c.fill-f.ensures in record { formed = rw fe c.requires.held.formed; i_lt_cells = omega (arith, ap (λ (x : Fill). x.cells) fe); }
+words-requires c = record { formed = rw c.fill-f.ensures c.requires.held.formed; i_lt_cells = omega (arith, ap (λ (x : Fill). x.cells) c.fill-f.ensures); }
 
 pub words-requires-in-loop-j : goal.words-requires-in-loop-j
-words-requires-in-loop-j c = let fe = c.fill-f.ensures in record { formed = rw fe c.requires.held.formed; i_lt_cells = omega (arith, ap (λ (x : Fill). x.cells) fe); }
+words-requires-in-loop-j c = record { formed = rw c.fill-f.ensures c.requires.held.formed; i_lt_cells = omega (arith, ap (λ (x : Fill). x.cells) c.fill-f.ensures); }
 
 pub returns-then-alike : goal.returns-then-alike
 returns-then-alike c = let s = c in
@@ -30,17 +30,16 @@ returns-then-alike c = let s = c in
     let E = a.ends.now in
     let P = a.pool.now in
     let f = c.fill-f.result in
-    let fe = c.fill-f.ensures in
     let cs = cells_of K E P f.cells in
     let l = c.loop-j in
-    let fc : f.cells ≡ cell_count (sizes_in a.z) = ap (λ (x : Fill). x.cells) fe in
+    let fc : f.cells ≡ cell_count (sizes_in a.z) = ap (λ (x : Fill). x.cells) c.fill-f.ensures in
     let long : length cs ≡ f.cells = cells-length K E P f.cells in
     let this = held-cell K E P f.cells (a.first + a.i) c.words-in-loop-j.result.now (omega arith) c.words-in-loop-j.ensures in
     let other = held-cell K E P f.cells (a.first + l.j) c.words.result.now (omega arith) c.words.ensures in
     let e = sym (ap₂ (alike_by a.table) other this) ∙ sym c.alike.ensures in
     let same : Cell → Bool = λ x. alike_by a.table x (get_or cs (a.first + a.i) no_cell) in
     earlier-yes same cs a.first a.i l.j (omega arith) (omega arith) (e ∙ c.if-alike.true) ∙ ap not (sym l.invariant.1)
-    ∙ ap (λ (x : Fill). first_among (alike_by a.table) (cells_of K E P x.cells) a.first a.i) fe
+    ∙ ap (λ (x : Fill). first_among (alike_by a.table) (cells_of K E P x.cells) a.first a.i) c.fill-f.ensures
 
 pub loop-j-preserved : goal.loop-j-preserved
 loop-j-preserved c = let s = c in
@@ -49,10 +48,9 @@ loop-j-preserved c = let s = c in
     let E = a.ends.now in
     let P = a.pool.now in
     let f = c.fill-f.result in
-    let fe = c.fill-f.ensures in
     let cs = cells_of K E P f.cells in
     let l = c.loop-j in
-    let fc : f.cells ≡ cell_count (sizes_in a.z) = ap (λ (x : Fill). x.cells) fe in
+    let fc : f.cells ≡ cell_count (sizes_in a.z) = ap (λ (x : Fill). x.cells) c.fill-f.ensures in
     let long : length cs ≡ f.cells = cells-length K E P f.cells in
     let this = held-cell K E P f.cells (a.first + a.i) c.words-in-loop-j.result.now (omega arith) c.words-in-loop-j.ensures in
     let other = held-cell K E P f.cells (a.first + l.j) c.words.result.now (omega arith) c.words.ensures in

@@ -16,8 +16,7 @@ loop-i-init c = record { fit = none_pass; refer = none_pass }
 
 pub words-ws-requires : goal.words-ws-requires
 words-ws-requires c = let s = c in
-    let fe = c.fill-f.ensures in
-    record { formed = rw fe s.requires.formed; i_lt_cells = omega (arith, ap (λ (x : Fill). x.cells) fe, number-count (sizes_in s.args.z) 0 (omega arith)); }
+    record { formed = rw c.fill-f.ensures s.requires.formed; i_lt_cells = omega (arith, ap (λ (x : Fill). x.cells) c.fill-f.ensures, number-count (sizes_in s.args.z) 0 (omega arith)); }
 
 pub bounds-kinds-i : goal.bounds-kinds-i
 bounds-kinds-i c = let s = c in omega (arith, s.requires.formed.kinds, number-count (sizes_in s.args.z) 0 (omega arith))
@@ -33,9 +32,8 @@ loop-i-preserved c = let s = c in
     let P = a.pool.now in
     let n = cell_count (sizes_in a.z) in
     let i = c.loop-i.i in
-    let fe = c.fill-f.ensures in
     let h : i < n = omega (arith, number-count (sizes_in a.z) 0 (omega arith)) in
-    let this = held-cell K E P n i c.words-ws.result.now h (c.words-ws.ensures ∙ ap (λ (x : Fill). (get_or (cells_of K E P x.cells) i no_cell).words) fe) in
+    let this = held-cell K E P n i c.words-ws.result.now h (c.words-ws.ensures ∙ ap (λ (x : Fill). (get_or (cells_of K E P x.cells) i no_cell).words) c.fill-f.ensures) in
     let e : i ≡ 0 + i = omega arith in
     let here = this ∙ ap (λ (j : ℕ). get_or (cells_of K E P n) j no_cell) e in
     let S = c.loop-i.invariant in
