@@ -14,18 +14,6 @@ use Rattle.program.proofs.Laws.{front_long}
 use Rattle.lookups.proofs.Laws.{mark-yes, mark-no, mark-end, at-within, none_within}
 use Rattle.lookups.proofs.first_named.Goals as goal
 
-span_of : (c : tie.After-wide invariant-loop decreases-loop) → (c.loop-i.from ≤ c.wide-to.result) × (c.wide-to.result ≤ length c.pool-all_words.result.now)
-span_of c = let i = inside-from c.args.job.now c.args.table c.requires.table_bound c.loop-i.i (omega arith) c.first-start.ensures in
-    span-within c.requires.held (c.first-start.result + c.loop-i.i) i c.ends-all_ends.ensures c.loop-i.invariant.1 c.wide-to.ensures c.pool-all_words.ensures
-
-inside_of : (c : tie.After-at invariant-loop decreases-loop) → c.first-start.result + c.loop-i.i < cell_count (sizes_of c.args.job.now)
-inside_of c = inside-from c.args.job.now c.args.table c.requires.table_bound c.loop-i.i (omega arith) c.first-start.ensures
-
-name_of : (c : tie.After-at invariant-loop decreases-loop) → c.at.result ≡ word (get_or (take c.args.count (table_for c.args.job.now c.args.table)) c.loop-i.i no_cell) 0
-name_of c = let a = c.args in
-    name_in a.job.now a.table c.requires.table_bound c.loop-i.i (omega arith) {n = a.count} (omega arith) c.first-start.ensures
-    (span-words c.requires.held (c.first-start.result + c.loop-i.i) (inside_of c) c.ends-all_ends.ensures c.loop-i.invariant.1 c.wide-to.ensures c.pool-all_words.ensures) c.at.ensures
-
 pub start-from-requires : goal.start-from-requires
 start-from-requires c = first-end c.requires.held c.ends-all_ends.ensures c.args.table c.requires.table_bound c.first-start.ensures
 
@@ -41,27 +29,17 @@ offset_bounds-all_ends-start c = omega (arith, inside-from c.args.job.now c.args
 pub bounds-all_ends-start : goal.bounds-all_ends-start
 bounds-all_ends-start c = has_end c.requires.held (c.first-start.result + c.loop-i.i) (inside-from c.args.job.now c.args.table c.requires.table_bound c.loop-i.i (omega arith) c.first-start.ensures) c.ends-all_ends.ensures
 
-pub wide-to-requires : goal.wide-to-requires
-wide-to-requires c = search rules
-
--- the words of cell i lie in the pool
-
 pub offset_bounds-all_words-from : goal.offset_bounds-all_words-from
-offset_bounds-all_words-from c = omega (arith, span_of c)
+offset_bounds-all_words-from c = omega (arith, (span-within c.requires.held (c.first-start.result + c.loop-i.i) (inside-from c.args.job.now c.args.table c.requires.table_bound c.loop-i.i (omega arith) c.first-start.ensures) c.ends-all_ends.ensures c.loop-i.invariant.1 c.wide-to.ensures c.pool-all_words.ensures))
 
 pub slice_bounds-at-count : goal.slice_bounds-at-count
-slice_bounds-at-count c = omega (arith, span_of c)
+slice_bounds-at-count c = omega (arith, (span-within c.requires.held (c.first-start.result + c.loop-i.i) (inside-from c.args.job.now c.args.table c.requires.table_bound c.loop-i.i (omega arith) c.first-start.ensures) c.ends-all_ends.ensures c.loop-i.invariant.1 c.wide-to.ensures c.pool-all_words.ensures))
 
 pub slice_bounds-at-start : goal.slice_bounds-at-start
-slice_bounds-at-start c = omega (arith, span_of c)
+slice_bounds-at-start c = omega (arith, (span-within c.requires.held (c.first-start.result + c.loop-i.i) (inside-from c.args.job.now c.args.table c.requires.table_bound c.loop-i.i (omega arith) c.first-start.ensures) c.ends-all_ends.ensures c.loop-i.invariant.1 c.wide-to.ensures c.pool-all_words.ensures))
 
 pub slice_bounds-at-end : goal.slice_bounds-at-end
-slice_bounds-at-end c = omega (arith, span_of c)
-
-pub at-requires : goal.at-requires
-at-requires c = search rules
-
--- cell i is one of the job's, and what was read is its name
+slice_bounds-at-end c = omega (arith, (span-within c.requires.held (c.first-start.result + c.loop-i.i) (inside-from c.args.job.now c.args.table c.requires.table_bound c.loop-i.i (omega arith) c.first-start.ensures) c.ends-all_ends.ensures c.loop-i.invariant.1 c.wide-to.ensures c.pool-all_words.ensures))
 
 pub returns-then-at-name : goal.returns-then-at-name
 returns-then-at-name c = let a = c.args in
@@ -70,7 +48,7 @@ returns-then-at-name c = let a = c.args in
     let t = take a.count (table_for J a.table) in
     let long = front_long J a.table c.requires.table_bound a.count c.requires.count_bound in
     record {
-      is = mark-yes (λ x. eqb (word x 0) a.name) t l.i (omega arith) (eq-eqb _ a.name (sym (name_of c) ∙ c.if-at-name.true)) ∙ sym l.invariant.2;
+      is = mark-yes (λ x. eqb (word x 0) a.name) t l.i (omega arith) (eq-eqb _ a.name (sym ((name_in c.args.job.now c.args.table c.requires.table_bound c.loop-i.i (omega arith) {n = c.args.count} (omega arith) c.first-start.ensures (span-words c.requires.held (c.first-start.result + c.loop-i.i) (inside-from c.args.job.now c.args.table c.requires.table_bound c.loop-i.i (omega arith) c.first-start.ensures) c.ends-all_ends.ensures c.loop-i.invariant.1 c.wide-to.ensures c.pool-all_words.ensures) c.at.ensures)) ∙ c.if-at-name.true)) ∙ sym l.invariant.2;
       within = λ j. at-within (omega arith);
     }
 
@@ -81,8 +59,8 @@ loop-i-preserved c = let a = c.args in
     let t = take a.count (table_for J a.table) in
     let long = front_long J a.table c.requires.table_bound a.count c.requires.count_bound in (
       omega arith,
-      span-next c.requires.held (c.first-start.result + l.i) (inside_of c) c.ends-all_ends.ensures l.invariant.1 c.wide-to.ensures (omega arith),
-      l.invariant.2 ∙ mark-no (λ x. eqb (word x 0) a.name) t l.i (omega arith) (ne_eqb _ a.name (λ e. c.if-at-name.false (name_of c ∙ e))),
+      span-next c.requires.held (c.first-start.result + l.i) (inside-from c.args.job.now c.args.table c.requires.table_bound c.loop-i.i (omega arith) c.first-start.ensures) c.ends-all_ends.ensures l.invariant.1 c.wide-to.ensures (omega arith),
+      l.invariant.2 ∙ mark-no (λ x. eqb (word x 0) a.name) t l.i (omega arith) (ne_eqb _ a.name (λ e. c.if-at-name.false ((name_in c.args.job.now c.args.table c.requires.table_bound c.loop-i.i (omega arith) {n = c.args.count} (omega arith) c.first-start.ensures (span-words c.requires.held (c.first-start.result + c.loop-i.i) (inside-from c.args.job.now c.args.table c.requires.table_bound c.loop-i.i (omega arith) c.first-start.ensures) c.ends-all_ends.ensures c.loop-i.invariant.1 c.wide-to.ensures c.pool-all_words.ensures) c.at.ensures) ∙ e))),
     )
 
 pub returns : goal.returns
