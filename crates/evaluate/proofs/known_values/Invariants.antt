@@ -1,0 +1,14 @@
+use mathlib.Core.Path.{◌≡◌}
+use mathlib.Core.List.{List}
+use Prim.Native.Nat.{ℕ, ◌-◌}
+use lib.ListN.{length, drop}
+use Rattle.program.specs.Read.{head_for}
+use Rattle.evaluate.specs.Value.{bindings_in}
+use Rattle.evaluate.specs.Evaluation.{KnowsFirst}
+use Rattle.evaluate.proofs.known_values.Given as goal
+
+abbrev pub invariant-loop-i : goal.invariant-loop-i
+invariant-loop-i l = ((vals₀ : List ℕ) → KnowsFirst (head_for l.job) (bindings_in l.bound l.pairs l.globals) l.args l.initial.memo vals₀ l.initial.i l.initial.memo (drop 1 l.initial.ws) → KnowsFirst (head_for l.job) (bindings_in l.bound l.pairs l.globals) l.args l.initial.memo vals₀ l.i l.memo (drop 1 l.ws)) × (length l.memo ≡ length l.initial.memo)
+
+abbrev pub decreases-loop-i : goal.decreases-loop-i
+decreases-loop-i l = length l.args - l.i

@@ -1,0 +1,12 @@
+use mathlib.Core.List.{List}
+use Prim.Native.Nat.{ℕ, ◌-◌, ◌≤◌}
+use lib.ListN.{length, drop}
+use Rattle.model.specs.Program.{Head, Binding}
+use Rattle.evaluate.specs.Evaluation.{KnowsFirst}
+use Rattle.evaluate.proofs.noted_values.Given as goal
+
+abbrev pub invariant-loop-i : goal.invariant-loop-i
+invariant-loop-i l = ((head : ℕ → Head) (σ : List Binding) (m₀ vals₀ : List ℕ) → KnowsFirst head σ l.args m₀ vals₀ l.from l.memo (drop 1 l.initial.ws) → KnowsFirst head σ l.args m₀ vals₀ l.i l.memo (drop 1 l.ws)) × (l.from ≤ l.i)
+
+abbrev pub decreases-loop-i : goal.decreases-loop-i
+decreases-loop-i l = length l.args - l.i
