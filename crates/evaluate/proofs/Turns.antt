@@ -294,12 +294,12 @@ module _ (fact : Bool) (J : List ℕ) (rule : ℕ) (σ : List Binding) where
   value-is : (room : Room) (e : ℕ) (s : List Term) → eval_for fact J rule σ room e s ≡ value_for fact J rule σ room e s
   value-is room e s = sym (value-term fact room (program_for J) rule σ (expr_for J e) s)
 
-  reach : {eval : ℕ → Check ℕ} {s : List Term} {m : List ℕ} → Ready J → Memo (arguments_for J) eval (sizes_of J).expressions s m → (a : ℕ) → a < (sizes_of J).expressions → is_noted m a ≡ true
-      → (j : ℕ) → Reaches (arguments_for J) j a → is_noted m j ≡ true
-  reach {m = m} R M a l u j (here i) = subst (λ (x : ℕ). is_noted m x ≡ true) (sym i) u
-  reach {m = m} R M a l u j (down {a = b} w r) =
+  reach : {eval : ℕ → Check ℕ} {s : List Term} {m : List ℕ} → Ready J → Memo (arguments_for J) eval (sizes_of J).expressions s m → (j a : ℕ) → a < (sizes_of J).expressions → is_noted m a ≡ true
+      → Reaches (arguments_for J) j a → is_noted m j ≡ true
+  reach {m = m} R M j a l u (here i) = subst (λ (x : ℕ). is_noted m x ≡ true) (sym i) u
+  reach {m = m} R M j a l u (down {a = b} w r) =
       let v = expressions-lower (sizes_of J) (tables_for J) R.admitted a b w in
-      reach R M b (omega arith) (M.closed a b l u w) j r
+      reach R M j b (omega arith) (M.closed a b l u w) r
 
   -- in a round that goes on
   module _ {e : ℕ} {k e' p ix : List ℕ} {f : Fill} {m k' e'' p' ix' : List ℕ} {c : Checked} {m' : List ℕ} (R : Ready J) (h : e < (sizes_of J).expressions)
@@ -320,7 +320,7 @@ module _ (fact : Bool) (J : List ℕ) (rule : ℕ) (σ : List Binding) where
       does = subst (Does k e' p ix f k' e'' p' ix' c.fill c.refusal c.value) (value-is (room_of k p) e (terms_in k e' p f)) d.does;
       past = λ q. (d.memo q).past;
       value = λ q j l u. sym (value-is (room_of k p) j (terms_in k' e'' p' c.fill)) ∙ (d.memo q).value j l u;
-      below = λ q j r. reach R (d.memo q) e h (d.noted q).root j r;
+      below = λ q j r. reach R (d.memo q) j e h (d.noted q).root r;
       only = λ q j l u. elim ((d.noted q).only j l u) [ inl v ↦ inl (subst Old (same_noted q j l v u) (o j l v)) | inr r ↦ inr r ];
     }
 

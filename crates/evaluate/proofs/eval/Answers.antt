@@ -73,16 +73,16 @@ pub loop-args-smaller-in-Some : goal.loop-args-smaller-in-Some
 loop-args-smaller-in-Some c = let a = c.args in let pre = c.requires in let prog = program_for a.job.now in let σ = bindings_in a.bound.now a.pairs.now a.globals.now in let n = (sizes_of a.job.now).expressions in let args = arguments_for a.job.now in let head = head_for a.job.now in let expr = expr_for a.job.now in let o = open_up a.fact prog a.rule σ n args head expr (open_at a.fact prog a.rule σ n args head expr c.wide-i.ensures c.loop-args.invariant.0) (node-for pre.ready) (no_arguments a.job.now) c.arguments_at-args.ensures.is c.arguments_at-args.ensures.few c.arguments_at-args.ensures.lower (behind-full c.loop-args.ws c.loop-args.invariant.1) c.known_values-count.ensures.known {c = record { refusal = passed; value = c.in-Some.t; fill = c.loop-args.have }} c.if-count-args.false (at_head a.fact _ prog a.rule σ _ _ c.head_at-head.ensures.is (found-does c.loop-args.skinds c.loop-args.sends c.loop-args.spool c.loop-args.index c.loop-args.have c.loop-args.invariant.0.grown.indexed (c.find_value-known.ensures.finds a.rule σ) c.in-Some.is)) refl c.note.ensures (λ z. c.if-at-e.false (sym c.wide-i.ensures ∙ z)) c.value_of-above.ensures in let l = up-less a.fact prog a.rule σ n args head expr (open_at a.fact prog a.rule σ n args head expr c.wide-i.ensures c.loop-args.invariant.0) (node-for pre.ready) (no_arguments a.job.now) c.arguments_at-args.ensures.is c.arguments_at-args.ensures.few c.arguments_at-args.ensures.lower (behind-full c.loop-args.ws c.loop-args.invariant.1) c.known_values-count.ensures.known {c = record { refusal = passed; value = c.in-Some.t; fill = c.loop-args.have }} c.if-count-args.false (at_head a.fact _ prog a.rule σ _ _ c.head_at-head.ensures.is (found-does c.loop-args.skinds c.loop-args.sends c.loop-args.spool c.loop-args.index c.loop-args.have c.loop-args.invariant.0.grown.indexed (c.find_value-known.ensures.finds a.rule σ) c.in-Some.is)) refl c.note.ensures o.low in omega arith
 
 pub loop-args-preserved-in-Some : goal.loop-args-preserved-in-Some
-loop-args-preserved-in-Some c = let a = c.args in let pre = c.requires in let prog = program_for a.job.now in let σ = bindings_in a.bound.now a.pairs.now a.globals.now in let n = (sizes_of a.job.now).expressions in let args = arguments_for a.job.now in let head = head_for a.job.now in let expr = expr_for a.job.now in (open_up a.fact prog a.rule σ n args head expr (open_at a.fact prog a.rule σ n args head expr c.wide-i.ensures c.loop-args.invariant.0) (node-for pre.ready) (no_arguments a.job.now) c.arguments_at-args.ensures.is c.arguments_at-args.ensures.few c.arguments_at-args.ensures.lower (behind-full c.loop-args.ws c.loop-args.invariant.1) c.known_values-count.ensures.known {c = record { refusal = passed; value = c.in-Some.t; fill = c.loop-args.have }} c.if-count-args.false (at_head a.fact _ prog a.rule σ _ _ c.head_at-head.ensures.is (found-does c.loop-args.skinds c.loop-args.sends c.loop-args.spool c.loop-args.index c.loop-args.have c.loop-args.invariant.0.grown.indexed (c.find_value-known.ensures.finds a.rule σ) c.in-Some.is)) refl c.note.ensures (λ z. c.if-at-e.false (sym c.wide-i.ensures ∙ z)) c.value_of-above.ensures, c.find_value-known.auto.head.1.1.1.1.1.1.1.1.0 ∙ (behind-whole c.known_values-count.new.ws (first-vals c.known_values-count.ensures.known ∙ behind-full c.loop-args.ws c.loop-args.invariant.1)))
+loop-args-preserved-in-Some c = let a = c.args in let pre = c.requires in let prog = program_for a.job.now in let σ = bindings_in a.bound.now a.pairs.now a.globals.now in let n = (sizes_of a.job.now).expressions in let args = arguments_for a.job.now in let head = head_for a.job.now in let expr = expr_for a.job.now in (open_up a.fact prog a.rule σ n args head expr (open_at a.fact prog a.rule σ n args head expr c.wide-i.ensures c.loop-args.invariant.0) (node-for pre.ready) (no_arguments a.job.now) c.arguments_at-args.ensures.is c.arguments_at-args.ensures.few c.arguments_at-args.ensures.lower (behind-full c.loop-args.ws c.loop-args.invariant.1) c.known_values-count.ensures.known {c = record { refusal = passed; value = c.in-Some.t; fill = c.loop-args.have }} c.if-count-args.false (at_head a.fact _ prog a.rule σ _ _ c.head_at-head.ensures.is (found-does c.loop-args.skinds c.loop-args.sends c.loop-args.spool c.loop-args.index c.loop-args.have c.loop-args.invariant.0.grown.indexed (c.find_value-known.ensures.finds a.rule σ) c.in-Some.is)) refl c.note.ensures (λ z. c.if-at-e.false (sym c.wide-i.ensures ∙ z)) c.value_of-above.ensures, c.find_value-known.auto.ws ∙ (behind-whole c.known_values-count.new.ws (first-vals c.known_values-count.ensures.known ∙ behind-full c.loop-args.ws c.loop-args.invariant.1)))
 
 pub overflow_add-n : goal.overflow_add-n
 overflow_add-n c = let u = first-upto c.known_values-count.ensures.known in let f = c.arguments_at-args.ensures.few in let h = c.loop-args.invariant.1 in let k = (behind-whole c.known_values-count.new.ws (first-vals c.known_values-count.ensures.known ∙ behind-full c.loop-args.ws c.loop-args.invariant.1)) in record { fits = omega arith }
 
 pub slice_bounds-head_value-end : goal.slice_bounds-head_value-end
-slice_bounds-head_value-end c = let u = first-upto c.known_values-count.ensures.known in let f = c.arguments_at-args.ensures.few in let h = c.loop-args.invariant.1 in let k = (behind-whole c.known_values-count.new.ws (first-vals c.known_values-count.ensures.known ∙ behind-full c.loop-args.ws c.loop-args.invariant.1)) in let v = c.find_value-known.auto.head.1.1.1.1.1.1.1.1.0 in omega arith
+slice_bounds-head_value-end c = let u = first-upto c.known_values-count.ensures.known in let f = c.arguments_at-args.ensures.few in let h = c.loop-args.invariant.1 in let k = (behind-whole c.known_values-count.new.ws (first-vals c.known_values-count.ensures.known ∙ behind-full c.loop-args.ws c.loop-args.invariant.1)) in let v = c.find_value-known.auto.ws in omega arith
 
 pub head_value-r-requires : goal.head_value-r-requires
-head_value-r-requires c = let pre = c.requires in let u = first-upto c.known_values-count.ensures.known in let f = c.arguments_at-args.ensures.few in let h = c.loop-args.invariant.1 in let k = (behind-whole c.known_values-count.new.ws (first-vals c.known_values-count.ensures.known ∙ behind-full c.loop-args.ws c.loop-args.invariant.1)) in let v = c.find_value-known.auto.head.1.1.1.1.1.1.1.1.0 in record { ready = pre.ready; keyed = pre.keyed; indexed = c.loop-args.invariant.0.grown.indexed; args_len_bound = simp length-take (omega arith); by_index = c.head_at-head.ensures.primitive; }
+head_value-r-requires c = let pre = c.requires in let u = first-upto c.known_values-count.ensures.known in let f = c.arguments_at-args.ensures.few in let h = c.loop-args.invariant.1 in let k = (behind-whole c.known_values-count.new.ws (first-vals c.known_values-count.ensures.known ∙ behind-full c.loop-args.ws c.loop-args.invariant.1)) in let v = c.find_value-known.auto.ws in record { ready = pre.ready; keyed = pre.keyed; indexed = c.loop-args.invariant.0.grown.indexed; args_len_bound = simp length-take (omega arith); by_index = c.head_at-head.ensures.primitive; }
 
 pub shape_of-skinds-then-r-ne0 : goal.shape_of-skinds-then-r-ne0
 shape_of-skinds-then-r-ne0 c = c.head_value-r.ensures.grown.len_k ∙ c.loop-args.invariant.0.grown.len_k
@@ -130,4 +130,4 @@ pub loop-args-smaller : goal.loop-args-smaller
 loop-args-smaller c = let a = c.args in let pre = c.requires in let prog = program_for a.job.now in let σ = bindings_in a.bound.now a.pairs.now a.globals.now in let n = (sizes_of a.job.now).expressions in let args = arguments_for a.job.now in let head = head_for a.job.now in let expr = expr_for a.job.now in let o = open_up a.fact prog a.rule σ n args head expr (open_at a.fact prog a.rule σ n args head expr c.wide-i.ensures c.loop-args.invariant.0) (node-for pre.ready) (no_arguments a.job.now) c.arguments_at-args.ensures.is c.arguments_at-args.ensures.few c.arguments_at-args.ensures.lower (behind-full c.loop-args.ws c.loop-args.invariant.1) c.known_values-count.ensures.known c.if-count-args.false (at_head a.fact _ prog a.rule σ _ _ c.head_at-head.ensures.is (at-values a.fact _ prog a.rule σ _ _ (behind-count c.find_value-known.new.ws c.known_values-count.new.ws c.known_values-count.result c.find_value-known.ensures.kept) c.head_value-r.ensures)) c.if-r-ne0.false c.note-in-loop-args.ensures (λ z. c.if-at-e-2.false (sym c.wide-i.ensures ∙ z)) c.value_of-above-in-loop-args.ensures in let l = up-less a.fact prog a.rule σ n args head expr (open_at a.fact prog a.rule σ n args head expr c.wide-i.ensures c.loop-args.invariant.0) (node-for pre.ready) (no_arguments a.job.now) c.arguments_at-args.ensures.is c.arguments_at-args.ensures.few c.arguments_at-args.ensures.lower (behind-full c.loop-args.ws c.loop-args.invariant.1) c.known_values-count.ensures.known c.if-count-args.false (at_head a.fact _ prog a.rule σ _ _ c.head_at-head.ensures.is (at-values a.fact _ prog a.rule σ _ _ (behind-count c.find_value-known.new.ws c.known_values-count.new.ws c.known_values-count.result c.find_value-known.ensures.kept) c.head_value-r.ensures)) c.if-r-ne0.false c.note-in-loop-args.ensures o.low in omega arith
 
 pub loop-args-preserved : goal.loop-args-preserved
-loop-args-preserved c = let a = c.args in let pre = c.requires in let prog = program_for a.job.now in let σ = bindings_in a.bound.now a.pairs.now a.globals.now in let n = (sizes_of a.job.now).expressions in let args = arguments_for a.job.now in let head = head_for a.job.now in let expr = expr_for a.job.now in (open_up a.fact prog a.rule σ n args head expr (open_at a.fact prog a.rule σ n args head expr c.wide-i.ensures c.loop-args.invariant.0) (node-for pre.ready) (no_arguments a.job.now) c.arguments_at-args.ensures.is c.arguments_at-args.ensures.few c.arguments_at-args.ensures.lower (behind-full c.loop-args.ws c.loop-args.invariant.1) c.known_values-count.ensures.known c.if-count-args.false (at_head a.fact _ prog a.rule σ _ _ c.head_at-head.ensures.is (at-values a.fact _ prog a.rule σ _ _ (behind-count c.find_value-known.new.ws c.known_values-count.new.ws c.known_values-count.result c.find_value-known.ensures.kept) c.head_value-r.ensures)) c.if-r-ne0.false c.note-in-loop-args.ensures (λ z. c.if-at-e-2.false (sym c.wide-i.ensures ∙ z)) c.value_of-above-in-loop-args.ensures, c.find_value-known.auto.head.1.1.1.1.1.1.1.1.0 ∙ (behind-whole c.known_values-count.new.ws (first-vals c.known_values-count.ensures.known ∙ behind-full c.loop-args.ws c.loop-args.invariant.1)))
+loop-args-preserved c = let a = c.args in let pre = c.requires in let prog = program_for a.job.now in let σ = bindings_in a.bound.now a.pairs.now a.globals.now in let n = (sizes_of a.job.now).expressions in let args = arguments_for a.job.now in let head = head_for a.job.now in let expr = expr_for a.job.now in (open_up a.fact prog a.rule σ n args head expr (open_at a.fact prog a.rule σ n args head expr c.wide-i.ensures c.loop-args.invariant.0) (node-for pre.ready) (no_arguments a.job.now) c.arguments_at-args.ensures.is c.arguments_at-args.ensures.few c.arguments_at-args.ensures.lower (behind-full c.loop-args.ws c.loop-args.invariant.1) c.known_values-count.ensures.known c.if-count-args.false (at_head a.fact _ prog a.rule σ _ _ c.head_at-head.ensures.is (at-values a.fact _ prog a.rule σ _ _ (behind-count c.find_value-known.new.ws c.known_values-count.new.ws c.known_values-count.result c.find_value-known.ensures.kept) c.head_value-r.ensures)) c.if-r-ne0.false c.note-in-loop-args.ensures (λ z. c.if-at-e-2.false (sym c.wide-i.ensures ∙ z)) c.value_of-above-in-loop-args.ensures, c.find_value-known.auto.ws ∙ (behind-whole c.known_values-count.new.ws (first-vals c.known_values-count.ensures.known ∙ behind-full c.loop-args.ws c.loop-args.invariant.1)))

@@ -11,4 +11,4 @@ pub eval-requires : goal.eval-requires
 eval-requires c = let pre = c.requires in record { ready = pre.ready; keyed = pre.keyed; indexed = pre.indexed; e_bound = pre.e_bound; memo = root-memo (search rules) c.new_round.ensures; }
 
 pub returns : goal.returns
-returns c = let a = c.args in root-done a.fact a.job.now a.rule (bindings_in a.bound.now a.pairs.now a.globals.now) c.requires.ready c.requires.e_bound (omega (arith, c.new_round.auto.0, c.requires.job_in_bounds)) c.new_round.ensures c.eval.ensures
+returns c = let a = c.args in root-done a.fact a.job.now a.rule (bindings_in a.bound.now a.pairs.now a.globals.now) c.requires.ready c.requires.e_bound (omega (arith, c.new_round.auto.memo, c.requires.job_in_bounds)) c.new_round.ensures c.eval.ensures

@@ -9,7 +9,7 @@ pub returns-in-Lit : goal.returns-in-Lit
 returns-in-Lit c = let a = c.args in head-does a.fact _ _ a.rule _ a.args.now _ a.head _ c.in-Lit.is c.add_lit.ensures
 
 pub returns-in-Var : goal.returns-in-Var
-returns-in-Var c = let a = c.args in head-does a.fact _ _ a.rule _ a.args.now _ a.head _ c.in-Var.is (variable-does c.requires.indexed c.variable.ensures)
+returns-in-Var c = let a = c.args in head-does a.fact _ _ a.rule _ a.args.now _ a.head _ c.in-Var.is (variable-does c.requires.indexed (c.variable.ensures.fill_value, c.variable.ensures.s_value))
 
 pub returns-in-Constructor : goal.returns-in-Constructor
 returns-in-Constructor c = let a = c.args in head-does a.fact _ _ a.rule _ a.args.now _ a.head _ c.in-Constructor.is c.add_app.ensures
