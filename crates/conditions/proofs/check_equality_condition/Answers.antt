@@ -55,4 +55,4 @@ pub shape_of-memo : goal.shape_of-memo
 shape_of-memo c = c.eval_side-b.auto.memo ∙ c.eval_side-a.auto.memo
 
 pub returns : goal.returns
-returns c = λ strict. let a = c.args in let pre = c.requires in let prog = program_for a.job.now in let σ = bindings_in a.bound.now a.pairs.now a.globals.now in let expr = expr_for a.job.now in sides-compared prog a.rule a.i σ strict (expr a.left) (expr a.right) c.eval_side-a.result c.eval_side-a.ensures c.if-a-ne0.false c.eval_side-b.result c.eval_side-b.ensures c.compare_sides.result c.if-b-ne0.false c.variable_of-lv.ensures c.variable_of-rv.ensures c.compare_sides.ensures
+returns c = λ strict. let a = c.args in let pre = c.requires in let prog = program_for a.job.now in let σ = bindings_in a.bound.now a.pairs.now a.globals.now in let expr = expr_for a.job.now in sides-compared prog a.rule a.i σ strict (expr a.left) (expr a.right) c.eval_side-a.result c.eval_side-a.ensures c.if-a-ne0.false c.eval_side-b.result c.eval_side-b.ensures c.compare_sides.result c.if-b-ne0.false c.variable_of-lv.ensures c.variable_of-rv.ensures (c.compare_sides.ensures.fill_value, c.compare_sides.ensures.s_value)

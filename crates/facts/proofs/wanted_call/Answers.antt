@@ -10,13 +10,13 @@ use Rattle.facts.proofs.Wants.{call-unbound, call-refused, call_asks, with-last}
 use Rattle.facts.proofs.wanted_call.Goals as goal
 
 pub returns-then-v-ne0 : goal.returns-then-v-ne0
-returns-then-v-ne0 c = let a = c.args in let pre = c.requires in let prog = program_for a.job.now in let σ = bindings_in a.bound.now a.pairs.now a.globals.now in let expr = expr_for a.job.now in λ right. call-unbound prog a.rule σ (expr a.e) right a.function a.variable pre.indexed pre.past c.variable-v.result c.variable-v.ensures c.if-v-ne0.true c.asks.ensures
+returns-then-v-ne0 c = let a = c.args in let pre = c.requires in let prog = program_for a.job.now in let σ = bindings_in a.bound.now a.pairs.now a.globals.now in let expr = expr_for a.job.now in λ right. call-unbound prog a.rule σ (expr a.e) right a.function a.variable pre.indexed pre.past c.variable-v.result (c.variable-v.ensures.fill_value, c.variable-v.ensures.s_value) c.if-v-ne0.true c.asks.ensures
 
 pub evaluate_arguments-r-requires : goal.evaluate_arguments-r-requires
 evaluate_arguments-r-requires c = let p = c.requires in record { ready = p.ready; keyed = p.keyed; indexed = p.indexed; job_in_bounds = p.job_in_bounds; past = p.past; e_bound = p.e_bound; in_bounds = omega arith; }
 
 pub returns-then-r-ne0 : goal.returns-then-r-ne0
-returns-then-r-ne0 c = let a = c.args in let pre = c.requires in let prog = program_for a.job.now in let σ = bindings_in a.bound.now a.pairs.now a.globals.now in let expr = expr_for a.job.now in λ right. call-refused prog a.rule σ (expr a.e) right a.function a.variable pre.indexed pre.past c.variable-v.result c.variable-v.ensures c.if-v-ne0.false (sym (ap args_of (node-for pre.ready a.e))) c.evaluate_arguments-r.result c.evaluate_arguments-r.ensures c.if-r-ne0.true c.asks-then-r-ne0.ensures
+returns-then-r-ne0 c = let a = c.args in let pre = c.requires in let prog = program_for a.job.now in let σ = bindings_in a.bound.now a.pairs.now a.globals.now in let expr = expr_for a.job.now in λ right. call-refused prog a.rule σ (expr a.e) right a.function a.variable pre.indexed pre.past c.variable-v.result (c.variable-v.ensures.fill_value, c.variable-v.ensures.s_value) c.if-v-ne0.false (sym (ap args_of (node-for pre.ready a.e))) c.evaluate_arguments-r.result c.evaluate_arguments-r.ensures c.if-r-ne0.true c.asks-then-r-ne0.ensures
 
 pub arguments_at-count-requires : goal.arguments_at-count-requires
 arguments_at-count-requires c = let p = c.requires in let h = p.e_bound in record { ready = p.ready; e_bound = omega arith; }
@@ -46,4 +46,4 @@ pub shape_of-memo : goal.shape_of-memo
 shape_of-memo c = c.evaluate_arguments-r.auto.memo
 
 pub returns : goal.returns
-returns c = let a = c.args in let pre = c.requires in let prog = program_for a.job.now in let σ = bindings_in a.bound.now a.pairs.now a.globals.now in let expr = expr_for a.job.now in λ right. call_asks prog a.rule σ (expr a.e) right a.function a.variable pre.indexed pre.past c.variable-v.result c.variable-v.ensures c.if-v-ne0.false (sym (ap args_of (node-for pre.ready a.e))) c.evaluate_arguments-r.result c.evaluate_arguments-r.ensures c.add_app-t.result c.if-r-ne0.false (with-last _ _ _ _ (ap length (c.arguments_at-count.ensures.is ∙ ap (arguments_for a.job.now) c.wide.ensures)) (let f = c.arguments_at-count.ensures.few in let k = c.evaluate_arguments-r.auto.values in omega arith)) c.add_app-t.ensures c.asks-2.ensures
+returns c = let a = c.args in let pre = c.requires in let prog = program_for a.job.now in let σ = bindings_in a.bound.now a.pairs.now a.globals.now in let expr = expr_for a.job.now in λ right. call_asks prog a.rule σ (expr a.e) right a.function a.variable pre.indexed pre.past c.variable-v.result (c.variable-v.ensures.fill_value, c.variable-v.ensures.s_value) c.if-v-ne0.false (sym (ap args_of (node-for pre.ready a.e))) c.evaluate_arguments-r.result c.evaluate_arguments-r.ensures c.add_app-t.result c.if-r-ne0.false (with-last _ _ _ _ (ap length (c.arguments_at-count.ensures.is ∙ ap (arguments_for a.job.now) c.wide.ensures)) (let f = c.arguments_at-count.ensures.few in let k = c.evaluate_arguments-r.auto.values in omega arith)) c.add_app-t.ensures c.asks-2.ensures
