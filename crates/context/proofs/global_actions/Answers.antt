@@ -1,0 +1,81 @@
+use mathlib.Core.Path.{sym, ◌∙◌}
+use mathlib.Core.List.{[]}
+use Prim.Native.Nat.{◌-◌}
+use native.Mathlib.Omega.{arith}
+use Rattle.context.proofs.Starting.{start, stops, turns, finishes}
+use Rattle.context.proofs.global_actions.Goals as goal
+
+pub globals-count-requires : goal.globals-count-requires
+globals-count-requires c = c.requires.standing.ready.held
+
+pub loop-i-init : goal.loop-i-init
+loop-i-init c = let a = c.args in let pre = c.requires in start a.job.now a.found.now pre.standing pre.marks pre.table_len pre.unions_len
+
+pub overflow_cast-i : goal.overflow_cast-i
+overflow_cast-i c = let w = c.requires.standing.ready.held.limits.globals in let h = c.loop-i-test.true in omega arith
+
+pub global_action-r-requires : goal.global_action-r-requires
+global_action-r-requires c = let w = c.requires.standing.ready.held.limits in let h = c.loop-i-test.true in let v = c.loop-i.invariant in let f = w.globals in let g = w.first in let l = v.low in let t = v.table in let b = v.high in let u = v.unions in let n = v.few in record { standing = v.standing; i_bound = omega arith; le_at = omega arith; at_in_bounds = omega arith; n_in_bounds = omega arith; even = v.even; }
+
+pub shape_of-skinds-then-r-ne0 : goal.shape_of-skinds-then-r-ne0
+shape_of-skinds-then-r-ne0 c = (c.global_action-r.ensures.does []).grown.len_k ∙ c.loop-i.invariant.grown.len_k
+
+pub shape_of-sends-then-r-ne0 : goal.shape_of-sends-then-r-ne0
+shape_of-sends-then-r-ne0 c = (c.global_action-r.ensures.does []).grown.len_e ∙ c.loop-i.invariant.grown.len_e
+
+pub shape_of-spool-then-r-ne0 : goal.shape_of-spool-then-r-ne0
+shape_of-spool-then-r-ne0 c = (c.global_action-r.ensures.does []).grown.len_p ∙ c.loop-i.invariant.grown.len_p
+
+pub shape_of-index-then-r-ne0 : goal.shape_of-index-then-r-ne0
+shape_of-index-then-r-ne0 c = (c.global_action-r.ensures.does []).grown.len_i ∙ c.loop-i.invariant.grown.len_i
+
+pub shape_of-memo-then-r-ne0 : goal.shape_of-memo-then-r-ne0
+shape_of-memo-then-r-ne0 c = c.global_action-r.auto.memo ∙ c.loop-i.invariant.len_memo
+
+pub shape_of-marks-then-r-ne0 : goal.shape_of-marks-then-r-ne0
+shape_of-marks-then-r-ne0 c = c.global_action-r.auto.marks ∙ c.loop-i.invariant.len_m
+
+pub shape_of-table-then-r-ne0 : goal.shape_of-table-then-r-ne0
+shape_of-table-then-r-ne0 c = c.global_action-r.auto.table ∙ c.loop-i.invariant.table ∙ sym c.requires.table_len
+
+pub shape_of-unions-then-r-ne0 : goal.shape_of-unions-then-r-ne0
+shape_of-unions-then-r-ne0 c = c.global_action-r.auto.unions ∙ c.loop-i.invariant.unions ∙ sym c.requires.unions_len
+
+pub returns-then-r-ne0 : goal.returns-then-r-ne0
+returns-then-r-ne0 c = let a = c.args in stops a.job.now a.found.now c.loop-i.invariant (omega (arith, c.loop-i-test.true, c.globals-count.ensures)) c.global_action-r.ensures c.requires.standing.ready.held.limits c.if-r-ne0.true
+
+pub overflow_add-i : goal.overflow_add-i
+overflow_add-i c = let w = c.requires.standing.ready.held.limits.globals in let h = c.loop-i-test.true in omega arith
+
+pub loop-i-smaller : goal.loop-i-smaller
+loop-i-smaller c = let h = c.loop-i-test.true in omega arith
+
+pub loop-i-preserved : goal.loop-i-preserved
+loop-i-preserved c = let a = c.args in let k = c.global_action-r.auto.sends in turns a.job.now a.found.now c.loop-i.invariant (omega (arith, c.loop-i-test.true, c.globals-count.ensures)) c.global_action-r.ensures c.if-r-ne0.false k.1.1.1.1.1.1.0 k.1.1.1.1.1.1.1.0 k.1.1.1.1.1.1.1.1.0 k.1.1.1.1.1.1.1.1.1.1.0
+
+pub shape_of-skinds : goal.shape_of-skinds
+shape_of-skinds c = c.loop-i.invariant.grown.len_k
+
+pub shape_of-sends : goal.shape_of-sends
+shape_of-sends c = c.loop-i.invariant.grown.len_e
+
+pub shape_of-spool : goal.shape_of-spool
+shape_of-spool c = c.loop-i.invariant.grown.len_p
+
+pub shape_of-index : goal.shape_of-index
+shape_of-index c = c.loop-i.invariant.grown.len_i
+
+pub shape_of-memo : goal.shape_of-memo
+shape_of-memo c = c.loop-i.invariant.len_memo
+
+pub shape_of-marks : goal.shape_of-marks
+shape_of-marks c = c.loop-i.invariant.len_m
+
+pub shape_of-table : goal.shape_of-table
+shape_of-table c = c.loop-i.invariant.table ∙ sym c.requires.table_len
+
+pub shape_of-unions : goal.shape_of-unions
+shape_of-unions c = c.loop-i.invariant.unions ∙ sym c.requires.unions_len
+
+pub returns : goal.returns
+returns c = let a = c.args in finishes a.job.now a.found.now c.loop-i.invariant c.requires.standing.ready.held.limits (omega (arith, c.loop-i-test.false, c.globals-count.ensures))
