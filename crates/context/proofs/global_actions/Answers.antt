@@ -51,7 +51,7 @@ pub loop-i-smaller : goal.loop-i-smaller
 loop-i-smaller c = let h = c.loop-i-test.true in omega arith
 
 pub loop-i-preserved : goal.loop-i-preserved
-loop-i-preserved c = let a = c.args in let k = c.global_action-r.auto.sends in turns a.job.now a.found.now c.loop-i.invariant (omega (arith, c.loop-i-test.true, c.globals-count.ensures)) c.global_action-r.ensures c.if-r-ne0.false k.1.1.1.1.1.1.0 k.1.1.1.1.1.1.1.0 k.1.1.1.1.1.1.1.1.0 k.1.1.1.1.1.1.1.1.1.1.0
+loop-i-preserved c = let a = c.args in turns a.job.now a.found.now c.loop-i.invariant (omega (arith, c.loop-i-test.true, c.globals-count.ensures)) c.global_action-r.ensures c.if-r-ne0.false c.global_action-r.auto.memo c.global_action-r.auto.marks c.global_action-r.auto.table c.global_action-r.auto.unions
 
 pub shape_of-skinds : goal.shape_of-skinds
 shape_of-skinds c = c.loop-i.invariant.grown.len_k

@@ -39,4 +39,4 @@ pub shape_of-marks : goal.shape_of-marks
 shape_of-marks c = c.is_claimed-claimed.auto.marks ∙ c.head_actions-h.auto.marks ∙ c.clear_if.auto.marks
 
 pub returns : goal.returns
-returns c = let a = c.args in let H = c.head_actions-h.ensures in let n = c.if-h-ne0.false in let x = actions-for a.job.now a.r c.rule_actions_at-actions.ensures.is in let l = c.requires.standing.cells in let g = H.does.grown.len_k in let u = c.head_actions-h.auto.marks in let v = c.clear_if.auto.marks in produce-by (program_for a.job.now) (rule_for a.job.now a.r) (bindings_in a.bound.now a.pairs.now a.globals.now) (proposition_of a.q) c.rule_name_at-rule.ensures x H n (claimed-is (program_for a.job.now) (rule_for a.job.now a.r) (bindings_in a.bound.now a.pairs.now a.globals.now) (proposition_of a.q) c.rule_name_at-rule.ensures x H n refl a.marks.now c.clear_if.ensures (omega arith) c.is_claimed-claimed.ensures) c.produced.ensures
+returns c = let a = c.args in let H = c.head_actions-h.ensures in let n = c.if-h-ne0.false in let x = actions-for a.job.now a.r c.rule_actions_at-actions.ensures.is in let l = c.requires.standing.cells in let g = H.does.grown.len_k in let u = c.head_actions-h.auto.marks in let v = c.clear_if.auto.marks in produce-by (program_for a.job.now) (rule_for a.job.now a.r) (bindings_in a.bound.now a.pairs.now a.globals.now) (proposition_of a.q) c.rule_name_at-rule.ensures x H n (claimed-is (program_for a.job.now) (rule_for a.job.now a.r) (bindings_in a.bound.now a.pairs.now a.globals.now) (proposition_of a.q) c.rule_name_at-rule.ensures x H n refl a.marks.now c.clear_if.ensures (omega arith) c.is_claimed-claimed.ensures) (c.produced.ensures.fill_value, c.produced.ensures.s_value)

@@ -37,4 +37,4 @@ pub shape_of-memo : goal.shape_of-memo
 shape_of-memo c = c.evaluate-v.auto.memo
 
 pub returns : goal.returns
-returns c = let a = c.args in let P = c.requires in λ t u w. run-marks (standing-cleared P.standing c.clear.auto.marks) P.e_bound P.lhs_value c.evaluate-v.ensures t u w c.if-v-ne0.false (length a.marks.now) c.clear.ensures c.size.ensures c.mark_values.ensures c.mark_values.auto.marks c.is_covered-claimed.ensures c.produced.ensures
+returns c = let a = c.args in let P = c.requires in λ t u w. run-marks (standing-cleared P.standing c.clear.auto.marks) P.e_bound P.lhs_value c.evaluate-v.ensures t u w c.if-v-ne0.false (length a.marks.now) c.clear.ensures c.size.ensures c.mark_values.ensures c.mark_values.auto.marks c.is_covered-claimed.ensures (c.produced.ensures.fill_value, c.produced.ensures.s_value)
