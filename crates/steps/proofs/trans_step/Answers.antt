@@ -1,0 +1,9 @@
+use Rattle.decode.specs.View.{proposition_of}
+use Rattle.steps.proofs.PlainLaws.{trans-first, trans-both}
+use Rattle.steps.proofs.trans_step.Goals as goal
+
+pub returns-then-first-ne0 : goal.returns-then-first-ne0
+returns-then-first-ne0 c = let a = c.args in λ s. trans-first a.p (proposition_of a.q) (proposition_of a.a) (proposition_of a.b) _ c.check_that-first.ensures s c.if-first-ne0.true
+
+pub returns : goal.returns
+returns c = let a = c.args in λ s. trans-both a.p (proposition_of a.q) (proposition_of a.a) (proposition_of a.b) _ c.check_that-first.ensures s _ c.if-first-ne0.false c.check_that.ensures
