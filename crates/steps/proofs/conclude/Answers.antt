@@ -4,6 +4,7 @@ use mathlib.Core.List.Memᴰ
 use lib.ListN.{length-take}
 use Rattle.steps.proofs.JobLaws.{reference-inside, first-cells}
 use Rattle.steps.proofs.ConcludeLaws.{plain-arm, claim-here, justified-here, concludes-plain, concludes-merge, concludes-congr}
+use borrow.Enum.Refused.{opened}
 use Rattle.steps.proofs.conclude.Goals as goal
 
 pub merge_at-requires : goal.merge_at-requires
@@ -25,4 +26,4 @@ pub returns-in-Congr : goal.returns-in-Congr
 returns-in-Congr c = let a = c.args in let pre = c.requires in concludes-congr a.job.now a.found.now a.unions.now a.skinds.now a.sends.now a.spool.now a.index.now a.fill a.memo.now a.scratch.now a.p pre.prepared c.wide-n.ensures c.claim_at-q.result c.justification_at-j.result c.claim_at-q.ensures c.justification_at-j.ensures c.congr_at.result {k₁ = c.congr_at.new.skinds} {e₁ = c.congr_at.new.sends} {l₁ = c.congr_at.new.spool} c.in-Congr.is (reference-inside (justified-here a.job.now a.found.now a.unions.now a.skinds.now a.sends.now a.spool.now a.index.now a.fill a.memo.now a.scratch.now a.p pre.prepared c.wide-n.ensures c.claim_at-q.result c.justification_at-j.result c.claim_at-q.ensures c.justification_at-j.ensures) pre.p_bound c.in-Congr.is (Memᴰ.tail (Memᴰ.head refl)) refl) c.congr_at.ensures
 
 pub returns-in_default : goal.returns-in_default
-returns-in_default c = let a = c.args in let pre = c.requires in concludes-plain a.job.now a.found.now a.unions.now a.skinds.now a.sends.now a.spool.now a.index.now a.fill a.memo.now a.scratch.now a.p pre.prepared c.wide-n.ensures c.claim_at-q.result c.justification_at-j.result c.claim_at-q.ensures c.justification_at-j.ensures (plain-arm c.justification_at-j.result c.in_default.in_default-own.keys3) c.plain_step-refusal.ensures
+returns-in_default c = let a = c.args in let pre = c.requires in concludes-plain a.job.now a.found.now a.unions.now a.skinds.now a.sends.now a.spool.now a.index.now a.fill a.memo.now a.scratch.now a.p pre.prepared c.wide-n.ensures c.claim_at-q.result c.justification_at-j.result c.claim_at-q.ensures c.justification_at-j.ensures (plain-arm c.justification_at-j.result (opened c.in_default.in_default-own.keys3)) c.plain_step-refusal.ensures
