@@ -304,7 +304,7 @@ module _ (J : List ℕ) (strict : Bool) (F G U : List ℕ) (p : ℕ) (rule : Boo
         whole : Owes J strict F G U p k e q ix f W k e q ix f memo W (bindings (drop 34 T)) (rest turns 0)
         whole = subst⁻¹ (λ (X : List ℕ). Owes J strict F G U p k e q ix f W k e q ix f memo W (bindings X) (rest turns 0)) nothing (record {
           part = λ room ps done. pure (bindings [], done);
-          walks = walks-here g (λ ps done y. does-here g.indexed refl);
+          walks = walks-here {A = List Binding × List ℕ} {r = passed} {a = λ d. (bindings [], d)} {o = λ room ps done. pure (bindings [], done)} g (λ ps done y. does-here g.indexed refl);
           same = λ ps done. S.step (room_of k q) strict G ps (sub J strict F G U p (room_of k q) ps) done (terms_in k e q f);
         })
 
