@@ -63,8 +63,7 @@ fn check_whole(job: &[u8], asked: u32, mode: u32, answer: &mut [u32]) -> u32
 }
 
 // THE HOST ENTRY WITH A MODE: the check of a job's bytes for an asked proof, with a store of its own. What a returned 0 means is in proofs/Sound.
-#[unsafe(no_mangle)]
-pub extern "C" fn sizercobalt_check_bytes_mode(
+pub fn sizercobalt_check_bytes_mode(
     job: &[u8],
     asked: u32,
     mode: u32,
@@ -85,16 +84,14 @@ pub extern "C" fn sizercobalt_check_bytes_mode(
 }
 
 // THE HOST ENTRY, at mode 0.
-#[unsafe(no_mangle)]
-pub extern "C" fn sizercobalt_check_bytes(job: &[u8], asked: u32, answer: &mut [u32]) -> u32
+pub fn sizercobalt_check_bytes(job: &[u8], asked: u32, answer: &mut [u32]) -> u32
     ensures { record { number = result; answer = answer.new } ≡ host_entry job.now asked answer.old }
 {
     sizercobalt_check_bytes_mode(job, asked, 0, answer)
 }
 
 // `entry::check`, for hosts that lend their own store. What a returned 0 means is in entry/proofs/Sound.
-#[unsafe(no_mangle)]
-pub extern "C" fn sizercobalt_check(
+pub fn sizercobalt_check(
     job: &[u32],
     asked: u32,
     mode: u32,
@@ -105,7 +102,7 @@ pub extern "C" fn sizercobalt_check(
     scratch: &mut [u32],
     answer: &mut [u32],
 ) -> u32
-    ensures { record { number = result; answer = answer.new; arrays = record { kinds = kinds.exit.now; ends = ends.new; pool = pool.new } } ≡ entry job.now asked mode (record { kinds = kinds.entry.now; ends = ends.old; pool = pool.old }) (length index.old) (length scratch.old) answer.old }
+    ensures { record { number = result; answer = answer.new; arrays = record { kinds = kinds.new; ends = ends.new; pool = pool.new } } ≡ entry job.now asked mode (record { kinds = kinds.old; ends = ends.old; pool = pool.old }) (length index.old) (length scratch.old) answer.old }
 {
     check(job, asked, mode, kinds, ends, pool, index, scratch, answer)
 }
