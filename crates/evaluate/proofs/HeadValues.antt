@@ -79,20 +79,6 @@ finds-known k h = record { value = λ v e. k.value v (h v e) }
 pub finds-none : {r : Looked} {o : Outcome ℕ} {s : List Term} → r ≡ Looked.None → Finds r o s
 finds-none e = record { value = λ v q. let y : ◌≡◌ {A = ℕ} 0 1 = cc in absurd (omega arith) }
 
--- a call's words: its name, and the values behind it
-pub call-words : (ws : List ℕ) (f k : ℕ) → k < length ws → app (get_or (take (k + 1) (set ws 0 f)) 0 0) (drop 1 (take (k + 1) (set ws 0 f))) ≡ app f (take k (drop 1 ws))
-call-words [] f k h = absurd (not-suc-le-zero h)
-call-words (w ∷ ws) f k h = rw (add-one k) refl
-
-pub behind-name : (ws : List ℕ) (f : ℕ) → drop 1 (set ws 0 f) ≡ drop 1 ws
-behind-name [] f = refl
-behind-name (w ∷ ws) f = refl
-
-pub call-found : (room : Room) (s : List Term) (ws : List ℕ) (f k : ℕ) {r : Looked} {w : ℕ} → k < length ws
-    → Known w (add_node room (app (get_or (take (k + 1) (set ws 0 f)) 0 0) (drop 1 (take (k + 1) (set ws 0 f)))) s) s → ((v : ℕ) → r ≡ Looked.Some v → w ≡ suc v)
-    → Finds r (add_node room (app f (take k (drop 1 ws))) s) s
-call-found room s ws f k {r} h K g = subst (λ (t : Term). Finds r (add_node room t s) s) (call-words ws f k h) (finds-known K g)
-
 -- primitives
 module _ (prog : Program) (n p : ℕ) (xs : List ℕ) (q : Primitive) (is : q ≡ primitive_at prog.primitives p) where
   by-validator : (room : Room) (b : Bool) (s : List Term) → q.validator ≡ b → validated room prog n p xs s ≡ validated_by room prog n p xs b s

@@ -61,24 +61,6 @@ pub at_head : (fact : Bool) (room : Room) (prog : Program) (rule : ℕ) (σ : Li
 at_head fact room prog rule σ ts s {K = K} {E = E} {P = P} {I = I} {f = f} {K' = K'} {E' = E'} {P' = P'} {I' = I'} {f' = f'} {r = r} {a = a} e d =
     subst (λ (x : Head). Does K E P I f K' E' P' I' f' r a (head_term fact room prog rule σ x ts s)) e d
 
--- the values that stand behind the first word
-pub behind-full : (ws : List ℕ) → length ws ≡ 17 → length (drop 1 ws) ≡ 16
-behind-full [] e = absurd (omega arith)
-behind-full (w ∷ ws) e = omega arith
-
-pub behind-whole : (ws : List ℕ) → length (drop 1 ws) ≡ 16 → length ws ≡ 17
-behind-whole [] e = absurd (omega arith)
-behind-whole (w ∷ ws) e = omega arith
-
-pub behind-count : (ws ws' : List ℕ) (k : ℕ) → drop 1 ws ≡ drop 1 ws' → take (k + 1 - 1) (drop 1 ws) ≡ take k (drop 1 ws')
-behind-count ws ws' k q = let e : k + 1 - 1 ≡ k = omega arith in λ j. take (e j) (q j)
-
-pub at-values : (fact : Bool) (room : Room) (prog : Program) (rule : ℕ) (σ : List Binding) (h : Head) (s : List Term) {ts ts' : List ℕ}
-    {K E P I : List ℕ} {f : Fill} {K' E' P' I' : List ℕ} {f' : Fill} {r : Refusal} {a : ℕ} → ts ≡ ts'
-    → Does K E P I f K' E' P' I' f' r a (head_term fact room prog rule σ h ts s) → Does K E P I f K' E' P' I' f' r a (head_term fact room prog rule σ h ts' s)
-at-values fact room prog rule σ h s {K = K} {E = E} {P = P} {I = I} {f = f} {K' = K'} {E' = E'} {P' = P'} {I' = I'} {f' = f'} {r = r} {a = a} e d =
-    subst (λ (x : List ℕ). Does K E P I f K' E' P' I' f' r a (head_term fact room prog rule σ h x s)) e d
-
 -- a value that needs no new term
 pub found-does : (K E P I : List ℕ) (f : Fill) {r : Looked} {t : ℕ} {o : Outcome ℕ} → Indexed K E P I f → Finds r o (terms_in K E P f) → r ≡ Looked.Some t → Does K E P I f K E P I f passed t o
 found-does K E P I f {t = t} S F q = does-here S (sym (F.value t q))

@@ -87,11 +87,6 @@ unfolding weight
 weight-less n u zero h = absurd (not-suc-le-zero h)
 weight-less n u (suc v) h = let r = weight-same n u v (le_of_suc-le-suc h) in omega arith
 
--- a value put behind the first word
-pub put-behind : (ws : List ℕ) (i t : ℕ) → drop 1 (set ws (i + 1) t) ≡ set (drop 1 ws) i t
-put-behind [] i t = refl
-put-behind (w ∷ ws) i t = rw (add-one i) refl
-
 -- what is known without an evaluation
 module _ {head : ℕ → Head} {σ : List Binding} where
   pub knows-length : {e : ℕ} {m : List ℕ} {r : Looked} {m' : List ℕ} → Knows head σ e m r m' → length m' ≡ length m
@@ -112,14 +107,13 @@ module _ {head : ℕ → Head} {σ : List Binding} where
       let v = low i l in
       let q = knows-above k (λ z. omega arith) w in (q.0 ∙ p.0, q.1 ∙ p.1)
 
-  pub first_more : {xs m₀ vals₀ : List ℕ} {i t : ℕ} {m m' : List ℕ} (ws : List ℕ) {r : Looked} → KnowsFirst head σ xs m₀ vals₀ i m (drop 1 ws) → i < length xs → Knows head σ (get_or xs i 0) m r m' → r ≡ Looked.Some t
-      → KnowsFirst head σ xs m₀ vals₀ (i + 1) m' (drop 1 (set ws (i + 1) t))
-  first_more {xs} {m₀} {vals₀} {i} {t} {m} {m'} ws W h w q =
-      subst⁻¹ (KnowsFirst head σ xs m₀ vals₀ (i + 1) m') (put-behind ws i t) (more W h (subst (λ (y : Looked). Knows head σ (get_or xs i 0) m y m') q w))
+  pub first_more : {xs m₀ vals₀ : List ℕ} {i t : ℕ} {m m' vals : List ℕ} {r : Looked} → KnowsFirst head σ xs m₀ vals₀ i m vals → i < length xs → Knows head σ (get_or xs i 0) m r m' → r ≡ Looked.Some t
+      → KnowsFirst head σ xs m₀ vals₀ (i + 1) m' (set vals i t)
+  first_more {xs} {i = i} {m = m} {m' = m'} W h w q = more W h (subst (λ (y : Looked). Knows head σ (get_or xs i 0) m y m') q w)
 
-  pub first-noted : {xs m₀ vals₀ : List ℕ} {i : ℕ} {m : List ℕ} (ws : List ℕ) {t : ℕ} → KnowsFirst head σ xs m₀ vals₀ i m (drop 1 ws) → i < length xs → is_noted m (get_or xs i 0) ≡ true → t ≡ value_at m (get_or xs i 0)
-      → KnowsFirst head σ xs m₀ vals₀ (i + 1) m (drop 1 (set ws (i + 1) t))
-  first-noted {m = m} ws {t} W h p q = first_more ws W h (noted p refl refl) (ap Looked.Some (sym q))
+  pub first-noted : {xs m₀ vals₀ : List ℕ} {i : ℕ} {m vals : List ℕ} {t : ℕ} → KnowsFirst head σ xs m₀ vals₀ i m vals → i < length xs → is_noted m (get_or xs i 0) ≡ true → t ≡ value_at m (get_or xs i 0)
+      → KnowsFirst head σ xs m₀ vals₀ (i + 1) m (set vals i t)
+  first-noted {m = m} {t = t} W h p q = first_more W h (noted p refl refl) (ap Looked.Some (sym q))
 
   pub first-same : {xs m₀ vals₀ : List ℕ} {i : ℕ} {m m' vals : List ℕ} → m' ≡ m → KnowsFirst head σ xs m₀ vals₀ i m vals → KnowsFirst head σ xs m₀ vals₀ i m' vals
   first-same {xs} {m₀} {vals₀} {i} {vals = vals} g W = subst⁻¹ (λ (l : List ℕ). KnowsFirst head σ xs m₀ vals₀ i l vals) g W

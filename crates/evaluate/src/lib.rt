@@ -201,12 +201,12 @@ fn known_value(
     }
 }
 
-// The values of a call's arguments from `from` on, as far as they are noted, put behind the first word of ws; up to which.
-fn noted_values(memo: &[u32], args: &[u32], ws: &mut [u32; 17], from: usize) -> usize
+// The values of a call's arguments from `from` on, as far as they are noted; up to which.
+fn noted_values(memo: &[u32], args: &[u32], vals: &mut [u32; 16], from: usize) -> usize
     requires args_len_bound { length args.now ≤ 16 }
     requires from_in_bounds { from ≤ length args.now }
     requires by_index { (j : ℕ) → j < length args.now → get_or args.now j 0 + get_or args.now j 0 + 2 < length memo.now }
-    ensures more { (head : ℕ → Program.Head) (σ : List Binding) (m₀ vals₀ : List ℕ) → KnowsFirst head σ args.now m₀ vals₀ from memo.now (drop 1 ws.old) → KnowsFirst head σ args.now m₀ vals₀ result memo.now (drop 1 ws.new) }
+    ensures more { (head : ℕ → Program.Head) (σ : List Binding) (m₀ vals₀ : List ℕ) → KnowsFirst head σ args.now m₀ vals₀ from memo.now vals.old → KnowsFirst head σ args.now m₀ vals₀ result memo.now vals.new }
     ensures next { result < length args.now → is_noted memo.now (get_or args.now result 0) ≡ false }
     ensures far { from ≤ result }
 {
@@ -216,13 +216,13 @@ fn noted_values(memo: &[u32], args: &[u32], ws: &mut [u32; 17], from: usize) -> 
         if !memo::is_noted(memo, at) {
             return i;
         }
-        ws[i + 1] = memo::value_of(memo, at);
+        vals[i] = memo::value_of(memo, at);
         i += 1;
     }
     i
 }
 
-// The values of a call's arguments, from the first on, as far as they need no evaluation, put behind the first word of ws; how many they are.
+// The values of a call's arguments, from the first on, as far as they need no evaluation; how many they are.
 fn known_values(
     job: &[u32],
     bound: &[u32],
@@ -230,23 +230,23 @@ fn known_values(
     globals: &[u32],
     memo: &mut [u32],
     args: &[u32],
-    ws: &mut [u32; 17],
+    vals: &mut [u32; 16],
 ) -> usize
     requires ready { Ready job.now }
     requires job_in_bounds { (sizes_of job.now).expressions + (sizes_of job.now).expressions < length memo.old }
     requires args_len_bound { length args.now ≤ 16 }
     requires by_index { (j : ℕ) → j < length args.now → get_or args.now j 0 < (sizes_of job.now).expressions }
-    ensures known { KnowsFirst (head_for job.now) (bindings_in bound.now pairs.now globals.now) args.now memo.old (drop 1 ws.old) result memo.new (drop 1 ws.new) }
+    ensures known { KnowsFirst (head_for job.now) (bindings_in bound.now pairs.now globals.now) args.now memo.old vals.old result memo.new vals.new }
     ensures next { result < length args.now → is_noted memo.new (get_or args.now result 0) ≡ false }
 {
-    let mut i = noted_values(memo, args, ws, 0);
+    let mut i = noted_values(memo, args, vals, 0);
     while i < args.len() {
         let known = known_value(job, bound, pairs, globals, memo, args[i]);
         let Looked::Some(t) = known else {
             return i;
         };
-        ws[i + 1] = t;
-        i = noted_values(memo, args, ws, i + 1);
+        vals[i] = t;
+        i = noted_values(memo, args, vals, i + 1);
     }
     i
 }
@@ -261,7 +261,7 @@ fn number_found(w: u32) -> Looked
     Looked::Some(w - 1)
 }
 
-// The value of a call whose term is in the store already. The arguments' values stand behind the first word of ws, which becomes the name.
+// The value of a call whose term is in the store already.
 fn find_call(
     skinds: &[u32],
     sends: &[u32],
@@ -269,16 +269,16 @@ fn find_call(
     index: &[u32],
     fill: Fill,
     f: u32,
-    ws: &mut [u32],
-    count: usize,
+    args: &[u32],
 ) -> Looked
     requires indexed { Indexed skinds.now sends.now spool.now index.now fill }
-    requires count_in_bounds { count < length ws.old }
-    ensures finds { Finds result (add_node (room_of skinds.now spool.now) (app f (take count (drop 1 ws.old))) (terms_in skinds.now sends.now spool.now fill)) (terms_in skinds.now sends.now spool.now fill) }
-    ensures kept { drop 1 ws.new ≡ drop 1 ws.old }
+    requires args_len_bound { length args.now ≤ 16 }
+    ensures { Finds result (add_node (room_of skinds.now spool.now) (app f args.now) (terms_in skinds.now sends.now spool.now fill)) (terms_in skinds.now sends.now spool.now fill) }
 {
+    let mut ws = [0u32; 17];
     ws[0] = f;
-    let n = count + 1;
+    cells::copy(&mut ws, 1, args);
+    let n = args.len() + 1;
     number_found(find_app(skinds, sends, spool, index, fill, &ws[..n]))
 }
 
@@ -291,18 +291,16 @@ fn find_custom(
     index: &[u32],
     fill: Fill,
     f: u32,
-    ws: &mut [u32],
-    count: usize,
+    args: &[u32],
 ) -> Looked
     requires indexed { Indexed skinds.now sends.now spool.now index.now fill }
-    requires count_in_bounds { count < length ws.old }
-    ensures finds { Finds result (custom_term fact (room_of skinds.now spool.now) f (take count (drop 1 ws.old)) (terms_in skinds.now sends.now spool.now fill)) (terms_in skinds.now sends.now spool.now fill) }
-    ensures kept { drop 1 ws.new ≡ drop 1 ws.old }
+    requires args_len_bound { length args.now ≤ 16 }
+    ensures { Finds result (custom_term fact (room_of skinds.now spool.now) f args.now (terms_in skinds.now sends.now spool.now fill)) (terms_in skinds.now sends.now spool.now fill) }
 {
     if fact {
         return Looked::None;
     }
-    find_call(skinds, sends, spool, index, fill, f, ws, count)
+    find_call(skinds, sends, spool, index, fill, f, args)
 }
 
 // A primitive's value, if it needs no new term.
@@ -345,26 +343,23 @@ fn find_value(
     index: &[u32],
     fill: Fill,
     head: Head,
-    ws: &mut [u32],
-    count: usize,
+    args: &[u32],
 ) -> Looked
     requires ready { Ready job.now }
     requires keyed { Keyed job.now found.now }
     requires indexed { Indexed skinds.now sends.now spool.now index.now fill }
-    requires count_in_bounds { count < length ws.old }
+    requires args_len_bound { length args.now ≤ 16 }
     requires by_index { (p : ℕ) → head ≡ heads.Head.Primitive p → p < (sizes_of job.now).primitives }
-    ensures finds { (rule : ℕ) (σ : List Binding) → Finds result (head_term fact (room_of skinds.now spool.now) (program_for job.now) rule σ (head_of head) (take count (drop 1 ws.old)) (terms_in skinds.now sends.now spool.now fill)) (terms_in skinds.now sends.now spool.now fill) }
-    ensures kept { drop 1 ws.new ≡ drop 1 ws.old }
+    ensures { (rule : ℕ) (σ : List Binding) → Finds result (head_term fact (room_of skinds.now spool.now) (program_for job.now) rule σ (head_of head) args.now (terms_in skinds.now sends.now spool.now fill)) (terms_in skinds.now sends.now spool.now fill) }
 {
     match head {
         Head::Lit(l) => number_found(find_lit(skinds, sends, spool, index, fill, l)),
         Head::Var(_) => Looked::None,
-        Head::Constructor(f) => find_call(skinds, sends, spool, index, fill, f, ws, count),
-        Head::Custom(f) => find_custom(fact, skinds, sends, spool, index, fill, f, ws, count),
-        Head::Primitive(p) => {
-            let n = count + 1;
-            find_validated(job, found, skinds, sends, spool, index, fill, p, &ws[1..n])
-        }
+        Head::Constructor(f) => find_call(skinds, sends, spool, index, fill, f, args),
+        Head::Custom(f) => find_custom(fact, skinds, sends, spool, index, fill, f, args),
+        Head::Primitive(p) => find_validated(
+            job, found, skinds, sends, spool, index, fill, p, args,
+        ),
     }
 }
 
@@ -397,13 +392,13 @@ pub fn eval(
     if memo::is_noted(memo, root) {
         return pass(memo::value_of(memo, root), fill);
     }
-    let mut ws = [0u32; 17];
+    let mut vals = [0u32; 16];
     let mut have = fill;
     let mut at = e;
     loop {
         let i = wide(at);
         let args = arguments_at(job, i);
-        let count = known_values(job, bound, pairs, globals, memo, args, &mut ws);
+        let count = known_values(job, bound, pairs, globals, memo, args, &mut vals);
         if count < args.len() {
             let below = args[count];
             memo::put_value(memo, wide(below), at);
@@ -412,7 +407,16 @@ pub fn eval(
         }
         let head = head_at(job, i);
         let known = find_value(
-            job, found, fact, skinds, sends, spool, index, have, head, &mut ws, count,
+            job,
+            found,
+            fact,
+            skinds,
+            sends,
+            spool,
+            index,
+            have,
+            head,
+            &vals[..count],
         );
         if let Looked::Some(t) = known {
             let above = memo::value_of(memo, i);
@@ -423,7 +427,6 @@ pub fn eval(
             at = above;
             continue;
         }
-        let n = count + 1;
         let r = head_value(
             job,
             found,
@@ -438,7 +441,7 @@ pub fn eval(
             index,
             have,
             head,
-            &ws[1..n],
+            &vals[..count],
         );
         if r.refusal.number != 0 {
             return r;

@@ -63,12 +63,7 @@ fn check_whole(job: &[u8], asked: u32, mode: u32, answer: &mut [u32]) -> u32
 }
 
 // THE HOST ENTRY WITH A MODE: the check of a job's bytes for an asked proof, with a store of its own. What a returned 0 means is in proofs/Sound.
-pub fn sizercobalt_check_bytes_mode(
-    job: &[u8],
-    asked: u32,
-    mode: u32,
-    answer: &mut [u32],
-) -> u32
+pub fn sizercobalt_check_bytes_mode(job: &[u8], asked: u32, mode: u32, answer: &mut [u32]) -> u32
     ensures { record { number = result; answer = answer.new } ≡ host_entry_mode job.now asked mode answer.old }
 {
     if answer.len() != 8 {

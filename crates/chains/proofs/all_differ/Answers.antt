@@ -10,7 +10,7 @@ pub loop-i-init : goal.loop-i-init
 loop-i-init c = let a = c.args in unlike-none (same_key a.rows (words_from a.kinds.now a.ends.now a.pool.now a.fill a.first)) a.n
 
 pub again_later-requires : goal.again_later-requires
-again_later-requires c = let pre = c.requires in record { formed = pre.formed; n_bound = pre.n_bound; chained = pre.chained; i_lt_n = c.loop-i-test.true; }
+again_later-requires c = let pre = c.requires in record { formed = pre.formed; n_bound = pre.n_bound; chained = pre.chained; i_lt_n = c.loop-i-test.true }
 
 pub returns-then-again_later : goal.returns-then-again_later
 returns-then-again_later c = λ e. absurd (true≢false (sym e))

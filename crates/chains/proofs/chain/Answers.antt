@@ -8,7 +8,7 @@ use Rattle.chains.proofs.Chaining.{chained-none, within_same, within_both, withi
 use Rattle.chains.proofs.chain.Goals as goal
 
 pub empty-requires : goal.empty-requires
-empty-requires c = record { n_in_bounds = omega (arith, c.requires.n_in_bounds); n_bound = omega (arith, c.requires.formed.few, c.requires.formed.kinds, c.requires.n_bound); }
+empty-requires c = record { n_in_bounds = omega (arith, c.requires.n_in_bounds); n_bound = omega (arith, c.requires.formed.few, c.requires.formed.kinds, c.requires.n_bound) }
 
 pub loop-i-init : goal.loop-i-init
 loop-i-init c = let a = c.args in
@@ -16,7 +16,7 @@ loop-i-init c = let a = c.args in
     (chained-none (slot_at a.x a.n a.rows (words_from a.kinds.now a.ends.now a.pool.now a.fill a.first)) c.requires.n_in_bounds e, within_same a.b (a.n + a.n) _, omega arith)
 
 pub link-requires : goal.link-requires
-link-requires c = record { n_in_bounds = c.loop-i.invariant.0.long; s_lt_n = c.slot_of-s.ensures.within; i_lt_n = omega (arith, c.loop-i.invariant.2, c.loop-i-test.true); n_bound = omega (arith, c.requires.formed.few, c.requires.formed.kinds, c.requires.n_bound); }
+link-requires c = record { n_in_bounds = c.loop-i.invariant.0.long; s_lt_n = c.slot_of-s.ensures.within; i_lt_n = omega (arith, c.loop-i.invariant.2, c.loop-i-test.true); n_bound = omega (arith, c.requires.formed.few, c.requires.formed.kinds, c.requires.n_bound) }
 
 pub loop-i-preserved : goal.loop-i-preserved
 loop-i-preserved c = let a = c.args in
@@ -39,4 +39,4 @@ pub returns : goal.returns
 returns c = let a = c.args in
     let l = c.loop-i.invariant in
     let z : c.loop-i.i ≡ 0 = omega (arith, c.loop-i-test.false) in
-    record { chained = subst (λ (m : ℕ). Chained (slot_at a.x a.n a.rows (words_from a.kinds.now a.ends.now a.pool.now a.fill a.first)) a.n a.b m c.loop-i.table) z l.0; within = within_both (within_more c.empty.ensures.within) l.1; }
+    record { chained = subst (λ (m : ℕ). Chained (slot_at a.x a.n a.rows (words_from a.kinds.now a.ends.now a.pool.now a.fill a.first)) a.n a.b m c.loop-i.table) z l.0; within = within_both (within_more c.empty.ensures.within) l.1 }

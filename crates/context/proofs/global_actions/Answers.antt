@@ -15,7 +15,7 @@ pub overflow_cast-i : goal.overflow_cast-i
 overflow_cast-i c = let w = c.requires.standing.ready.held.limits.globals in let h = c.loop-i-test.true in omega arith
 
 pub global_action-r-requires : goal.global_action-r-requires
-global_action-r-requires c = let w = c.requires.standing.ready.held.limits in let h = c.loop-i-test.true in let v = c.loop-i.invariant in let f = w.globals in let g = w.first in let l = v.low in let t = v.table in let b = v.high in let u = v.unions in let n = v.few in record { standing = v.standing; i_bound = omega arith; le_at = omega arith; at_in_bounds = omega arith; n_in_bounds = omega arith; even = v.even; }
+global_action-r-requires c = let w = c.requires.standing.ready.held.limits in let h = c.loop-i-test.true in let v = c.loop-i.invariant in let f = w.globals in let g = w.first in let l = v.low in let t = v.table in let b = v.high in let u = v.unions in let n = v.few in record { standing = v.standing; i_bound = omega arith; le_at = omega arith; at_in_bounds = omega arith; n_in_bounds = omega arith; even = v.even }
 
 pub shape_of-skinds-then-r-ne0 : goal.shape_of-skinds-then-r-ne0
 shape_of-skinds-then-r-ne0 c = (c.global_action-r.ensures.does []).grown.len_k ∙ c.loop-i.invariant.grown.len_k

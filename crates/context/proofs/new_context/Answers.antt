@@ -11,7 +11,7 @@ pub returns-in-Some : goal.returns-in-Some
 returns-in-Some c = context-twice c.duplicate_rule_name-duplicate.ensures c.requires.standing.indexed c.in-Some.is
 
 pub global_actions-r-requires : goal.global_actions-r-requires
-global_actions-r-requires c = let S = c.requires.standing in record { standing = standing-after S (grown-same S.indexed) S.sane S.past refl c.clear.auto.marks; marks = marks-cleared _ _ (length c.args.marks.now) c.clear.ensures; table_len = c.requires.table_len; unions_len = c.requires.unions_len; }
+global_actions-r-requires c = let S = c.requires.standing in record { standing = standing-after S (grown-same S.indexed) S.sane S.past refl c.clear.auto.marks; marks = marks-cleared _ _ (length c.args.marks.now) c.clear.ensures; table_len = c.requires.table_len; unions_len = c.requires.unions_len }
 
 pub shape_of-marks-then-r-ne0 : goal.shape_of-marks-then-r-ne0
 shape_of-marks-then-r-ne0 c = c.global_actions-r.auto.marks ∙ c.clear.auto.marks

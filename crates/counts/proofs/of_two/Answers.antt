@@ -8,7 +8,7 @@ use lib.IntN.{ℤ, ◌+ℤ◌}
 use Rattle.counts.proofs.of_two.Goals as goal
 
 pub sum-requires : goal.sum-requires
-sum-requires c = record { size_bound = c.requires.size_bound; b_bound = near-small c.args.b c.requires.size_bound_2; }
+sum-requires c = record { size_bound = c.requires.size_bound; b_bound = near-small c.args.b c.requires.size_bound_2 }
 
 pub returns-in-4 : goal.returns-in-4
 returns-in-4 c = rw c.in-4.is (c.settled.ensures ∙ ap fitting c.sum.ensures)

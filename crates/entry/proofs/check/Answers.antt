@@ -13,10 +13,10 @@ pub returns-then-p-ne0 : goal.returns-then-p-ne0
 returns-then-p-ne0 c = refuses c.prepare-p.ensures c.args.answer.now c.if-answer-ne8.false c.if-p-ne0.true c.write_refusal.ensures.is c.write_refusal.ensures.first
 
 pub check_proof-r-requires : goal.check_proof-r-requires
-check_proof-r-requires c = record { given = job-given c.prepare-p.ensures c.if-p-ne0.false refl; asked_bound = job-asked c.prepare-p.ensures c.if-p-ne0.false; }
+check_proof-r-requires c = record { given = job-given c.prepare-p.ensures c.if-p-ne0.false refl; asked_bound = job-asked c.prepare-p.ensures c.if-p-ne0.false }
 
 pub tell-requires : goal.tell-requires
-tell-requires c = let S = c.prepare-p.ensures in let n = c.if-p-ne0.false in record { ready = job-ready S n; asked_bound = omega (arith, c.wide.ensures, job-asked S n); answer_len = c.if-answer-ne8.false; cells_bound = terms-word S n c.check_proof-r.ensures.does; value_value = height-asked c.args.job.now c.wide.ensures c.check_proof-r.ensures.high; }
+tell-requires c = let S = c.prepare-p.ensures in let n = c.if-p-ne0.false in record { ready = job-ready S n; asked_bound = omega (arith, c.wide.ensures, job-asked S n); answer_len = c.if-answer-ne8.false; cells_bound = terms-word S n c.check_proof-r.ensures.does; value_value = height-asked c.args.job.now c.wide.ensures c.check_proof-r.ensures.high }
 
 pub shape_of-kinds : goal.shape_of-kinds
 shape_of-kinds c = c.check_proof-r.ensures.does.grown.len_k ∙ (c.prepare-p.ensures.started c.if-p-ne0.false).len_k

@@ -1,5 +1,5 @@
 use lib.ListN.{length, length-take}
-use Rattle.evaluate.proofs.Turns.{known, node-for, no_arguments, at_head, behind-full, behind-whole, behind-count, at-values, found-does}
+use Rattle.evaluate.proofs.Turns.{known, node-for, no_arguments, at_head, found-does}
 use Rattle.evaluate.proofs.Waiting.{first-upto, first-memo, first-vals, open_at, open-start, open-down, down-less, open-stop, open_done, open_up, up-less, evaluates-as}
 use Rattle.program.specs.Read.{expr_for, arguments_for, head_for}
 use Rattle.evaluate.specs.Value.{bindings_in}
@@ -25,25 +25,22 @@ pub loop-args-init : goal.loop-args-init
 loop-args-init c = let a = c.args in let pre = c.requires in let prog = program_for a.job.now in let σ = bindings_in a.bound.now a.pairs.now a.globals.now in let n = (sizes_of a.job.now).expressions in let args = arguments_for a.job.now in let head = head_for a.job.now in let expr = expr_for a.job.now in (open-start a.fact prog a.rule σ n args head expr pre.e_bound pre.indexed pre.memo (ap (is_noted a.memo.now) (sym c.wide-root.ensures) ∙ sym c.is_noted.ensures ∙ c.if-is_noted.false), refl)
 
 pub arguments_at-args-requires : goal.arguments_at-args-requires
-arguments_at-args-requires c = let pre = c.requires in let l = c.loop-args.invariant.0.low in record { ready = pre.ready; e_bound = omega arith; }
+arguments_at-args-requires c = let pre = c.requires in let l = c.loop-args.invariant.0.low in record { ready = pre.ready; e_bound = omega arith }
 
 pub known_values-count-requires : goal.known_values-count-requires
-known_values-count-requires c = let pre = c.requires in let I = c.loop-args.invariant.0 in record { ready = pre.ready; job_in_bounds = I.memo.long; args_len_bound = c.arguments_at-args.ensures.few; by_index = λ j u. let l = c.arguments_at-args.ensures.lower j u in let h = I.low in omega arith; }
+known_values-count-requires c = let pre = c.requires in let I = c.loop-args.invariant.0 in record { ready = pre.ready; job_in_bounds = I.memo.long; args_len_bound = c.arguments_at-args.ensures.few; by_index = λ j u. let l = c.arguments_at-args.ensures.lower j u in let h = I.low in omega arith }
 
 pub put_value-requires : goal.put_value-requires
 put_value-requires c = let I = c.loop-args.invariant.0 in let l = c.arguments_at-args.ensures.lower _ c.if-count-args.true in let h = I.low in let m = I.memo.long in let k = first-memo c.known_values-count.ensures.known in omega arith
 
 pub loop-args-smaller-then-count-args : goal.loop-args-smaller-then-count-args
-loop-args-smaller-then-count-args c = let a = c.args in let pre = c.requires in let prog = program_for a.job.now in let σ = bindings_in a.bound.now a.pairs.now a.globals.now in let n = (sizes_of a.job.now).expressions in let args = arguments_for a.job.now in let head = head_for a.job.now in let expr = expr_for a.job.now in let l = down-less a.fact prog a.rule σ n args head expr (open_at a.fact prog a.rule σ n args head expr c.wide-i.ensures c.loop-args.invariant.0) (node-for pre.ready) (no_arguments a.job.now) c.arguments_at-args.ensures.is c.arguments_at-args.ensures.few c.arguments_at-args.ensures.lower (behind-full c.loop-args.ws c.loop-args.invariant.1) c.known_values-count.ensures.known c.if-count-args.true (c.known_values-count.ensures.next c.if-count-args.true) (c.put_value.ensures ∙ (λ j. put_value c.known_values-count.new.memo (c.wide.ensures j) (sym c.wide-i.ensures j))) in omega arith
+loop-args-smaller-then-count-args c = let a = c.args in let pre = c.requires in let prog = program_for a.job.now in let σ = bindings_in a.bound.now a.pairs.now a.globals.now in let n = (sizes_of a.job.now).expressions in let args = arguments_for a.job.now in let head = head_for a.job.now in let expr = expr_for a.job.now in let l = down-less a.fact prog a.rule σ n args head expr (open_at a.fact prog a.rule σ n args head expr c.wide-i.ensures c.loop-args.invariant.0) (node-for pre.ready) (no_arguments a.job.now) c.arguments_at-args.ensures.is c.arguments_at-args.ensures.few c.arguments_at-args.ensures.lower c.loop-args.invariant.1 c.known_values-count.ensures.known c.if-count-args.true (c.known_values-count.ensures.next c.if-count-args.true) (c.put_value.ensures ∙ (λ j. put_value c.known_values-count.new.memo (c.wide.ensures j) (sym c.wide-i.ensures j))) in omega arith
 
 pub loop-args-preserved-then-count-args : goal.loop-args-preserved-then-count-args
-loop-args-preserved-then-count-args c = let a = c.args in let pre = c.requires in let prog = program_for a.job.now in let σ = bindings_in a.bound.now a.pairs.now a.globals.now in let n = (sizes_of a.job.now).expressions in let args = arguments_for a.job.now in let head = head_for a.job.now in let expr = expr_for a.job.now in (open-down a.fact prog a.rule σ n args head expr (open_at a.fact prog a.rule σ n args head expr c.wide-i.ensures c.loop-args.invariant.0) (node-for pre.ready) (no_arguments a.job.now) c.arguments_at-args.ensures.is c.arguments_at-args.ensures.few c.arguments_at-args.ensures.lower (behind-full c.loop-args.ws c.loop-args.invariant.1) c.known_values-count.ensures.known c.if-count-args.true (c.known_values-count.ensures.next c.if-count-args.true) (c.put_value.ensures ∙ (λ j. put_value c.known_values-count.new.memo (c.wide.ensures j) (sym c.wide-i.ensures j))), (behind-whole c.known_values-count.new.ws (first-vals c.known_values-count.ensures.known ∙ behind-full c.loop-args.ws c.loop-args.invariant.1)))
-
-pub slice_bounds-find_value-end : goal.slice_bounds-find_value-end
-slice_bounds-find_value-end c = sym (behind-whole c.known_values-count.new.ws (first-vals c.known_values-count.ensures.known ∙ behind-full c.loop-args.ws c.loop-args.invariant.1))
+loop-args-preserved-then-count-args c = let a = c.args in let pre = c.requires in let prog = program_for a.job.now in let σ = bindings_in a.bound.now a.pairs.now a.globals.now in let n = (sizes_of a.job.now).expressions in let args = arguments_for a.job.now in let head = head_for a.job.now in let expr = expr_for a.job.now in (open-down a.fact prog a.rule σ n args head expr (open_at a.fact prog a.rule σ n args head expr c.wide-i.ensures c.loop-args.invariant.0) (node-for pre.ready) (no_arguments a.job.now) c.arguments_at-args.ensures.is c.arguments_at-args.ensures.few c.arguments_at-args.ensures.lower c.loop-args.invariant.1 c.known_values-count.ensures.known c.if-count-args.true (c.known_values-count.ensures.next c.if-count-args.true) (c.put_value.ensures ∙ (λ j. put_value c.known_values-count.new.memo (c.wide.ensures j) (sym c.wide-i.ensures j))), (first-vals c.known_values-count.ensures.known ∙ c.loop-args.invariant.1))
 
 pub find_value-known-requires : goal.find_value-known-requires
-find_value-known-requires c = let pre = c.requires in let u = first-upto c.known_values-count.ensures.known in let f = c.arguments_at-args.ensures.few in let h = c.loop-args.invariant.1 in let k = (behind-whole c.known_values-count.new.ws (first-vals c.known_values-count.ensures.known ∙ behind-full c.loop-args.ws c.loop-args.invariant.1)) in record { ready = pre.ready; keyed = pre.keyed; indexed = c.loop-args.invariant.0.grown.indexed; count_in_bounds = omega arith; by_index = c.head_at-head.ensures.primitive; }
+find_value-known-requires c = let pre = c.requires in let u = first-upto c.known_values-count.ensures.known in let f = c.arguments_at-args.ensures.few in let h = c.loop-args.invariant.1 in let k = (first-vals c.known_values-count.ensures.known ∙ c.loop-args.invariant.1) in record { ready = pre.ready; keyed = pre.keyed; indexed = c.loop-args.invariant.0.grown.indexed; args_len_bound = simp length-take (omega arith); by_index = c.head_at-head.ensures.primitive }
 
 pub value_of-above-requires : goal.value_of-above-requires
 value_of-above-requires c = let I = c.loop-args.invariant.0 in let h = I.low in let m = I.memo.long in let k = first-memo c.known_values-count.ensures.known in omega arith
@@ -67,22 +64,28 @@ pub shape_of-memo-then-at-e : goal.shape_of-memo-then-at-e
 shape_of-memo-then-at-e c = c.note.auto.memo ∙ first-memo c.known_values-count.ensures.known ∙ c.loop-args.invariant.0.len_m
 
 pub returns-then-at-e : goal.returns-then-at-e
-returns-then-at-e c = let a = c.args in let pre = c.requires in let prog = program_for a.job.now in let σ = bindings_in a.bound.now a.pairs.now a.globals.now in let n = (sizes_of a.job.now).expressions in let args = arguments_for a.job.now in let head = head_for a.job.now in let expr = expr_for a.job.now in evaluates-as a.fact prog a.rule σ n args head expr c.pass-then-at-e.ensures (open_done a.fact prog a.rule σ n args head expr (open_at a.fact prog a.rule σ n args head expr c.wide-i.ensures c.loop-args.invariant.0) (node-for pre.ready) (no_arguments a.job.now) c.arguments_at-args.ensures.is c.arguments_at-args.ensures.few c.arguments_at-args.ensures.lower (behind-full c.loop-args.ws c.loop-args.invariant.1) c.known_values-count.ensures.known {c = record { refusal = passed; value = c.in-Some.t; fill = c.loop-args.have }} c.if-count-args.false (at_head a.fact _ prog a.rule σ _ _ c.head_at-head.ensures.is (found-does c.loop-args.skinds c.loop-args.sends c.loop-args.spool c.loop-args.index c.loop-args.have c.loop-args.invariant.0.grown.indexed (c.find_value-known.ensures.finds a.rule σ) c.in-Some.is)) refl c.note.ensures (c.wide-i.ensures ∙ c.if-at-e.true))
+returns-then-at-e c = let a = c.args in let pre = c.requires in let prog = program_for a.job.now in let σ = bindings_in a.bound.now a.pairs.now a.globals.now in let n = (sizes_of a.job.now).expressions in let args = arguments_for a.job.now in let head = head_for a.job.now in let expr = expr_for a.job.now in evaluates-as a.fact prog a.rule σ n args head expr c.pass-then-at-e.ensures (open_done a.fact prog a.rule σ n args head expr (open_at a.fact prog a.rule σ n args head expr c.wide-i.ensures c.loop-args.invariant.0) (node-for pre.ready) (no_arguments a.job.now) c.arguments_at-args.ensures.is c.arguments_at-args.ensures.few c.arguments_at-args.ensures.lower c.loop-args.invariant.1 c.known_values-count.ensures.known {c = record { refusal = passed; value = c.in-Some.t; fill = c.loop-args.have }} c.if-count-args.false (at_head a.fact _ prog a.rule σ _ _ c.head_at-head.ensures.is (found-does c.loop-args.skinds c.loop-args.sends c.loop-args.spool c.loop-args.index c.loop-args.have c.loop-args.invariant.0.grown.indexed (c.find_value-known.ensures a.rule σ) c.in-Some.is)) refl c.note.ensures (c.wide-i.ensures ∙ c.if-at-e.true))
 
 pub loop-args-smaller-in-Some : goal.loop-args-smaller-in-Some
-loop-args-smaller-in-Some c = let a = c.args in let pre = c.requires in let prog = program_for a.job.now in let σ = bindings_in a.bound.now a.pairs.now a.globals.now in let n = (sizes_of a.job.now).expressions in let args = arguments_for a.job.now in let head = head_for a.job.now in let expr = expr_for a.job.now in let o = open_up a.fact prog a.rule σ n args head expr (open_at a.fact prog a.rule σ n args head expr c.wide-i.ensures c.loop-args.invariant.0) (node-for pre.ready) (no_arguments a.job.now) c.arguments_at-args.ensures.is c.arguments_at-args.ensures.few c.arguments_at-args.ensures.lower (behind-full c.loop-args.ws c.loop-args.invariant.1) c.known_values-count.ensures.known {c = record { refusal = passed; value = c.in-Some.t; fill = c.loop-args.have }} c.if-count-args.false (at_head a.fact _ prog a.rule σ _ _ c.head_at-head.ensures.is (found-does c.loop-args.skinds c.loop-args.sends c.loop-args.spool c.loop-args.index c.loop-args.have c.loop-args.invariant.0.grown.indexed (c.find_value-known.ensures.finds a.rule σ) c.in-Some.is)) refl c.note.ensures (λ z. c.if-at-e.false (sym c.wide-i.ensures ∙ z)) c.value_of-above.ensures in let l = up-less a.fact prog a.rule σ n args head expr (open_at a.fact prog a.rule σ n args head expr c.wide-i.ensures c.loop-args.invariant.0) (node-for pre.ready) (no_arguments a.job.now) c.arguments_at-args.ensures.is c.arguments_at-args.ensures.few c.arguments_at-args.ensures.lower (behind-full c.loop-args.ws c.loop-args.invariant.1) c.known_values-count.ensures.known {c = record { refusal = passed; value = c.in-Some.t; fill = c.loop-args.have }} c.if-count-args.false (at_head a.fact _ prog a.rule σ _ _ c.head_at-head.ensures.is (found-does c.loop-args.skinds c.loop-args.sends c.loop-args.spool c.loop-args.index c.loop-args.have c.loop-args.invariant.0.grown.indexed (c.find_value-known.ensures.finds a.rule σ) c.in-Some.is)) refl c.note.ensures o.low in omega arith
+loop-args-smaller-in-Some c = let a = c.args in let pre = c.requires in let prog = program_for a.job.now in let σ = bindings_in a.bound.now a.pairs.now a.globals.now in let n = (sizes_of a.job.now).expressions in let args = arguments_for a.job.now in let head = head_for a.job.now in let expr = expr_for a.job.now in let o = open_up a.fact prog a.rule σ n args head expr (open_at a.fact prog a.rule σ n args head expr c.wide-i.ensures c.loop-args.invariant.0) (node-for pre.ready) (no_arguments a.job.now) c.arguments_at-args.ensures.is c.arguments_at-args.ensures.few c.arguments_at-args.ensures.lower c.loop-args.invariant.1 c.known_values-count.ensures.known {c = record { refusal = passed; value = c.in-Some.t; fill = c.loop-args.have }} c.if-count-args.false (at_head a.fact _ prog a.rule σ _ _ c.head_at-head.ensures.is (found-does c.loop-args.skinds c.loop-args.sends c.loop-args.spool c.loop-args.index c.loop-args.have c.loop-args.invariant.0.grown.indexed (c.find_value-known.ensures a.rule σ) c.in-Some.is)) refl c.note.ensures (λ z. c.if-at-e.false (sym c.wide-i.ensures ∙ z)) c.value_of-above.ensures in let l = up-less a.fact prog a.rule σ n args head expr (open_at a.fact prog a.rule σ n args head expr c.wide-i.ensures c.loop-args.invariant.0) (node-for pre.ready) (no_arguments a.job.now) c.arguments_at-args.ensures.is c.arguments_at-args.ensures.few c.arguments_at-args.ensures.lower c.loop-args.invariant.1 c.known_values-count.ensures.known {c = record { refusal = passed; value = c.in-Some.t; fill = c.loop-args.have }} c.if-count-args.false (at_head a.fact _ prog a.rule σ _ _ c.head_at-head.ensures.is (found-does c.loop-args.skinds c.loop-args.sends c.loop-args.spool c.loop-args.index c.loop-args.have c.loop-args.invariant.0.grown.indexed (c.find_value-known.ensures a.rule σ) c.in-Some.is)) refl c.note.ensures o.low in omega arith
 
 pub loop-args-preserved-in-Some : goal.loop-args-preserved-in-Some
-loop-args-preserved-in-Some c = let a = c.args in let pre = c.requires in let prog = program_for a.job.now in let σ = bindings_in a.bound.now a.pairs.now a.globals.now in let n = (sizes_of a.job.now).expressions in let args = arguments_for a.job.now in let head = head_for a.job.now in let expr = expr_for a.job.now in (open_up a.fact prog a.rule σ n args head expr (open_at a.fact prog a.rule σ n args head expr c.wide-i.ensures c.loop-args.invariant.0) (node-for pre.ready) (no_arguments a.job.now) c.arguments_at-args.ensures.is c.arguments_at-args.ensures.few c.arguments_at-args.ensures.lower (behind-full c.loop-args.ws c.loop-args.invariant.1) c.known_values-count.ensures.known {c = record { refusal = passed; value = c.in-Some.t; fill = c.loop-args.have }} c.if-count-args.false (at_head a.fact _ prog a.rule σ _ _ c.head_at-head.ensures.is (found-does c.loop-args.skinds c.loop-args.sends c.loop-args.spool c.loop-args.index c.loop-args.have c.loop-args.invariant.0.grown.indexed (c.find_value-known.ensures.finds a.rule σ) c.in-Some.is)) refl c.note.ensures (λ z. c.if-at-e.false (sym c.wide-i.ensures ∙ z)) c.value_of-above.ensures, c.find_value-known.auto.ws ∙ (behind-whole c.known_values-count.new.ws (first-vals c.known_values-count.ensures.known ∙ behind-full c.loop-args.ws c.loop-args.invariant.1)))
+loop-args-preserved-in-Some c = let a = c.args in let pre = c.requires in let prog = program_for a.job.now in let σ = bindings_in a.bound.now a.pairs.now a.globals.now in let n = (sizes_of a.job.now).expressions in let args = arguments_for a.job.now in let head = head_for a.job.now in let expr = expr_for a.job.now in (open_up a.fact prog a.rule σ n args head expr (open_at a.fact prog a.rule σ n args head expr c.wide-i.ensures c.loop-args.invariant.0) (node-for pre.ready) (no_arguments a.job.now) c.arguments_at-args.ensures.is c.arguments_at-args.ensures.few c.arguments_at-args.ensures.lower c.loop-args.invariant.1 c.known_values-count.ensures.known {c = record { refusal = passed; value = c.in-Some.t; fill = c.loop-args.have }} c.if-count-args.false (at_head a.fact _ prog a.rule σ _ _ c.head_at-head.ensures.is (found-does c.loop-args.skinds c.loop-args.sends c.loop-args.spool c.loop-args.index c.loop-args.have c.loop-args.invariant.0.grown.indexed (c.find_value-known.ensures a.rule σ) c.in-Some.is)) refl c.note.ensures (λ z. c.if-at-e.false (sym c.wide-i.ensures ∙ z)) c.value_of-above.ensures, first-vals c.known_values-count.ensures.known ∙ c.loop-args.invariant.1)
 
-pub overflow_add-n : goal.overflow_add-n
-overflow_add-n c = let u = first-upto c.known_values-count.ensures.known in let f = c.arguments_at-args.ensures.few in let h = c.loop-args.invariant.1 in let k = (behind-whole c.known_values-count.new.ws (first-vals c.known_values-count.ensures.known ∙ behind-full c.loop-args.ws c.loop-args.invariant.1)) in record { fits = omega arith }
+pub slice_bounds-vals-end : goal.slice_bounds-vals-end
+slice_bounds-vals-end c = let u = first-upto c.known_values-count.ensures.known in let f = c.arguments_at-args.ensures.few in let h = c.loop-args.invariant.1 in let k = (first-vals c.known_values-count.ensures.known ∙ c.loop-args.invariant.1) in omega arith
+
+pub slice_bounds-find_value-end : goal.slice_bounds-find_value-end
+slice_bounds-find_value-end c = let u = first-upto c.known_values-count.ensures.known in let f = c.arguments_at-args.ensures.few in let h = c.loop-args.invariant.1 in let k = (first-vals c.known_values-count.ensures.known ∙ c.loop-args.invariant.1) in simp length-take (omega arith)
+
+pub slice_bounds-vals-end-in-loop-args : goal.slice_bounds-vals-end-in-loop-args
+slice_bounds-vals-end-in-loop-args c = let u = first-upto c.known_values-count.ensures.known in let f = c.arguments_at-args.ensures.few in let h = c.loop-args.invariant.1 in let k = (first-vals c.known_values-count.ensures.known ∙ c.loop-args.invariant.1) in omega arith
 
 pub slice_bounds-head_value-end : goal.slice_bounds-head_value-end
-slice_bounds-head_value-end c = let u = first-upto c.known_values-count.ensures.known in let f = c.arguments_at-args.ensures.few in let h = c.loop-args.invariant.1 in let k = (behind-whole c.known_values-count.new.ws (first-vals c.known_values-count.ensures.known ∙ behind-full c.loop-args.ws c.loop-args.invariant.1)) in let v = c.find_value-known.auto.ws in omega arith
+slice_bounds-head_value-end c = let u = first-upto c.known_values-count.ensures.known in let f = c.arguments_at-args.ensures.few in let h = c.loop-args.invariant.1 in let k = (first-vals c.known_values-count.ensures.known ∙ c.loop-args.invariant.1) in simp length-take (omega arith)
 
 pub head_value-r-requires : goal.head_value-r-requires
-head_value-r-requires c = let pre = c.requires in let u = first-upto c.known_values-count.ensures.known in let f = c.arguments_at-args.ensures.few in let h = c.loop-args.invariant.1 in let k = (behind-whole c.known_values-count.new.ws (first-vals c.known_values-count.ensures.known ∙ behind-full c.loop-args.ws c.loop-args.invariant.1)) in let v = c.find_value-known.auto.ws in record { ready = pre.ready; keyed = pre.keyed; indexed = c.loop-args.invariant.0.grown.indexed; args_len_bound = simp length-take (omega arith); by_index = c.head_at-head.ensures.primitive; }
+head_value-r-requires c = let pre = c.requires in let u = first-upto c.known_values-count.ensures.known in let f = c.arguments_at-args.ensures.few in let h = c.loop-args.invariant.1 in let k = (first-vals c.known_values-count.ensures.known ∙ c.loop-args.invariant.1) in record { ready = pre.ready; keyed = pre.keyed; indexed = c.loop-args.invariant.0.grown.indexed; args_len_bound = simp length-take (omega arith); by_index = c.head_at-head.ensures.primitive }
 
 pub shape_of-skinds-then-r-ne0 : goal.shape_of-skinds-then-r-ne0
 shape_of-skinds-then-r-ne0 c = c.head_value-r.ensures.grown.len_k ∙ c.loop-args.invariant.0.grown.len_k
@@ -100,7 +103,7 @@ pub shape_of-memo-then-r-ne0 : goal.shape_of-memo-then-r-ne0
 shape_of-memo-then-r-ne0 c = first-memo c.known_values-count.ensures.known ∙ c.loop-args.invariant.0.len_m
 
 pub returns-then-r-ne0 : goal.returns-then-r-ne0
-returns-then-r-ne0 c = let a = c.args in let pre = c.requires in let prog = program_for a.job.now in let σ = bindings_in a.bound.now a.pairs.now a.globals.now in let n = (sizes_of a.job.now).expressions in let args = arguments_for a.job.now in let head = head_for a.job.now in let expr = expr_for a.job.now in open-stop a.fact prog a.rule σ n args head expr (open_at a.fact prog a.rule σ n args head expr c.wide-i.ensures c.loop-args.invariant.0) (node-for pre.ready) (no_arguments a.job.now) c.arguments_at-args.ensures.is c.arguments_at-args.ensures.few c.arguments_at-args.ensures.lower (behind-full c.loop-args.ws c.loop-args.invariant.1) c.known_values-count.ensures.known c.if-count-args.false (at_head a.fact _ prog a.rule σ _ _ c.head_at-head.ensures.is (at-values a.fact _ prog a.rule σ _ _ (behind-count c.find_value-known.new.ws c.known_values-count.new.ws c.known_values-count.result c.find_value-known.ensures.kept) c.head_value-r.ensures)) c.if-r-ne0.true
+returns-then-r-ne0 c = let a = c.args in let pre = c.requires in let prog = program_for a.job.now in let σ = bindings_in a.bound.now a.pairs.now a.globals.now in let n = (sizes_of a.job.now).expressions in let args = arguments_for a.job.now in let head = head_for a.job.now in let expr = expr_for a.job.now in open-stop a.fact prog a.rule σ n args head expr (open_at a.fact prog a.rule σ n args head expr c.wide-i.ensures c.loop-args.invariant.0) (node-for pre.ready) (no_arguments a.job.now) c.arguments_at-args.ensures.is c.arguments_at-args.ensures.few c.arguments_at-args.ensures.lower c.loop-args.invariant.1 c.known_values-count.ensures.known c.if-count-args.false (at_head a.fact _ prog a.rule σ _ _ c.head_at-head.ensures.is c.head_value-r.ensures) c.if-r-ne0.true
 
 pub value_of-above-requires-in-loop-args : goal.value_of-above-requires-in-loop-args
 value_of-above-requires-in-loop-args c = let I = c.loop-args.invariant.0 in let h = I.low in let m = I.memo.long in let k = first-memo c.known_values-count.ensures.known in omega arith
@@ -124,10 +127,10 @@ pub shape_of-memo-then-at-e-2 : goal.shape_of-memo-then-at-e-2
 shape_of-memo-then-at-e-2 c = c.note-in-loop-args.auto.memo ∙ first-memo c.known_values-count.ensures.known ∙ c.loop-args.invariant.0.len_m
 
 pub returns-then-at-e-2 : goal.returns-then-at-e-2
-returns-then-at-e-2 c = let a = c.args in let pre = c.requires in let prog = program_for a.job.now in let σ = bindings_in a.bound.now a.pairs.now a.globals.now in let n = (sizes_of a.job.now).expressions in let args = arguments_for a.job.now in let head = head_for a.job.now in let expr = expr_for a.job.now in open_done a.fact prog a.rule σ n args head expr (open_at a.fact prog a.rule σ n args head expr c.wide-i.ensures c.loop-args.invariant.0) (node-for pre.ready) (no_arguments a.job.now) c.arguments_at-args.ensures.is c.arguments_at-args.ensures.few c.arguments_at-args.ensures.lower (behind-full c.loop-args.ws c.loop-args.invariant.1) c.known_values-count.ensures.known c.if-count-args.false (at_head a.fact _ prog a.rule σ _ _ c.head_at-head.ensures.is (at-values a.fact _ prog a.rule σ _ _ (behind-count c.find_value-known.new.ws c.known_values-count.new.ws c.known_values-count.result c.find_value-known.ensures.kept) c.head_value-r.ensures)) c.if-r-ne0.false c.note-in-loop-args.ensures (c.wide-i.ensures ∙ c.if-at-e-2.true)
+returns-then-at-e-2 c = let a = c.args in let pre = c.requires in let prog = program_for a.job.now in let σ = bindings_in a.bound.now a.pairs.now a.globals.now in let n = (sizes_of a.job.now).expressions in let args = arguments_for a.job.now in let head = head_for a.job.now in let expr = expr_for a.job.now in open_done a.fact prog a.rule σ n args head expr (open_at a.fact prog a.rule σ n args head expr c.wide-i.ensures c.loop-args.invariant.0) (node-for pre.ready) (no_arguments a.job.now) c.arguments_at-args.ensures.is c.arguments_at-args.ensures.few c.arguments_at-args.ensures.lower c.loop-args.invariant.1 c.known_values-count.ensures.known c.if-count-args.false (at_head a.fact _ prog a.rule σ _ _ c.head_at-head.ensures.is c.head_value-r.ensures) c.if-r-ne0.false c.note-in-loop-args.ensures (c.wide-i.ensures ∙ c.if-at-e-2.true)
 
 pub loop-args-smaller : goal.loop-args-smaller
-loop-args-smaller c = let a = c.args in let pre = c.requires in let prog = program_for a.job.now in let σ = bindings_in a.bound.now a.pairs.now a.globals.now in let n = (sizes_of a.job.now).expressions in let args = arguments_for a.job.now in let head = head_for a.job.now in let expr = expr_for a.job.now in let o = open_up a.fact prog a.rule σ n args head expr (open_at a.fact prog a.rule σ n args head expr c.wide-i.ensures c.loop-args.invariant.0) (node-for pre.ready) (no_arguments a.job.now) c.arguments_at-args.ensures.is c.arguments_at-args.ensures.few c.arguments_at-args.ensures.lower (behind-full c.loop-args.ws c.loop-args.invariant.1) c.known_values-count.ensures.known c.if-count-args.false (at_head a.fact _ prog a.rule σ _ _ c.head_at-head.ensures.is (at-values a.fact _ prog a.rule σ _ _ (behind-count c.find_value-known.new.ws c.known_values-count.new.ws c.known_values-count.result c.find_value-known.ensures.kept) c.head_value-r.ensures)) c.if-r-ne0.false c.note-in-loop-args.ensures (λ z. c.if-at-e-2.false (sym c.wide-i.ensures ∙ z)) c.value_of-above-in-loop-args.ensures in let l = up-less a.fact prog a.rule σ n args head expr (open_at a.fact prog a.rule σ n args head expr c.wide-i.ensures c.loop-args.invariant.0) (node-for pre.ready) (no_arguments a.job.now) c.arguments_at-args.ensures.is c.arguments_at-args.ensures.few c.arguments_at-args.ensures.lower (behind-full c.loop-args.ws c.loop-args.invariant.1) c.known_values-count.ensures.known c.if-count-args.false (at_head a.fact _ prog a.rule σ _ _ c.head_at-head.ensures.is (at-values a.fact _ prog a.rule σ _ _ (behind-count c.find_value-known.new.ws c.known_values-count.new.ws c.known_values-count.result c.find_value-known.ensures.kept) c.head_value-r.ensures)) c.if-r-ne0.false c.note-in-loop-args.ensures o.low in omega arith
+loop-args-smaller c = let a = c.args in let pre = c.requires in let prog = program_for a.job.now in let σ = bindings_in a.bound.now a.pairs.now a.globals.now in let n = (sizes_of a.job.now).expressions in let args = arguments_for a.job.now in let head = head_for a.job.now in let expr = expr_for a.job.now in let o = open_up a.fact prog a.rule σ n args head expr (open_at a.fact prog a.rule σ n args head expr c.wide-i.ensures c.loop-args.invariant.0) (node-for pre.ready) (no_arguments a.job.now) c.arguments_at-args.ensures.is c.arguments_at-args.ensures.few c.arguments_at-args.ensures.lower c.loop-args.invariant.1 c.known_values-count.ensures.known c.if-count-args.false (at_head a.fact _ prog a.rule σ _ _ c.head_at-head.ensures.is c.head_value-r.ensures) c.if-r-ne0.false c.note-in-loop-args.ensures (λ z. c.if-at-e-2.false (sym c.wide-i.ensures ∙ z)) c.value_of-above-in-loop-args.ensures in let l = up-less a.fact prog a.rule σ n args head expr (open_at a.fact prog a.rule σ n args head expr c.wide-i.ensures c.loop-args.invariant.0) (node-for pre.ready) (no_arguments a.job.now) c.arguments_at-args.ensures.is c.arguments_at-args.ensures.few c.arguments_at-args.ensures.lower c.loop-args.invariant.1 c.known_values-count.ensures.known c.if-count-args.false (at_head a.fact _ prog a.rule σ _ _ c.head_at-head.ensures.is c.head_value-r.ensures) c.if-r-ne0.false c.note-in-loop-args.ensures o.low in omega arith
 
 pub loop-args-preserved : goal.loop-args-preserved
-loop-args-preserved c = let a = c.args in let pre = c.requires in let prog = program_for a.job.now in let σ = bindings_in a.bound.now a.pairs.now a.globals.now in let n = (sizes_of a.job.now).expressions in let args = arguments_for a.job.now in let head = head_for a.job.now in let expr = expr_for a.job.now in (open_up a.fact prog a.rule σ n args head expr (open_at a.fact prog a.rule σ n args head expr c.wide-i.ensures c.loop-args.invariant.0) (node-for pre.ready) (no_arguments a.job.now) c.arguments_at-args.ensures.is c.arguments_at-args.ensures.few c.arguments_at-args.ensures.lower (behind-full c.loop-args.ws c.loop-args.invariant.1) c.known_values-count.ensures.known c.if-count-args.false (at_head a.fact _ prog a.rule σ _ _ c.head_at-head.ensures.is (at-values a.fact _ prog a.rule σ _ _ (behind-count c.find_value-known.new.ws c.known_values-count.new.ws c.known_values-count.result c.find_value-known.ensures.kept) c.head_value-r.ensures)) c.if-r-ne0.false c.note-in-loop-args.ensures (λ z. c.if-at-e-2.false (sym c.wide-i.ensures ∙ z)) c.value_of-above-in-loop-args.ensures, c.find_value-known.auto.ws ∙ (behind-whole c.known_values-count.new.ws (first-vals c.known_values-count.ensures.known ∙ behind-full c.loop-args.ws c.loop-args.invariant.1)))
+loop-args-preserved c = let a = c.args in let pre = c.requires in let prog = program_for a.job.now in let σ = bindings_in a.bound.now a.pairs.now a.globals.now in let n = (sizes_of a.job.now).expressions in let args = arguments_for a.job.now in let head = head_for a.job.now in let expr = expr_for a.job.now in (open_up a.fact prog a.rule σ n args head expr (open_at a.fact prog a.rule σ n args head expr c.wide-i.ensures c.loop-args.invariant.0) (node-for pre.ready) (no_arguments a.job.now) c.arguments_at-args.ensures.is c.arguments_at-args.ensures.few c.arguments_at-args.ensures.lower c.loop-args.invariant.1 c.known_values-count.ensures.known c.if-count-args.false (at_head a.fact _ prog a.rule σ _ _ c.head_at-head.ensures.is c.head_value-r.ensures) c.if-r-ne0.false c.note-in-loop-args.ensures (λ z. c.if-at-e-2.false (sym c.wide-i.ensures ∙ z)) c.value_of-above-in-loop-args.ensures, first-vals c.known_values-count.ensures.known ∙ c.loop-args.invariant.1)

@@ -9,7 +9,7 @@ use Prim.Native.Nat.{◌+◌}
 use Rattle.evaluate.proofs.eval.Given as goal
 
 abbrev pub invariant-loop-args : goal.invariant-loop-args
-invariant-loop-args l = Open l.fact (program_for l.job) l.rule (bindings_in l.bound l.pairs l.globals) (sizes_of l.job).expressions (arguments_for l.job) (head_for l.job) (expr_for l.job) l.e l.initial.skinds l.initial.sends l.initial.spool l.initial.index l.initial.have l.initial.memo l.skinds l.sends l.spool l.index l.have l.memo l.at × (length l.ws ≡ 17)
+invariant-loop-args l = Open l.fact (program_for l.job) l.rule (bindings_in l.bound l.pairs l.globals) (sizes_of l.job).expressions (arguments_for l.job) (head_for l.job) (expr_for l.job) l.e l.initial.skinds l.initial.sends l.initial.spool l.initial.index l.initial.have l.initial.memo l.skinds l.sends l.spool l.index l.have l.memo l.at × (length l.vals ≡ 16)
 
 abbrev pub decreases-loop-args : goal.decreases-loop-args
 decreases-loop-args l = weight (sizes_of l.job).expressions (unnoted l.memo (sizes_of l.job).expressions) + l.at

@@ -5,10 +5,10 @@ use borrow.Author.Rules.{rules}
 use Rattle.evaluate.proofs.evaluate.Goals as goal
 
 pub new_round-requires : goal.new_round-requires
-new_round-requires c = let l = c.requires.job_in_bounds in record { memo_nonzero = omega arith; past = c.requires.past; }
+new_round-requires c = let l = c.requires.job_in_bounds in record { memo_nonzero = omega arith; past = c.requires.past }
 
 pub eval-requires : goal.eval-requires
-eval-requires c = let pre = c.requires in record { ready = pre.ready; keyed = pre.keyed; indexed = pre.indexed; e_bound = pre.e_bound; memo = root-memo (search rules) c.new_round.ensures; }
+eval-requires c = let pre = c.requires in record { ready = pre.ready; keyed = pre.keyed; indexed = pre.indexed; e_bound = pre.e_bound; memo = root-memo (search rules) c.new_round.ensures }
 
 pub returns : goal.returns
 returns c = let a = c.args in root-done a.fact a.job.now a.rule (bindings_in a.bound.now a.pairs.now a.globals.now) c.requires.ready c.requires.e_bound (omega (arith, c.new_round.auto.memo, c.requires.job_in_bounds)) c.new_round.ensures c.eval.ensures

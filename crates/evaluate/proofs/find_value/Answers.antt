@@ -11,19 +11,19 @@ use Rattle.evaluate.proofs.HeadValues.{finds-known, finds-none, head-finds}
 use Rattle.evaluate.proofs.find_value.Goals as goal
 
 pub find_validated-requires : goal.find_validated-requires
-find_validated-requires c = let pre = c.requires in record { ready = pre.ready; keyed = pre.keyed; indexed = pre.indexed; p_bound = pre.by_index _ c.in-Primitive.is; }
+find_validated-requires c = let pre = c.requires in record { ready = pre.ready; keyed = pre.keyed; indexed = pre.indexed; p_bound = pre.by_index _ c.in-Primitive.is }
 
 pub returns-in-Lit : goal.returns-in-Lit
-returns-in-Lit c = let a = c.args in let room = room_of a.skinds.now a.spool.now in let s = terms_in a.skinds.now a.sends.now a.spool.now a.fill in record { finds = λ rule σ. head-finds a.fact room (program_for a.job.now) rule σ (take a.count (drop 1 a.ws.now)) s a.head _ c.in-Lit.is (finds-known c.find_lit.ensures c.number_found.ensures); kept = refl; }
+returns-in-Lit c = let a = c.args in let room = room_of a.skinds.now a.spool.now in let s = terms_in a.skinds.now a.sends.now a.spool.now a.fill in λ rule σ. head-finds a.fact room (program_for a.job.now) rule σ a.args.now s a.head _ c.in-Lit.is (finds-known c.find_lit.ensures c.number_found.ensures)
 
 pub returns-in-Var : goal.returns-in-Var
-returns-in-Var c = record { finds = λ rule σ. finds-none refl; kept = refl; }
+returns-in-Var c = λ rule σ. finds-none refl
 
 pub returns-in-Constructor : goal.returns-in-Constructor
-returns-in-Constructor c = let a = c.args in let room = room_of a.skinds.now a.spool.now in let s = terms_in a.skinds.now a.sends.now a.spool.now a.fill in record { finds = λ rule σ. head-finds a.fact room (program_for a.job.now) rule σ (take a.count (drop 1 a.ws.now)) s a.head _ c.in-Constructor.is c.find_call.ensures.finds; kept = c.find_call.ensures.kept; }
+returns-in-Constructor c = let a = c.args in let room = room_of a.skinds.now a.spool.now in let s = terms_in a.skinds.now a.sends.now a.spool.now a.fill in λ rule σ. head-finds a.fact room (program_for a.job.now) rule σ a.args.now s a.head _ c.in-Constructor.is c.find_call.ensures
 
 pub returns-in-Custom : goal.returns-in-Custom
-returns-in-Custom c = let a = c.args in let room = room_of a.skinds.now a.spool.now in let s = terms_in a.skinds.now a.sends.now a.spool.now a.fill in record { finds = λ rule σ. head-finds a.fact room (program_for a.job.now) rule σ (take a.count (drop 1 a.ws.now)) s a.head _ c.in-Custom.is c.find_custom.ensures.finds; kept = c.find_custom.ensures.kept; }
+returns-in-Custom c = let a = c.args in let room = room_of a.skinds.now a.spool.now in let s = terms_in a.skinds.now a.sends.now a.spool.now a.fill in λ rule σ. head-finds a.fact room (program_for a.job.now) rule σ a.args.now s a.head _ c.in-Custom.is c.find_custom.ensures
 
 pub returns-in-Primitive : goal.returns-in-Primitive
-returns-in-Primitive c = let a = c.args in let room = room_of a.skinds.now a.spool.now in let s = terms_in a.skinds.now a.sends.now a.spool.now a.fill in record { finds = λ rule σ. head-finds a.fact room (program_for a.job.now) rule σ (take a.count (drop 1 a.ws.now)) s a.head _ c.in-Primitive.is (subst (λ (k : ℕ). Finds c.find_validated.result (validated room (program_for a.job.now) (cond a.fact 47 51) c.in-Primitive.p (take k (drop 1 a.ws.now)) s) s) (let e : a.count + 1 - 1 ≡ a.count = omega arith in e) (c.find_validated.ensures (cond a.fact 47 51))); kept = refl; }
+returns-in-Primitive c = let a = c.args in let room = room_of a.skinds.now a.spool.now in let s = terms_in a.skinds.now a.sends.now a.spool.now a.fill in λ rule σ. head-finds a.fact room (program_for a.job.now) rule σ a.args.now s a.head _ c.in-Primitive.is (c.find_validated.ensures (cond a.fact 47 51))

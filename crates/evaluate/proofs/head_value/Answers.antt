@@ -3,7 +3,7 @@ use Rattle.evaluate.proofs.HeadValues.{head-does, variable-does, number-above, b
 use Rattle.evaluate.proofs.head_value.Goals as goal
 
 pub validated-requires : goal.validated-requires
-validated-requires c = record { ready = c.requires.ready; keyed = c.requires.keyed; indexed = c.requires.indexed; p_bound = c.requires.by_index _ c.in-Primitive.is; n_nonzero = number-above c.args.fact c.no_validator-n.ensures; }
+validated-requires c = record { ready = c.requires.ready; keyed = c.requires.keyed; indexed = c.requires.indexed; p_bound = c.requires.by_index _ c.in-Primitive.is; n_nonzero = number-above c.args.fact c.no_validator-n.ensures }
 
 pub returns-in-Lit : goal.returns-in-Lit
 returns-in-Lit c = let a = c.args in head-does a.fact _ _ a.rule _ a.args.now _ a.head _ c.in-Lit.is c.add_lit.ensures

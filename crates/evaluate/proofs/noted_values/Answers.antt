@@ -13,13 +13,13 @@ pub is_noted-requires : goal.is_noted-requires
 is_noted-requires c = let l = c.requires.by_index c.loop-i.i c.loop-i-test.true in omega arith
 
 pub returns-then-not-is_noted : goal.returns-then-not-is_noted
-returns-then-not-is_noted c = record { more = c.loop-i.invariant.0; next = λ u. ap (is_noted c.args.memo.now) (sym c.wide-at.ensures) ∙ sym c.is_noted.ensures ∙ c.if-not-is_noted.true; far = c.loop-i.invariant.1; }
+returns-then-not-is_noted c = record { more = c.loop-i.invariant.0; next = λ u. ap (is_noted c.args.memo.now) (sym c.wide-at.ensures) ∙ sym c.is_noted.ensures ∙ c.if-not-is_noted.true; far = c.loop-i.invariant.1 }
 
 pub value_of-requires : goal.value_of-requires
 value_of-requires c = let l = c.requires.by_index c.loop-i.i c.loop-i-test.true in omega arith
 
 pub loop-i-preserved : goal.loop-i-preserved
-loop-i-preserved c = (λ head σ m₀ vals₀ W. first-noted c.loop-i.ws (c.loop-i.invariant.0 head σ m₀ vals₀ W) c.loop-i-test.true (ap (is_noted c.args.memo.now) (sym c.wide-at.ensures) ∙ sym c.is_noted.ensures ∙ c.if-not-is_noted.false) (c.value_of.ensures ∙ ap (value_at c.args.memo.now) c.wide-at.ensures), let l = c.loop-i.invariant.1 in omega arith)
+loop-i-preserved c = (λ head σ m₀ vals₀ W. first-noted (c.loop-i.invariant.0 head σ m₀ vals₀ W) c.loop-i-test.true (ap (is_noted c.args.memo.now) (sym c.wide-at.ensures) ∙ sym c.is_noted.ensures ∙ c.if-not-is_noted.false) (c.value_of.ensures ∙ ap (value_at c.args.memo.now) c.wide-at.ensures), let l = c.loop-i.invariant.1 in omega arith)
 
 pub returns : goal.returns
-returns c = record { more = c.loop-i.invariant.0; next = λ u. absurd (search rules); far = c.loop-i.invariant.1; }
+returns c = record { more = c.loop-i.invariant.0; next = λ u. absurd (search rules); far = c.loop-i.invariant.1 }

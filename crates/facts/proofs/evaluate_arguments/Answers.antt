@@ -8,16 +8,16 @@ use Rattle.facts.proofs.Wants.{arguments-start, arguments-stop, arguments-turn, 
 use Rattle.facts.proofs.evaluate_arguments.Goals as goal
 
 pub arguments_at-args-requires : goal.arguments_at-args-requires
-arguments_at-args-requires c = let p = c.requires in let h = p.e_bound in record { ready = p.ready; e_bound = omega arith; }
+arguments_at-args-requires c = let p = c.requires in let h = p.e_bound in record { ready = p.ready; e_bound = omega arith }
 
 pub new_round-requires : goal.new_round-requires
-new_round-requires c = let p = c.requires in let l = p.job_in_bounds in record { memo_nonzero = omega arith; past = p.past; }
+new_round-requires c = let p = c.requires in let l = p.job_in_bounds in record { memo_nonzero = omega arith; past = p.past }
 
 pub loop-i-init : goal.loop-i-init
 loop-i-init c = let a = c.args in let p = c.requires in arguments-start a.job.now a.rule (bindings_in a.bound.now a.pairs.now a.globals.now) (c.arguments_at-args.ensures.is ∙ ap (arguments_for a.job.now) c.wide.ensures) p.indexed (let k = c.new_round.auto.memo in let l = p.job_in_bounds in omega arith) c.new_round.ensures
 
 pub eval-r-requires : goal.eval-r-requires
-eval-r-requires c = let a = c.args in let p = c.requires in let l = c.loop-i in let inv = l.invariant in let x = c.arguments_at-args.ensures.lower l.i (search rules) in let h = p.e_bound in record { ready = p.ready; keyed = p.keyed; indexed = inv.run.grown.indexed; e_bound = omega arith; memo = inv.memo; }
+eval-r-requires c = let a = c.args in let p = c.requires in let l = c.loop-i in let inv = l.invariant in let x = c.arguments_at-args.ensures.lower l.i (search rules) in let h = p.e_bound in record { ready = p.ready; keyed = p.keyed; indexed = inv.run.grown.indexed; e_bound = omega arith; memo = inv.memo }
 
 pub shape_of-skinds-then-r-ne0 : goal.shape_of-skinds-then-r-ne0
 shape_of-skinds-then-r-ne0 c = c.eval-r.ensures.does.grown.len_k ∙ c.loop-i.invariant.run.grown.len_k

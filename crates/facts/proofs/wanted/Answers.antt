@@ -6,10 +6,10 @@ use Rattle.facts.proofs.Wants.{wanted-as}
 use Rattle.facts.proofs.wanted.Goals as goal
 
 pub wanted_equality-requires : goal.wanted_equality-requires
-wanted_equality-requires c = let p = c.requires in let b = c.fact_at-fact.ensures.equal c.in-Equal.l c.in-Equal.r c.in-Equal.is in record { ready = p.ready; keyed = p.keyed; indexed = p.indexed; job_in_bounds = p.job_in_bounds; past = p.past; left_bound = b.0; right_bound = b.1; }
+wanted_equality-requires c = let p = c.requires in let b = c.fact_at-fact.ensures.equal c.in-Equal.l c.in-Equal.r c.in-Equal.is in record { ready = p.ready; keyed = p.keyed; indexed = p.indexed; job_in_bounds = p.job_in_bounds; past = p.past; left_bound = b.0; right_bound = b.1 }
 
 pub wanted_bare-requires : goal.wanted_bare-requires
-wanted_bare-requires c = let p = c.requires in record { ready = p.ready; keyed = p.keyed; indexed = p.indexed; job_in_bounds = p.job_in_bounds; past = p.past; e_bound = c.fact_at-fact.ensures.bare c.in-Bare.e c.in-Bare.is; }
+wanted_bare-requires c = let p = c.requires in record { ready = p.ready; keyed = p.keyed; indexed = p.indexed; job_in_bounds = p.job_in_bounds; past = p.past; e_bound = c.fact_at-fact.ensures.bare c.in-Bare.e c.in-Bare.is }
 
 pub returns-in-Equal : goal.returns-in-Equal
 returns-in-Equal c = let a = c.args in let pre = c.requires in let prog = program_for a.job.now in let σ = bindings_in a.bound.now a.pairs.now a.globals.now in let expr = expr_for a.job.now in wanted-as prog a.rule σ (fact-by c.fact_at-fact.ensures c.wide.ensures c.in-Equal.is) c.wanted_equality.ensures

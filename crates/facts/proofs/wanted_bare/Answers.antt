@@ -6,7 +6,7 @@ use Rattle.facts.proofs.Wants.{bare-asks}
 use Rattle.facts.proofs.wanted_bare.Goals as goal
 
 pub evaluate-t-requires : goal.evaluate-t-requires
-evaluate-t-requires c = let p = c.requires in record { ready = p.ready; keyed = p.keyed; indexed = p.indexed; e_bound = p.e_bound; job_in_bounds = p.job_in_bounds; past = p.past; }
+evaluate-t-requires c = let p = c.requires in record { ready = p.ready; keyed = p.keyed; indexed = p.indexed; e_bound = p.e_bound; job_in_bounds = p.job_in_bounds; past = p.past }
 
 pub returns : goal.returns
 returns c = let a = c.args in let pre = c.requires in let prog = program_for a.job.now in let σ = bindings_in a.bound.now a.pairs.now a.globals.now in let expr = expr_for a.job.now in bare-asks prog a.rule σ a.i (expr a.e) c.evaluate-t.result (checks-value c.evaluate-t.ensures) c.asks.ensures

@@ -13,13 +13,13 @@ pub returns-then-v-ne0 : goal.returns-then-v-ne0
 returns-then-v-ne0 c = let a = c.args in let pre = c.requires in let prog = program_for a.job.now in let σ = bindings_in a.bound.now a.pairs.now a.globals.now in let expr = expr_for a.job.now in λ right. call-unbound prog a.rule σ (expr a.e) right a.function a.variable pre.indexed pre.past c.variable-v.result (c.variable-v.ensures.fill_value, c.variable-v.ensures.s_value) c.if-v-ne0.true c.asks.ensures
 
 pub evaluate_arguments-r-requires : goal.evaluate_arguments-r-requires
-evaluate_arguments-r-requires c = let p = c.requires in record { ready = p.ready; keyed = p.keyed; indexed = p.indexed; job_in_bounds = p.job_in_bounds; past = p.past; e_bound = p.e_bound; in_bounds = omega arith; }
+evaluate_arguments-r-requires c = let p = c.requires in record { ready = p.ready; keyed = p.keyed; indexed = p.indexed; job_in_bounds = p.job_in_bounds; past = p.past; e_bound = p.e_bound; in_bounds = omega arith }
 
 pub returns-then-r-ne0 : goal.returns-then-r-ne0
 returns-then-r-ne0 c = let a = c.args in let pre = c.requires in let prog = program_for a.job.now in let σ = bindings_in a.bound.now a.pairs.now a.globals.now in let expr = expr_for a.job.now in λ right. call-refused prog a.rule σ (expr a.e) right a.function a.variable pre.indexed pre.past c.variable-v.result (c.variable-v.ensures.fill_value, c.variable-v.ensures.s_value) c.if-v-ne0.false (sym (ap args_of (node-for pre.ready a.e))) c.evaluate_arguments-r.result c.evaluate_arguments-r.ensures c.if-r-ne0.true c.asks-then-r-ne0.ensures
 
 pub arguments_at-count-requires : goal.arguments_at-count-requires
-arguments_at-count-requires c = let p = c.requires in let h = p.e_bound in record { ready = p.ready; e_bound = omega arith; }
+arguments_at-count-requires c = let p = c.requires in let h = p.e_bound in record { ready = p.ready; e_bound = omega arith }
 
 pub slice_bounds-values-end : goal.slice_bounds-values-end
 slice_bounds-values-end c = let f = c.arguments_at-count.ensures.few in let k = c.evaluate_arguments-r.auto.values in simp length-set (omega arith)
@@ -28,7 +28,7 @@ pub slice_bounds-add_app-end : goal.slice_bounds-add_app-end
 slice_bounds-add_app-end c = let f = c.arguments_at-count.ensures.few in let k = c.evaluate_arguments-r.auto.values in simp (length-take, length-set) (omega arith)
 
 pub add_app-t-requires : goal.add_app-t-requires
-add_app-t-requires c = let f = c.arguments_at-count.ensures.few in record { indexed = c.evaluate_arguments-r.ensures.does.grown.indexed; args_len_bound = simp length-take (omega arith); }
+add_app-t-requires c = let f = c.arguments_at-count.ensures.few in record { indexed = c.evaluate_arguments-r.ensures.does.grown.indexed; args_len_bound = simp length-take (omega arith) }
 
 pub shape_of-skinds : goal.shape_of-skinds
 shape_of-skinds c = c.add_app-t.ensures.grown.len_k ∙ c.evaluate_arguments-r.ensures.does.grown.len_k

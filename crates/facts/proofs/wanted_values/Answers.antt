@@ -8,7 +8,7 @@ use Rattle.facts.proofs.Wants.{checks-eval, values-refused, values-ask}
 use Rattle.facts.proofs.wanted_values.Goals as goal
 
 pub eval-a-requires : goal.eval-a-requires
-eval-a-requires c = let p = c.requires in record { ready = p.ready; keyed = p.keyed; indexed = p.indexed; e_bound = p.left_bound; memo = root-memo (let k = c.new_round.auto.memo in let l = p.job_in_bounds in omega arith) c.new_round.ensures; }
+eval-a-requires c = let p = c.requires in record { ready = p.ready; keyed = p.keyed; indexed = p.indexed; e_bound = p.left_bound; memo = root-memo (let k = c.new_round.auto.memo in let l = p.job_in_bounds in omega arith) c.new_round.ensures }
 
 pub shape_of-memo-then-a-ne0 : goal.shape_of-memo-then-a-ne0
 shape_of-memo-then-a-ne0 c = c.eval-a.auto.memo ∙ c.new_round.auto.memo
@@ -17,7 +17,7 @@ pub returns-then-a-ne0 : goal.returns-then-a-ne0
 returns-then-a-ne0 c = let a = c.args in let pre = c.requires in let prog = program_for a.job.now in let σ = bindings_in a.bound.now a.pairs.now a.globals.now in let expr = expr_for a.job.now in values-refused prog a.rule σ (expr a.left) (expr a.right) c.eval-a.result (checks-eval a.job.now a.rule σ c.eval-a.ensures) c.if-a-ne0.true c.asks.ensures
 
 pub eval-b-requires : goal.eval-b-requires
-eval-b-requires c = let a = c.args in let p = c.requires in record { ready = p.ready; keyed = p.keyed; indexed = c.eval-a.ensures.does.grown.indexed; e_bound = p.right_bound; memo = memo-after c.eval-a.ensures c.if-a-ne0.false; }
+eval-b-requires c = let a = c.args in let p = c.requires in record { ready = p.ready; keyed = p.keyed; indexed = c.eval-a.ensures.does.grown.indexed; e_bound = p.right_bound; memo = memo-after c.eval-a.ensures c.if-a-ne0.false }
 
 pub shape_of-skinds : goal.shape_of-skinds
 shape_of-skinds c = c.eval-b.ensures.does.grown.len_k ∙ c.eval-a.ensures.does.grown.len_k

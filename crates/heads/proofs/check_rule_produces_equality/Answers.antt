@@ -9,22 +9,22 @@ use mathlib.Core.Path.{refl, sym, ◌∙◌}
 use Rattle.heads.proofs.check_rule_produces_equality.Goals as goal
 
 pub rule_name_at-rule-requires : goal.rule_name_at-rule-requires
-rule_name_at-rule-requires c = record { ready = c.requires.standing.ready; r_bound = c.requires.r_bound; }
+rule_name_at-rule-requires c = record { ready = c.requires.standing.ready; r_bound = c.requires.r_bound }
 
 pub rule_actions_at-actions-requires : goal.rule_actions_at-actions-requires
-rule_actions_at-actions-requires c = record { ready = c.requires.standing.ready; r_bound = c.requires.r_bound; }
+rule_actions_at-actions-requires c = record { ready = c.requires.standing.ready; r_bound = c.requires.r_bound }
 
 pub lone_run-lone-requires : goal.lone_run-lone-requires
-lone_run-lone-requires c = record { ready = c.requires.standing.ready; by_index = c.rule_actions_at-actions.ensures.within; }
+lone_run-lone-requires c = record { ready = c.requires.standing.ready; by_index = c.rule_actions_at-actions.ensures.within }
 
 pub run_produces-requires : goal.run_produces-requires
-run_produces-requires c = let L = c.lone_run-lone.ensures _ c.in-Some.is in let q = c.args.q in record { standing = c.requires.standing; e_bound = L.within; lhs_value = eqb-true q.lhs q.rhs L.marked; }
+run_produces-requires c = let L = c.lone_run-lone.ensures _ c.in-Some.is in let q = c.args.q in record { standing = c.requires.standing; e_bound = L.within; lhs_value = eqb-true q.lhs q.rhs L.marked }
 
 pub returns-in-Some : goal.returns-in-Some
 returns-in-Some c = let a = c.args in let L = c.lone_run-lone.ensures _ c.in-Some.is in c.run_produces.ensures (rule_for a.job.now a.r) c.rule_name_at-rule.ensures (sym L.is ∙ actions-for a.job.now a.r c.rule_actions_at-actions.ensures.is)
 
 pub head_actions-h-requires : goal.head_actions-h-requires
-head_actions-h-requires c = let P = c.requires in record { standing = standing-cleared P.standing c.clear_if.auto.marks; bound_len_bound = P.bound_len_bound; actions_len_bound = c.rule_actions_at-actions.ensures.few; by_index = c.rule_actions_at-actions.ensures.within; }
+head_actions-h-requires c = let P = c.requires in record { standing = standing-cleared P.standing c.clear_if.auto.marks; bound_len_bound = P.bound_len_bound; actions_len_bound = c.rule_actions_at-actions.ensures.few; by_index = c.rule_actions_at-actions.ensures.within }
 
 pub shape_of-marks-then-h-ne0 : goal.shape_of-marks-then-h-ne0
 shape_of-marks-then-h-ne0 c = c.head_actions-h.auto.marks ∙ c.clear_if.auto.marks

@@ -26,7 +26,7 @@ pub offset_bounds-actions-i : goal.offset_bounds-actions-i
 offset_bounds-actions-i c = let x = c.loop-i-test.true in let y = c.requires.actions_len_bound in omega arith
 
 pub process_action-r-requires : goal.process_action-r-requires
-process_action-r-requires c = let a = c.args in let pre = c.requires in let t = c.loop-i.invariant in record { standing = standing-part a.pairs.now a.globals.now (part-is c.loop-i.table c.loop-i.at t.full) t.stand; going_2 = λ u. going-part a.pairs.now a.globals.now (part-is c.loop-i.table c.loop-i.at t.full) (t.going u); i_bound = pre.by_index c.loop-i.i c.loop-i-test.true; }
+process_action-r-requires c = let a = c.args in let pre = c.requires in let t = c.loop-i.invariant in record { standing = standing-part a.pairs.now a.globals.now (part-is c.loop-i.table c.loop-i.at t.full) t.stand; going_2 = λ u. going-part a.pairs.now a.globals.now (part-is c.loop-i.table c.loop-i.at t.full) (t.going u); i_bound = pre.by_index c.loop-i.i c.loop-i-test.true }
 
 pub shape_of-skinds-then-r-ne0 : goal.shape_of-skinds-then-r-ne0
 shape_of-skinds-then-r-ne0 c = (c.process_action-r.ensures.acts.does []).grown.len_k ∙ c.loop-i.invariant.grown.len_k
@@ -65,7 +65,7 @@ pub slice_bounds-push_binding-end : goal.slice_bounds-push_binding-end
 slice_bounds-push_binding-end c = sym c.loop-i.invariant.full
 
 pub push_binding-at-requires : goal.push_binding-at-requires
-push_binding-at-requires c = let t = c.loop-i.invariant in let f = t.free in let l = t.low in let h = t.full in let i = c.loop-i-test.true in record { le_at = omega arith; at_in_bounds = omega arith; }
+push_binding-at-requires c = let t = c.loop-i.invariant in let f = t.free in let l = t.low in let h = t.full in let i = c.loop-i-test.true in record { le_at = omega arith; at_in_bounds = omega arith }
 
 pub overflow_add-i : goal.overflow_add-i
 overflow_add-i c = let x = c.loop-i-test.true in let y = c.requires.actions_len_bound in omega arith

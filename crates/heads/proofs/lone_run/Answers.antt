@@ -11,7 +11,7 @@ pub returns-then-actions-ne1 : goal.returns-then-actions-ne1
 returns-then-actions-ne1 c = no_run
 
 pub action_at-action-requires : goal.action_at-action-requires
-action_at-action-requires c = record { ready = c.requires.ready; i_bound = (let l = c.if-actions-ne1.false in let h = c.requires.by_index 0 (omega arith) in omega arith); }
+action_at-action-requires c = record { ready = c.requires.ready; i_bound = (let l = c.if-actions-ne1.false in let h = c.requires.by_index 0 (omega arith) in omega arith) }
 
 pub returns-in-Let : goal.returns-in-Let
 returns-in-Let c = no_run

@@ -4,7 +4,7 @@ use native.Mathlib.Omega.{arith}
 use Rattle.heads.proofs.run_produces.Goals as goal
 
 pub evaluate-v-requires : goal.evaluate-v-requires
-evaluate-v-requires c = let P = c.requires in let S = P.standing in record { ready = S.ready; keyed = S.keyed; indexed = S.indexed; e_bound = P.e_bound; job_in_bounds = S.fits; past = S.past; }
+evaluate-v-requires c = let P = c.requires in let S = P.standing in record { ready = S.ready; keyed = S.keyed; indexed = S.indexed; e_bound = P.e_bound; job_in_bounds = S.fits; past = S.past }
 
 pub returns-then-v-ne0 : goal.returns-then-v-ne0
 returns-then-v-ne0 c = let P = c.requires in λ t u w. run-stops P.standing P.e_bound P.lhs_value c.evaluate-v.ensures t u w c.if-v-ne0.true
@@ -13,7 +13,7 @@ pub returns-then-v-q : goal.returns-then-v-q
 returns-then-v-q c = let P = c.requires in λ t u w. run_is P.standing P.e_bound P.lhs_value c.evaluate-v.ensures t u w c.if-v-ne0.false c.if-v-q.true c.pass.ensures
 
 pub size-requires : goal.size-requires
-size-requires c = record { held = c.requires.standing.ready.held; table_bound = omega arith; }
+size-requires c = record { held = c.requires.standing.ready.held; table_bound = omega arith }
 
 pub mark_values-requires : goal.mark_values-requires
 mark_values-requires c = let f = c.requires.standing.fits in let k = c.evaluate-v.auto.memo in omega arith

@@ -5,4 +5,4 @@ use Rattle.host.proofs.Laws.{own-checks}
 use Rattle.host.proofs.check_words.Goals as goal
 
 pub returns : goal.returns
-returns c = let a = c.args in let made = own-checks a.words.now a.asked a.mode a.answer.now (set (replicate {A = ℕ} 8192 0) 0 (get_or a.answer.now 0 0)) c.requires (length-set (replicate {A = ℕ} 8192 0) 0 (get_or a.answer.now 0 0) ∙ length-replicate {A = ℕ} 8192 0) c.check.ensures in record { is = made.0; number = made.1; }
+returns c = let a = c.args in let made = own-checks a.words.now a.asked a.mode a.answer.now (set (replicate {A = ℕ} 8192 0) 0 (get_or a.answer.now 0 0)) c.requires (length-set (replicate {A = ℕ} 8192 0) 0 (get_or a.answer.now 0 0) ∙ length-replicate {A = ℕ} 8192 0) c.check.ensures in record { is = made.0; number = made.1 }

@@ -4,10 +4,10 @@ use Rattle.index.proofs.Indexing.{kept-old, slot-free, number_fits, kept_new, ke
 use Rattle.index.proofs.add.Goals as goal
 
 pub find-p-requires : goal.find-p-requires
-find-p-requires c = let r = c.requires in record { formed = r.formed; m_le_cells = omega arith; m_in_bounds = omega (arith, r.formed.kinds, r.room); once = r.once; lists = r.lists; }
+find-p-requires c = let r = c.requires in record { formed = r.formed; m_le_cells = omega arith; m_in_bounds = omega (arith, r.formed.kinds, r.room); once = r.once; lists = r.lists }
 
 pub add-a-requires : goal.add-a-requires
-add-a-requires c = record { formed = c.requires.formed; found_value = c.find-p.ensures.found; }
+add-a-requires c = record { formed = c.requires.formed; found_value = c.find-p.ensures.found }
 
 pub returns-then-a-n : goal.returns-then-a-n
 returns-then-a-n c = let s = c in let k : Cell = record { kind = s.args.kind; words = s.args.ws.now } in
@@ -15,7 +15,7 @@ returns-then-a-n c = let s = c in let k : Cell = record { kind = s.args.kind; wo
 
 pub insert-requires : goal.insert-requires
 insert-requires c = let s = c in let k : Cell = record { kind = s.args.kind; words = s.args.ws.now } in
-    record { slot_in_bounds = slot-free s.requires k c.find-p.result c.find-p.ensures c.add-a.ensures refl c.if-a-n.false; number_bound = number_fits s.requires k c.find-p.result c.find-p.ensures c.add-a.ensures refl c.if-a-n.false; }
+    record { slot_in_bounds = slot-free s.requires k c.find-p.result c.find-p.ensures c.add-a.ensures refl c.if-a-n.false; number_bound = number_fits s.requires k c.find-p.result c.find-p.ensures c.add-a.ensures refl c.if-a-n.false }
 
 pub returns : goal.returns
 returns c = let s = c in let k : Cell = record { kind = s.args.kind; words = s.args.ws.now } in

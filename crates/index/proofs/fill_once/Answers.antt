@@ -8,7 +8,7 @@ loop-listed-init c = let a = c.args in (going-none a.x (cell_at a.kinds.now a.en
 
 pub enlist-p-requires : goal.enlist-p-requires
 unfolding cells_of
-enlist-p-requires c = let p = c.requires in let g = c.loop-listed.invariant.0 in record { formed = p.formed; i_lt_cells = omega arith; i_in_bounds = omega (arith, c.loop-listed.invariant.1, c.clear.auto.index); once = g.once; lists = going-lists g; }
+enlist-p-requires c = let p = c.requires in let g = c.loop-listed.invariant.0 in record { formed = p.formed; i_lt_cells = omega arith; i_in_bounds = omega (arith, c.loop-listed.invariant.1, c.clear.auto.index); once = g.once; lists = going-lists g }
 
 pub overflow_add-compared : goal.overflow_add-compared
 overflow_add-compared c = let p = c.requires in let g = c.loop-listed.invariant.0 in record { fits = omega (arith, g.small, few-compared g c.enlist-p.ensures.looked, p.formed.few, p.formed.kinds) }

@@ -28,7 +28,7 @@ onward-slot-requires c = let s = c in
     let cs = cells_of K E P a.m in
     let k : Cell = record { kind = a.kind; words = a.ws.now } in
     let some : 0 < length I = omega arith in
-    record { s_lt_n = start-within a.x I cs k c.home-first.result c.home-first.ensures some; k_le_n = omega arith; }
+    record { s_lt_n = start-within a.x I cs k c.home-first.result c.home-first.ensures some; k_le_n = omega arith }
 
 pub offset_bounds-index-slot : goal.offset_bounds-index-slot
 offset_bounds-index-slot c = let s = c in
@@ -76,7 +76,7 @@ same-requires c = let s = c in
     let cs = cells_of K E P a.m in
     let k : Cell = record { kind = a.kind; words = a.ws.now } in
     let some : 0 < length I = omega arith in
-    record { formed = s.requires.formed; i_lt_cells = omega (arith, c.wide.ensures, entry-low a.x I cs k c.home-first.result c.home-first.ensures some c.loop-compared.invariant (omega arith) s.requires.lists c.onward-slot.result (get_or I c.onward-slot.result 0) c.onward-slot.ensures refl, cells-length K E P a.m); }
+    record { formed = s.requires.formed; i_lt_cells = omega (arith, c.wide.ensures, entry-low a.x I cs k c.home-first.result c.home-first.ensures some c.loop-compared.invariant (omega arith) s.requires.lists c.onward-slot.result (get_or I c.onward-slot.result 0) c.onward-slot.ensures refl, cells-length K E P a.m) }
 
 pub returns-then-same : goal.returns-then-same
 returns-then-same c = let s = c in

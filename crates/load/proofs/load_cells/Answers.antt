@@ -13,13 +13,13 @@ pub returns-then-not-ends_rise : goal.returns-then-not-ends_rise
 returns-then-not-ends_rise c = let a = c.args in
     let l : Lent = record { kinds = a.lent_kinds; ends = a.lent_ends; pool = a.lent_pool; index = length a.index.now; scratch = a.scratch } in
     let t = tables_for a.kinds.now a.ends.now a.pool.now a.z in
-    record { refusal = refuses-5 a.ends.now (sizes_in a.z) t l (sym c.ends_rise.ensures ∙ c.if-not-ends_rise.true); lists = not-admitted _ _ refl; }
+    record { refusal = refuses-5 a.ends.now (sizes_in a.z) t l (sym c.ends_rise.ensures ∙ c.if-not-ends_rise.true); lists = not-admitted _ _ refl }
 
 pub known_terms-distinct-requires : goal.known_terms-distinct-requires
 known_terms-distinct-requires c = held-of c.requires (sym c.ends_rise.ensures ∙ c.if-not-ends_rise.false)
 
 pub writer_refusal-w-requires : goal.writer_refusal-w-requires
-writer_refusal-w-requires c = record { held = held-of c.requires (sym c.ends_rise.ensures ∙ c.if-not-ends_rise.false); distinct = c.known_terms-distinct.ensures.distinct; }
+writer_refusal-w-requires c = record { held = held-of c.requires (sym c.ends_rise.ensures ∙ c.if-not-ends_rise.false); distinct = c.known_terms-distinct.ensures.distinct }
 
 pub start-words-requires : goal.start-words-requires
 start-words-requires c = let h = held-of c.requires (sym c.ends_rise.ensures ∙ c.if-not-ends_rise.false) in omega (arith, c.requires.ends)
@@ -34,7 +34,7 @@ returns-then-no_room c = let a = c.args in
     let e = sym c.ends_rise.ensures ∙ c.if-not-ends_rise.false in
     let w = sym c.writer_refusal-w.ensures ∙ ap refusal_of c.in-Admitted.is in
     let n = room-is (held-of c.requires e) l w ∙ ap (λ (k : ℕ). room_lacks (sizes_in a.z) k l) (sym c.start-words.ensures) ∙ sym (c.no_room.ensures l.index) ∙ c.if-no_room.true in
-    record { refusal = refuses-10 a.ends.now (sizes_in a.z) t l e w n; lists = not-admitted _ _ refl; }
+    record { refusal = refuses-10 a.ends.now (sizes_in a.z) t l e w n; lists = not-admitted _ _ refl }
 
 pub wrong_slots-requires : goal.wrong_slots-requires
 wrong_slots-requires c = let a = c.args in
@@ -48,7 +48,7 @@ returns-then-wrong_slots c = let a = c.args in
     let e = sym c.ends_rise.ensures ∙ c.if-not-ends_rise.false in
     let w = sym c.writer_refusal-w.ensures ∙ ap refusal_of c.in-Admitted.is in
     let n = room-is (held-of c.requires e) l w ∙ ap (λ (k : ℕ). room_lacks (sizes_in a.z) k l) (sym c.start-words.ensures) ∙ sym (c.no_room.ensures l.index) ∙ c.if-no_room.false in
-    record { refusal = refuses-12 a.ends.now (sizes_in a.z) t l e w n (sym (c.wrong_slots.ensures l.ends l.pool l.scratch) ∙ c.if-wrong_slots.true); lists = not-admitted _ _ refl; }
+    record { refusal = refuses-12 a.ends.now (sizes_in a.z) t l e w n (sym (c.wrong_slots.ensures l.ends l.pool l.scratch) ∙ c.if-wrong_slots.true); lists = not-admitted _ _ refl }
 
 pub returns-else-wrong_slots : goal.returns-else-wrong_slots
 returns-else-wrong_slots c = let a = c.args in
@@ -59,18 +59,18 @@ returns-else-wrong_slots c = let a = c.args in
     let r = sym (c.no_room.ensures l.index) ∙ c.if-no_room.false in
     let n = room-is (held-of c.requires e) l w ∙ ap (λ (k : ℕ). room_lacks (sizes_in a.z) k l) (sym c.start-words.ensures) ∙ r in
     let s = sym (c.wrong_slots.ensures l.ends l.pool l.scratch) ∙ c.if-wrong_slots.false in
-    record { refusal = admits a.ends.now (sizes_in a.z) t l e w n s; lists = λ q. lists-all (c.known_terms-distinct.ensures.fills (slots-many (sizes_in a.z) c.start-words.result l r s)) w; }
+    record { refusal = admits a.ends.now (sizes_in a.z) t l e w n s; lists = λ q. lists-all (c.known_terms-distinct.ensures.fills (slots-many (sizes_in a.z) c.start-words.result l r s)) w }
 
 pub returns-in-Host : goal.returns-in-Host
 returns-in-Host c = let a = c.args in
     let l : Lent = record { kinds = a.lent_kinds; ends = a.lent_ends; pool = a.lent_pool; index = length a.index.now; scratch = a.scratch } in
     let t = tables_for a.kinds.now a.ends.now a.pool.now a.z in
     let g = ap refusal_of c.in-Host.is in
-    record { refusal = g ∙ refuses-writer a.ends.now (sizes_in a.z) t l (sym c.ends_rise.ensures ∙ c.if-not-ends_rise.false) _ (sym c.writer_refusal-w.ensures ∙ g); lists = not-admitted _ _ g; }
+    record { refusal = g ∙ refuses-writer a.ends.now (sizes_in a.z) t l (sym c.ends_rise.ensures ∙ c.if-not-ends_rise.false) _ (sym c.writer_refusal-w.ensures ∙ g); lists = not-admitted _ _ g }
 
 pub returns-in-Writer : goal.returns-in-Writer
 returns-in-Writer c = let a = c.args in
     let l : Lent = record { kinds = a.lent_kinds; ends = a.lent_ends; pool = a.lent_pool; index = length a.index.now; scratch = a.scratch } in
     let t = tables_for a.kinds.now a.ends.now a.pool.now a.z in
     let g = ap refusal_of c.in-Writer.is in
-    record { refusal = g ∙ refuses-writer a.ends.now (sizes_in a.z) t l (sym c.ends_rise.ensures ∙ c.if-not-ends_rise.false) _ (sym c.writer_refusal-w.ensures ∙ g); lists = not-admitted _ _ g; }
+    record { refusal = g ∙ refuses-writer a.ends.now (sizes_in a.z) t l (sym c.ends_rise.ensures ∙ c.if-not-ends_rise.false) _ (sym c.writer_refusal-w.ensures ∙ g); lists = not-admitted _ _ g }

@@ -11,7 +11,7 @@ pub loop-round-init : goal.loop-round-init
 loop-round-init c = (omega arith, refl)
 
 pub first_marked-f-requires : goal.first_marked-f-requires
-first_marked-f-requires c = let h = c.requires in record { held = h.held; distinct = h.distinct; sound = c.passing_terms-sound.ensures; }
+first_marked-f-requires c = let h = c.requires in record { held = h.held; distinct = h.distinct; sound = c.passing_terms-sound.ensures }
 
 pub returns-in-At : goal.returns-in-At
 returns-in-At c = let a = c.args in

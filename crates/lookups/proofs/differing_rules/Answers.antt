@@ -13,19 +13,23 @@ pub bounds-found-4096 : goal.bounds-found-4096
 bounds-found-4096 c = omega (arith, (c.requires.chained_table.chained c.requires.bound).long, c.requires.bound)
 
 pub kinds-requires : goal.kinds-requires
-kinds-requires c = record { held = c.requires.held; count_value = ap (λ (f : Fill). f.cells) c.fill-f.ensures; }
+kinds-requires c = record { held = c.requires.held; count_value = ap (λ (f : Fill). f.cells) c.fill-f.ensures }
 
 pub ends-requires : goal.ends-requires
-ends-requires c = record { held = c.requires.held; count_value = ap (λ (f : Fill). f.cells) c.fill-f.ensures; }
+ends-requires c = record { held = c.requires.held; count_value = ap (λ (f : Fill). f.cells) c.fill-f.ensures }
 
 pub pool-requires : goal.pool-requires
-pool-requires c = record { held = c.requires.held; count_value = ap (λ (f : Fill). f.cells) c.fill-f.ensures; }
+pool-requires c = record { held = c.requires.held; count_value = ap (λ (f : Fill). f.cells) c.fill-f.ensures }
 
 pub differing-requires : goal.differing-requires
 differing-requires c = let a = c.args in
     let pre = c.requires in
-    record { formed = formed-part a.job.now c.kinds.ensures c.ends.ensures c.pool.ensures c.fill-f.ensures pre.held; n_bound = parts_within a.job.now 8 c.kinds.ensures c.ends.ensures c.pool.ensures c.fill-f.ensures c.nearest_first-start.ensures c.size-count.ensures (lit< tt) (omega (arith, c.size-count.ensures, pre.bound)); chained = to-parts a.job.now 8 c.kinds.ensures c.ends.ensures c.pool.ensures c.fill-f.ensures c.nearest_first-start.ensures c.size-count.ensures
-            (λ K E P f first n. Chained (slot_at (get_or a.found.now 4096 0) n false (words_from K E P f first)) n 20481 0 a.found.now) (pre.chained_table.chained pre.bound); }
+    record {
+      formed = formed-part a.job.now c.kinds.ensures c.ends.ensures c.pool.ensures c.fill-f.ensures pre.held;
+      n_bound = parts_within a.job.now 8 c.kinds.ensures c.ends.ensures c.pool.ensures c.fill-f.ensures c.nearest_first-start.ensures c.size-count.ensures (lit< tt) (omega (arith, c.size-count.ensures, pre.bound));
+      chained = to-parts a.job.now 8 c.kinds.ensures c.ends.ensures c.pool.ensures c.fill-f.ensures c.nearest_first-start.ensures c.size-count.ensures
+          (λ K E P f first n. Chained (slot_at (get_or a.found.now 4096 0) n false (words_from K E P f first)) n 20481 0 a.found.now) (pre.chained_table.chained pre.bound);
+    }
 
 pub returns : goal.returns
 returns c = let a = c.args in

@@ -19,10 +19,10 @@ pub returns-then-count-lt-FEW : goal.returns-then-count-lt-FEW
 returns-then-count-lt-FEW c = c.scan_rule_names.ensures
 
 pub differing_rules-i-requires : goal.differing_rules-i-requires
-differing_rules-i-requires c = record { held = c.requires.ready.held; chained_table = c.requires.keyed.rules; bound = omega (arith, c.if-count-lt-FEW.false, c.size-count.ensures); }
+differing_rules-i-requires c = record { held = c.requires.ready.held; chained_table = c.requires.keyed.rules; bound = omega (arith, c.if-count-lt-FEW.false, c.size-count.ensures) }
 
 pub words_at-requires : goal.words_at-requires
-words_at-requires c = record { held = c.requires.ready.held; table_bound = lit< tt; i_bound = omega (arith, c.if-i-count.true, c.size-count.ensures); }
+words_at-requires c = record { held = c.requires.ready.held; table_bound = lit< tt; i_bound = omega (arith, c.if-i-count.true, c.size-count.ensures) }
 
 pub rule_name-requires : goal.rule_name-requires
 rule_name-requires c = rule-words c.requires.ready c.differing_rules-i.result c.words_at.ensures (omega (arith, c.if-i-count.true, c.size-count.ensures))

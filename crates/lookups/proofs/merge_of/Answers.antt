@@ -16,7 +16,7 @@ use Rattle.lookups.proofs.Laws.{look-found, look-nothing, merge-looks}
 use Rattle.lookups.proofs.merge_of.Goals as goal
 
 pub find_named-place-requires : goal.find_named-place-requires
-find_named-place-requires c = record { held = c.requires.ready.held; table_bound = lit< tt; lt_b = omega arith; chained_table = c.requires.keyed.functions; }
+find_named-place-requires c = record { held = c.requires.ready.held; table_bound = lit< tt; lt_b = omega arith; chained_table = c.requires.keyed.functions }
 
 pub returns-in_default : goal.returns-in_default
 returns-in_default c = let a = c.args in
@@ -28,10 +28,10 @@ returns-in_default c = let a = c.args in
     }
 
 pub kind_at-requires : goal.kind_at-requires
-kind_at-requires c = record { held = c.requires.ready.held; table_bound = lit< tt; i_bound = c.find_named-place.ensures.within c.in-At.i c.in-At.is; }
+kind_at-requires c = record { held = c.requires.ready.held; table_bound = lit< tt; i_bound = c.find_named-place.ensures.within c.in-At.i c.in-At.is }
 
 pub words_at-requires : goal.words_at-requires
-words_at-requires c = record { held = c.requires.ready.held; table_bound = lit< tt; i_bound = c.find_named-place.ensures.within c.in-At.i c.in-At.is; }
+words_at-requires c = record { held = c.requires.ready.held; table_bound = lit< tt; i_bound = c.find_named-place.ensures.within c.in-At.i c.in-At.is }
 
 pub read_function-f-requires : goal.read_function-f-requires
 read_function-f-requires c = let i = c.in-At.i in

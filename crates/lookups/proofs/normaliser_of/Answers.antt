@@ -13,7 +13,7 @@ use Rattle.lookups.proofs.Laws.{look-found, look-nothing, normaliser-looks}
 use Rattle.lookups.proofs.normaliser_of.Goals as goal
 
 pub find_named-place-requires : goal.find_named-place-requires
-find_named-place-requires c = record { held = c.requires.ready.held; table_bound = lit< tt; lt_b = omega arith; chained_table = c.requires.keyed.normalisers; }
+find_named-place-requires c = record { held = c.requires.ready.held; table_bound = lit< tt; lt_b = omega arith; chained_table = c.requires.keyed.normalisers }
 
 pub returns-in_default : goal.returns-in_default
 returns-in_default c = let a = c.args in
@@ -21,7 +21,7 @@ returns-in_default c = let a = c.args in
     sym (ap (λ ns. normaliser_of ns a.head) (normalisers-read (sizes_of J).globals (tables_for J)) ∙ look-nothing (normaliser-looks a.head) (tables_for J).normalisers (sym c.find_named-place.ensures.is ∙ c.in_default.is))
 
 pub words_at-requires : goal.words_at-requires
-words_at-requires c = record { held = c.requires.ready.held; table_bound = lit< tt; i_bound = c.find_named-place.ensures.within c.in-At.i c.in-At.is; }
+words_at-requires c = record { held = c.requires.ready.held; table_bound = lit< tt; i_bound = c.find_named-place.ensures.within c.in-At.i c.in-At.is }
 
 pub read_normaliser-n-requires : goal.read_normaliser-n-requires
 read_normaliser-n-requires c = let i = c.in-At.i in normaliser-words c.requires.ready i c.words_at.ensures (c.find_named-place.ensures.within i c.in-At.is)

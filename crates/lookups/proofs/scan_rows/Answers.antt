@@ -23,7 +23,7 @@ pub overflow_add-start : goal.overflow_add-start
 overflow_add-start c = omega (arith, inside c.args.job.now 6 (lit< tt) c.loop-i.i (omega (arith, c.size-count.ensures)), c.first-start.ensures, c.requires.held.long)
 
 pub cell_words-ws-requires : goal.cell_words-ws-requires
-cell_words-ws-requires c = record { held = c.requires.held; i_bound = omega (arith, inside c.args.job.now 6 (lit< tt) c.loop-i.i (omega (arith, c.size-count.ensures)), c.first-start.ensures); }
+cell_words-ws-requires c = record { held = c.requires.held; i_bound = omega (arith, inside c.args.job.now 6 (lit< tt) c.loop-i.i (omega (arith, c.size-count.ensures)), c.first-start.ensures) }
 
 pub read_row-row-requires : goal.read_row-row-requires
 read_row-row-requires c = let h : c.loop-i.i < (sizes_of c.args.job.now).rows = omega (arith, c.size-count.ensures) in

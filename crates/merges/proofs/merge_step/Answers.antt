@@ -7,7 +7,7 @@ use Rattle.merges.proofs.MergeLaws.{cleared-length, merge-unread, merge-standing
 use Rattle.merges.proofs.merge_step.Goals as goal
 
 pub read_views-v-requires : goal.read_views-v-requires
-read_views-v-requires c = let a = c.args in let pre = c.requires in record { stored = pre.standing.indexed.stored; rhs_lt_cells = small-cells a.skinds.now a.sends.now a.spool.now a.fill pre.small refl; rhs_lt_cells_2 = small-cells a.skinds.now a.sends.now a.spool.now a.fill pre.small_2 refl; }
+read_views-v-requires c = let a = c.args in let pre = c.requires in record { stored = pre.standing.indexed.stored; rhs_lt_cells = small-cells a.skinds.now a.sends.now a.spool.now a.fill pre.small refl; rhs_lt_cells_2 = small-cells a.skinds.now a.sends.now a.spool.now a.fill pre.small_2 refl }
 
 pub returns-then-first-ne0 : goal.returns-then-first-ne0
 returns-then-first-ne0 c = let a = c.args in let pre = c.requires in merge-unread a.job.now a.found.now a.p (proposition_of a.q) a.function (proposition_of a.a) (proposition_of a.b) a.skinds.now a.sends.now a.spool.now a.index.now a.fill a.memo.now a.marks.now pre.standing pre.small pre.small_2 c.read_views-v.result c.read_views-v.ensures c.if-first-ne0.true
@@ -19,7 +19,7 @@ pub returns-then-m-ne0 : goal.returns-then-m-ne0
 returns-then-m-ne0 c = let a = c.args in let pre = c.requires in merge-refused a.job.now a.found.now a.p (proposition_of a.q) a.function (proposition_of a.a) (proposition_of a.b) a.skinds.now a.sends.now a.spool.now a.index.now a.fill a.memo.now a.marks.now pre.standing pre.small pre.small_2 c.read_views-v.result c.read_views-v.ensures c.if-first-ne0.false c.clear_if.new.marks c.run_merge-m.new.skinds c.run_merge-m.new.sends c.run_merge-m.new.spool c.run_merge-m.new.index c.run_merge-m.new.memo c.run_merge-m.new.marks c.run_merge-m.result c.run_merge-m.ensures c.if-m-ne0.true
 
 pub add_view-requires : goal.add_view-requires
-add_view-requires c = let a = c.args in let pre = c.requires in let made = view-small a.job.now a.found.now a.p (proposition_of a.q) a.function (proposition_of a.a) (proposition_of a.b) a.skinds.now a.sends.now a.spool.now a.index.now a.fill a.memo.now a.marks.now pre.standing pre.small pre.small_2 c.read_views-v.result c.read_views-v.ensures c.if-first-ne0.false c.clear_if.new.marks c.run_merge-m.new.skinds c.run_merge-m.new.sends c.run_merge-m.new.spool c.run_merge-m.new.index c.run_merge-m.new.memo c.run_merge-m.new.marks c.run_merge-m.result c.run_merge-m.ensures c.if-m-ne0.false in record { indexed = c.run_merge-m.ensures.does.grown.indexed; small = made.0; nonzero = made.1; }
+add_view-requires c = let a = c.args in let pre = c.requires in let made = view-small a.job.now a.found.now a.p (proposition_of a.q) a.function (proposition_of a.a) (proposition_of a.b) a.skinds.now a.sends.now a.spool.now a.index.now a.fill a.memo.now a.marks.now pre.standing pre.small pre.small_2 c.read_views-v.result c.read_views-v.ensures c.if-first-ne0.false c.clear_if.new.marks c.run_merge-m.new.skinds c.run_merge-m.new.sends c.run_merge-m.new.spool c.run_merge-m.new.index c.run_merge-m.new.memo c.run_merge-m.new.marks c.run_merge-m.result c.run_merge-m.ensures c.if-m-ne0.false in record { indexed = c.run_merge-m.ensures.does.grown.indexed; small = made.0; nonzero = made.1 }
 
 pub shape_of-skinds : goal.shape_of-skinds
 shape_of-skinds c = c.add_view.auto.kinds ∙ c.run_merge-m.auto.skinds

@@ -12,10 +12,10 @@ loop-e-init c = let a = c.args in
     (omega arith, searched-none a.job.now a.found.now, refl)
 
 pub first_offence-offence-requires : goal.first_offence-offence-requires
-first_offence-offence-requires c = record { ready = c.requires.ready; searched_to = c.loop-e.invariant.1; e_bound = omega arith; }
+first_offence-offence-requires c = record { ready = c.requires.ready; searched_to = c.loop-e.invariant.1; e_bound = omega arith }
 
 pub is_container_primitive-requires : goal.is_container_primitive-requires
-is_container_primitive-requires c = record { ready = c.requires.ready; e_bound = omega arith; }
+is_container_primitive-requires c = record { ready = c.requires.ready; e_bound = omega arith }
 
 pub word_of-requires : goal.word_of-requires
 word_of-requires c = c.first_offence-offence.ensures.low

@@ -7,10 +7,10 @@ use Rattle.normal_form.proofs.Laws.{rest, rest_all, rest-none, rest-yes, rest-no
 use Rattle.normal_form.proofs.first_offence.Goals as goal
 
 pub head_at-h-requires : goal.head_at-h-requires
-head_at-h-requires c = record { ready = c.requires.ready; e_bound = c.requires.e_bound; }
+head_at-h-requires c = record { ready = c.requires.ready; e_bound = c.requires.e_bound }
 
 pub arguments_at-args-requires : goal.arguments_at-args-requires
-arguments_at-args-requires c = record { ready = c.requires.ready; e_bound = c.requires.e_bound; }
+arguments_at-args-requires c = record { ready = c.requires.ready; e_bound = c.requires.e_bound }
 
 pub loop-k-init : goal.loop-k-init
 loop-k-init c = let a = c.args in
@@ -18,7 +18,7 @@ loop-k-init c = let a = c.args in
 
 pub argument_offence-requires : goal.argument_offence-requires
 argument_offence-requires c = let l = c.arguments_at-args.ensures.lower c.loop-k.k c.loop-k-test.true in
-    record { ready = c.requires.ready; j_bound = omega (arith, l, c.requires.e_bound); }
+    record { ready = c.requires.ready; j_bound = omega (arith, l, c.requires.e_bound) }
 
 pub offset_bounds-found-wide : goal.offset_bounds-found-wide
 offset_bounds-found-wide c = let l = c.arguments_at-args.ensures.lower c.loop-k.k c.loop-k-test.true in
@@ -31,7 +31,7 @@ bounds-found-wide c = let l = c.arguments_at-args.ensures.lower c.loop-k.k c.loo
 pub returns-then-w-ne0 : goal.returns-then-w-ne0
 returns-then-w-ne0 c = let a = c.args in
     let xs = c.arguments_at-args.result.now in
-    let k = c.loop-k.k in record { says = rest-yes a.job.now (head_of c.head_at-h.result) xs a.found.now a.e k c.argument_offence.result c.wide.result c.first_of-w.result c.requires.searched_to c.loop-k-test.true (c.arguments_at-args.ensures.lower k c.loop-k-test.true) c.wide.ensures c.argument_offence.ensures.says c.first_of-w.ensures.says c.if-w-ne0.true ∙ c.loop-k.invariant.1; low = c.first_of-w.ensures.low 32768 c.argument_offence.ensures.low (omega (arith, c.requires.searched_to.low c.wide.result (omega (arith, c.arguments_at-args.ensures.lower k c.loop-k-test.true, c.wide.ensures)))); }
+    let k = c.loop-k.k in record { says = rest-yes a.job.now (head_of c.head_at-h.result) xs a.found.now a.e k c.argument_offence.result c.wide.result c.first_of-w.result c.requires.searched_to c.loop-k-test.true (c.arguments_at-args.ensures.lower k c.loop-k-test.true) c.wide.ensures c.argument_offence.ensures.says c.first_of-w.ensures.says c.if-w-ne0.true ∙ c.loop-k.invariant.1; low = c.first_of-w.ensures.low 32768 c.argument_offence.ensures.low (omega (arith, c.requires.searched_to.low c.wide.result (omega (arith, c.arguments_at-args.ensures.lower k c.loop-k-test.true, c.wide.ensures)))) }
 
 pub loop-k-preserved : goal.loop-k-preserved
 loop-k-preserved c = let a = c.args in
@@ -41,4 +41,4 @@ loop-k-preserved c = let a = c.args in
 
 pub returns : goal.returns
 returns c = let a = c.args in
-    record { says = rest-none a.job.now (head_of c.head_at-h.result) c.arguments_at-args.result.now c.loop-k.k c.loop-k-test.false ∙ c.loop-k.invariant.1; low = omega arith; }
+    record { says = rest-none a.job.now (head_of c.head_at-h.result) c.arguments_at-args.result.now c.loop-k.k c.loop-k-test.false ∙ c.loop-k.invariant.1; low = omega arith }

@@ -8,7 +8,7 @@ use Rattle.normal_form.proofs.is_container_primitive.Goals as goal
 
 pub primitive_at-primitive-requires : goal.primitive_at-primitive-requires
 primitive_at-primitive-requires c = let h = c.head_at-h.ensures.primitive c.in-Primitive.p c.in-Primitive.is in
-    record { ready = c.requires.ready; p_bound = omega (arith, c.wide.ensures); }
+    record { ready = c.requires.ready; p_bound = omega (arith, c.wide.ensures) }
 
 pub returns-in-Lit : goal.returns-in-Lit
 returns-in-Lit c = let a = c.args in

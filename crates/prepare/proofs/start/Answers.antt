@@ -3,7 +3,7 @@ use Rattle.prepare.proofs.Jobs.{start-ready, start_loadable}
 use Rattle.prepare.proofs.start.Goals as goal
 
 pub load_terms-have-requires : goal.load_terms-have-requires
-load_terms-have-requires c = let L = c.requires in record { held = (start-ready L).held; loadable = start_loadable L; }
+load_terms-have-requires c = let L = c.requires in record { held = (start-ready L).held; loadable = start_loadable L }
 
 pub returns : goal.returns
-returns c = record { is = refl; begun = c.load_terms-have.ensures; }
+returns c = record { is = refl; begun = c.load_terms-have.ensures }

@@ -8,19 +8,19 @@ use Rattle.steps.proofs.KindLaws.{step-fiat, step-trans, step-sym, step-normaliz
 use Rattle.steps.proofs.plain_step.Goals as goal
 
 pub claim_at-a-requires : goal.claim_at-a-requires
-claim_at-a-requires c = let a = c.args in let pre = c.requires in record { ready = pre.ready; p_bound = reference-inside pre.justification_at pre.p_bound c.in-Trans.is (Memᴰ.head refl) c.wide.ensures; }
+claim_at-a-requires c = let a = c.args in let pre = c.requires in record { ready = pre.ready; p_bound = reference-inside pre.justification_at pre.p_bound c.in-Trans.is (Memᴰ.head refl) c.wide.ensures }
 
 pub claim_at-b-requires : goal.claim_at-b-requires
-claim_at-b-requires c = let a = c.args in let pre = c.requires in record { ready = pre.ready; p_bound = reference-inside pre.justification_at pre.p_bound c.in-Trans.is (Memᴰ.tail (Memᴰ.head refl)) c.wide-in-Trans.ensures; }
+claim_at-b-requires c = let a = c.args in let pre = c.requires in record { ready = pre.ready; p_bound = reference-inside pre.justification_at pre.p_bound c.in-Trans.is (Memᴰ.tail (Memᴰ.head refl)) c.wide-in-Trans.ensures }
 
 pub claim_at-a-requires-in-Sym : goal.claim_at-a-requires-in-Sym
-claim_at-a-requires-in-Sym c = let a = c.args in let pre = c.requires in record { ready = pre.ready; p_bound = reference-inside pre.justification_at pre.p_bound c.in-Sym.is (Memᴰ.head refl) c.wide-in-Sym.ensures; }
+claim_at-a-requires-in-Sym c = let a = c.args in let pre = c.requires in record { ready = pre.ready; p_bound = reference-inside pre.justification_at pre.p_bound c.in-Sym.is (Memᴰ.head refl) c.wide-in-Sym.ensures }
 
 pub claim_at-a-requires-in-ContainerNormalize : goal.claim_at-a-requires-in-ContainerNormalize
-claim_at-a-requires-in-ContainerNormalize c = let a = c.args in let pre = c.requires in record { ready = pre.ready; p_bound = reference-inside pre.justification_at pre.p_bound c.in-ContainerNormalize.is (Memᴰ.head refl) c.wide-in-ContainerNormalize.ensures; }
+claim_at-a-requires-in-ContainerNormalize c = let a = c.args in let pre = c.requires in record { ready = pre.ready; p_bound = reference-inside pre.justification_at pre.p_bound c.in-ContainerNormalize.is (Memᴰ.head refl) c.wide-in-ContainerNormalize.ensures }
 
 pub normalize_step-requires : goal.normalize_step-requires
-normalize_step-requires c = let a = c.args in let pre = c.requires in let h = c.claim_at-a-in-ContainerNormalize.ensures.rhs in let t = pre.job_bound in record { ready = pre.ready; keyed = pre.keyed; stored = pre.stored; rhs_lt_cells = omega arith; }
+normalize_step-requires c = let a = c.args in let pre = c.requires in let h = c.claim_at-a-in-ContainerNormalize.ensures.rhs in let t = pre.job_bound in record { ready = pre.ready; keyed = pre.keyed; stored = pre.stored; rhs_lt_cells = omega arith }
 
 pub returns-in-Fiat : goal.returns-in-Fiat
 returns-in-Fiat c = let a = c.args in let pre = c.requires in step-fiat a.job.now a.unions.now a.gmarks.now (terms_in a.skinds.now a.sends.now a.spool.now a.fill) a.p (proposition_of a.q) a.j c.fiat_step.result c.in-Fiat.is c.fiat_step.ensures

@@ -3,7 +3,7 @@ use Rattle.turns.proofs.Tying.{conclude-grown, step-prepared}
 use Rattle.turns.proofs.advance.Goals as goal
 
 pub advance_rule-requires : goal.advance_rule-requires
-advance_rule-requires c = record { ground = c.requires.ground; p_bound = c.requires.p_bound; planned = planned-by c.args.job.now c.args.p c.args.r c.args.first c.args.second c.args.count c.if-rule.true c.requires.planned; sane = λ _. sane-by c.args.job.now c.args.p c.args.bound.now c.args.globals.now c.if-rule.true (c.requires.sane c.if-rule.true); bound_len_bound = c.requires.bound_len_bound; i_le_count = c.requires.i_le_count; }
+advance_rule-requires c = record { ground = c.requires.ground; p_bound = c.requires.p_bound; planned = planned-by c.args.job.now c.args.p c.args.r c.args.first c.args.second c.args.count c.if-rule.true c.requires.planned; sane = λ _. sane-by c.args.job.now c.args.p c.args.bound.now c.args.globals.now c.if-rule.true (c.requires.sane c.if-rule.true); bound_len_bound = c.requires.bound_len_bound; i_le_count = c.requires.i_le_count }
 
 pub shape_of-skinds-then-rule : goal.shape_of-skinds-then-rule
 shape_of-skinds-then-rule c = c.advance_rule.ensures.walks.grown.len_k
@@ -27,7 +27,7 @@ pub returns-then-rule : goal.returns-then-rule
 returns-then-rule c = advances-by c.args.job.now c.args.strict c.args.found.now c.args.globals.now c.args.unions.now c.args.p c.args.r c.args.first c.args.second c.args.count c.args.bound.now c.if-rule.true c.advance_rule.ensures
 
 pub conclude-requires : goal.conclude-requires
-conclude-requires c = record { prepared = step-prepared c.requires.ground; p_bound = c.requires.p_bound; }
+conclude-requires c = record { prepared = step-prepared c.requires.ground; p_bound = c.requires.p_bound }
 
 pub shape_of-skinds : goal.shape_of-skinds
 shape_of-skinds c = (conclude-grown c.conclude.ensures).len_k

@@ -14,10 +14,10 @@ pub returns-then-count-i : goal.returns-then-count-i
 returns-then-count-i c = let a = c.args in after_none c.requires.planned c.if-count-i.true (bindings_in a.bound.now a.pairs.now a.globals.now) c.requires.indexed c.requires.past c.pass.ensures
 
 pub rule_facts_at-facts-requires : goal.rule_facts_at-facts-requires
-rule_facts_at-facts-requires c = record { ready = c.requires.ready; r_bound = c.requires.planned.inside refl; }
+rule_facts_at-facts-requires c = record { ready = c.requires.ready; r_bound = c.requires.planned.inside refl }
 
 pub premises_at-premises-requires : goal.premises_at-premises-requires
-premises_at-premises-requires c = let h = c.requires.p_bound in record { ready = c.requires.ready; p_bound = omega arith; p_value = ap (λ (n : ℕ). (proof_cell c.args.job.now n).kind) c.wide.ensures ∙ c.requires.planned.kind refl; }
+premises_at-premises-requires c = let h = c.requires.p_bound in record { ready = c.requires.ready; p_bound = omega arith; p_value = ap (λ (n : ℕ). (proof_cell c.args.job.now n).kind) c.wide.ensures ∙ c.requires.planned.kind refl }
 
 pub offset_bounds-premises-i : goal.offset_bounds-premises-i
 offset_bounds-premises-i c = let x = c.if-count-i.false in let f = c.requires.planned.few in omega arith
@@ -26,7 +26,7 @@ pub bounds-premises-i : goal.bounds-premises-i
 bounds-premises-i c = let x = c.if-count-i.false in let n = reference-inside refl c.requires.planned (c.premises_at-premises.ensures.is ∙ ap (premises_for c.args.job.now) c.wide.ensures) in omega arith
 
 pub claim_at-q-requires : goal.claim_at-q-requires
-claim_at-q-requires c = let x = c.if-count-i.false in let n = reference-inside refl c.requires.planned (c.premises_at-premises.ensures.is ∙ ap (premises_for c.args.job.now) c.wide.ensures) in let l = c.premises_at-premises.ensures.lower c.args.i (omega arith) in let h = c.requires.p_bound in record { ready = c.requires.ready; p_bound = omega arith; }
+claim_at-q-requires c = let x = c.if-count-i.false in let n = reference-inside refl c.requires.planned (c.premises_at-premises.ensures.is ∙ ap (premises_for c.args.job.now) c.wide.ensures) in let l = c.premises_at-premises.ensures.lower c.args.i (omega arith) in let h = c.requires.p_bound in record { ready = c.requires.ready; p_bound = omega arith }
 
 pub offset_bounds-facts-i : goal.offset_bounds-facts-i
 offset_bounds-facts-i c = let x = c.if-count-i.false in let f = c.requires.planned.few in omega arith
@@ -35,7 +35,7 @@ pub bounds-facts-i : goal.bounds-facts-i
 bounds-facts-i c = let x = c.if-count-i.false in let n = facts-count c.requires.planned c.rule_facts_at-facts.ensures.is in omega arith
 
 pub check_fact_matches_proposition-requires : goal.check_fact_matches_proposition-requires
-check_fact_matches_proposition-requires c = let x = c.if-count-i.false in let n = facts-count c.requires.planned c.rule_facts_at-facts.ensures.is in let pre = c.requires in record { ready = pre.ready; keyed = pre.keyed; indexed = pre.indexed; job_in_bounds = pre.job_in_bounds; past = pre.past; i_bound = c.rule_facts_at-facts.ensures.within c.args.i (omega arith); }
+check_fact_matches_proposition-requires c = let x = c.if-count-i.false in let n = facts-count c.requires.planned c.rule_facts_at-facts.ensures.is in let pre = c.requires in record { ready = pre.ready; keyed = pre.keyed; indexed = pre.indexed; job_in_bounds = pre.job_in_bounds; past = pre.past; i_bound = c.rule_facts_at-facts.ensures.within c.args.i (omega arith) }
 
 pub shape_of-skinds : goal.shape_of-skinds
 shape_of-skinds c = c.check_fact_matches_proposition.ensures.does.grown.len_k

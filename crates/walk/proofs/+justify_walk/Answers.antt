@@ -14,16 +14,16 @@ use Rattle.walk.proofs.+justify_walk.Goals.{justify-then-s, justify-else-s}
 use Rattle.walk.proofs.+justify_walk.Goals as goal
 
 pub justify-plan_step-s-requires : goal.justify-plan_step-s-requires
-justify-plan_step-s-requires t c = record { ready = c.requires.ground.ready; keyed = c.requires.ground.keyed; p_bound = c.requires.p_bound; }
+justify-plan_step-s-requires t c = record { ready = c.requires.ground.ready; keyed = c.requires.ground.keyed; p_bound = c.requires.p_bound }
 
 pub justify-returns-then-s-ne0 : goal.justify-returns-then-s-ne0
-justify-returns-then-s-ne0 t c = record { does = plan-refused c.args.job.now c.args.strict c.args.found.now c.args.globals.now c.args.unions.now c.args.p c.requires.ground c.plan_step-s.ensures c.if-s-ne0.true; high = λ u. absurd (c.if-s-ne0.true u); }
+justify-returns-then-s-ne0 t c = record { does = plan-refused c.args.job.now c.args.strict c.args.found.now c.args.globals.now c.args.unions.now c.args.p c.requires.ground c.plan_step-s.ensures c.if-s-ne0.true; high = λ u. absurd (c.if-s-ne0.true u) }
 
 pub justify-fact_state-state-requires : goal.justify-fact_state-state-requires
-justify-fact_state-state-requires t c = record { ready = c.requires.ground.ready; searched = c.requires.ground.searched; r_bound = (c.plan_step-s.ensures.goes c.if-s-ne0.false).inside c.if-s.true; count_in_bounds = facts-count (planned-by c.args.job.now c.args.p c.plan_step-s.result.r c.plan_step-s.result.first c.plan_step-s.result.second c.plan_step-s.result.count c.if-s.true (c.plan_step-s.ensures.goes c.if-s-ne0.false)) refl; }
+justify-fact_state-state-requires t c = record { ready = c.requires.ground.ready; searched = c.requires.ground.searched; r_bound = (c.plan_step-s.ensures.goes c.if-s-ne0.false).inside c.if-s.true; count_in_bounds = facts-count (planned-by c.args.job.now c.args.p c.plan_step-s.result.r c.plan_step-s.result.first c.plan_step-s.result.second c.plan_step-s.result.count c.if-s.true (c.plan_step-s.ensures.goes c.if-s-ne0.false)) refl }
 
 pub justify-reference-next-requires : goal.justify-reference-next-requires
-justify-reference-next-requires t c = record { ready = c.requires.ground.ready; p_bound = c.requires.p_bound; planned = (c.plan_step-s.ensures.goes c.if-s-ne0.false); i_lt_count = task-turn c.args.job.now c.args.strict c.args.found.now c.args.globals.now c.args.unions.now c.args.p c.plan_step-s.result.rule c.plan_step-s.result.r c.plan_step-s.result.first c.plan_step-s.result.second c.plan_step-s.result.count (c.plan_step-s.ensures.goes c.if-s-ne0.false) c.loop-i.invariant c.if-state-eq1.true; }
+justify-reference-next-requires t c = record { ready = c.requires.ground.ready; p_bound = c.requires.p_bound; planned = (c.plan_step-s.ensures.goes c.if-s-ne0.false); i_lt_count = task-turn c.args.job.now c.args.strict c.args.found.now c.args.globals.now c.args.unions.now c.args.p c.plan_step-s.result.rule c.plan_step-s.result.r c.plan_step-s.result.first c.plan_step-s.result.second c.plan_step-s.result.count (c.plan_step-s.ensures.goes c.if-s-ne0.false) c.loop-i.invariant c.if-state-eq1.true }
 
 pub justify-overflow_add-cells : goal.justify-overflow_add-cells
 justify-overflow_add-cells t c = let k = (task-next c.args.job.now c.args.strict c.args.found.now c.args.globals.now c.args.unions.now c.args.p c.plan_step-s.result.rule c.plan_step-s.result.r c.plan_step-s.result.first c.plan_step-s.result.second c.plan_step-s.result.count (c.plan_step-s.ensures.goes c.if-s-ne0.false) c.loop-i.invariant c.if-state-eq1.true).indexed.stored.formed.few in omega arith
@@ -71,7 +71,7 @@ pub justify-shape_of-scratch-then-w-ne0 : goal.justify-shape_of-scratch-then-w-n
 justify-shape_of-scratch-then-w-ne0 t c = c.walk-w.auto.scratch ∙ c.loop-i.invariant.len_w
 
 pub justify-returns-then-w-ne0 : goal.justify-returns-then-w-ne0
-justify-returns-then-w-ne0 t c = record { does = task-walk-stops c.args.job.now c.args.strict c.args.found.now c.args.globals.now c.args.unions.now c.args.p c.plan_step-s.result.rule c.plan_step-s.result.r c.plan_step-s.result.first c.plan_step-s.result.second c.plan_step-s.result.count (c.plan_step-s.ensures.goes c.if-s-ne0.false) c.loop-i.invariant c.if-state-eq1.true (λ room ps x h. fuel-for c.requires.ground.ready (context_of c.args.globals.now ps) c.args.strict room x c.args.p h) c.reference-next.ensures c.walk-w.ensures.does c.if-w-ne0.true; high = λ u. absurd (c.if-w-ne0.true u); }
+justify-returns-then-w-ne0 t c = record { does = task-walk-stops c.args.job.now c.args.strict c.args.found.now c.args.globals.now c.args.unions.now c.args.p c.plan_step-s.result.rule c.plan_step-s.result.r c.plan_step-s.result.first c.plan_step-s.result.second c.plan_step-s.result.count (c.plan_step-s.ensures.goes c.if-s-ne0.false) c.loop-i.invariant c.if-state-eq1.true (λ room ps x h. fuel-for c.requires.ground.ready (context_of c.args.globals.now ps) c.args.strict room x c.args.p h) c.reference-next.ensures c.walk-w.ensures.does c.if-w-ne0.true; high = λ u. absurd (c.if-w-ne0.true u) }
 
 pub justify-loop-i-smaller-then-s-3 : goal.justify-loop-i-smaller-then-s-3
 justify-loop-i-smaller-then-s-3 t c = let x = c.loop-i-test.true in let s = c.if-state-eq1.true in omega arith
@@ -98,7 +98,7 @@ pub justify-slice_bounds-advance-start : goal.justify-slice_bounds-advance-start
 justify-slice_bounds-advance-start t c = let t = c.loop-i.invariant.low in omega arith
 
 pub justify-advance-c-requires : goal.justify-advance-c-requires
-justify-advance-c-requires t c = let t = c.loop-i.invariant in let f = t.free c.loop-i-test.true in record { ground = task-ground c.args.job.now c.args.strict c.args.found.now c.args.globals.now c.args.unions.now c.args.p c.plan_step-s.result.rule c.plan_step-s.result.r c.plan_step-s.result.first c.plan_step-s.result.second c.plan_step-s.result.count (c.plan_step-s.ensures.goes c.if-s-ne0.false) c.loop-i.invariant c.loop-i-test.true c.if-state-eq1.false; p_bound = c.requires.p_bound; planned = (c.plan_step-s.ensures.goes c.if-s-ne0.false); sane = (λ u. sane-part-by c.args.job.now c.args.p c.args.globals.now c.plan_step-s.result.rule (part-is c.loop-i.bound c.loop-i.at c.loop-i.invariant.full) (t.sane u c.loop-i-test.true)); bound_len_bound = simp (length-take, length-drop) (omega arith); i_le_count = c.loop-i-test.true; count_le_i = λ u. t.ends u c.if-state-eq1.false; }
+justify-advance-c-requires t c = let t = c.loop-i.invariant in let f = t.free c.loop-i-test.true in record { ground = task-ground c.args.job.now c.args.strict c.args.found.now c.args.globals.now c.args.unions.now c.args.p c.plan_step-s.result.rule c.plan_step-s.result.r c.plan_step-s.result.first c.plan_step-s.result.second c.plan_step-s.result.count (c.plan_step-s.ensures.goes c.if-s-ne0.false) c.loop-i.invariant c.loop-i-test.true c.if-state-eq1.false; p_bound = c.requires.p_bound; planned = (c.plan_step-s.ensures.goes c.if-s-ne0.false); sane = (λ u. sane-part-by c.args.job.now c.args.p c.args.globals.now c.plan_step-s.result.rule (part-is c.loop-i.bound c.loop-i.at c.loop-i.invariant.full) (t.sane u c.loop-i-test.true)); bound_len_bound = simp (length-take, length-drop) (omega arith); i_le_count = c.loop-i-test.true; count_le_i = λ u. t.ends u c.if-state-eq1.false }
 
 pub justify-shape_of-skinds-then-c-ne0 : goal.justify-shape_of-skinds-then-c-ne0
 justify-shape_of-skinds-then-c-ne0 t c = c.advance-c.ensures.walks.grown.len_k ∙ c.loop-i.invariant.grown.len_k
@@ -119,19 +119,19 @@ pub justify-shape_of-scratch-then-c-ne0 : goal.justify-shape_of-scratch-then-c-n
 justify-shape_of-scratch-then-c-ne0 t c = c.advance-c.auto.scratch ∙ c.loop-i.invariant.len_w
 
 pub justify-returns-then-c-ne0 : goal.justify-returns-then-c-ne0
-justify-returns-then-c-ne0 t c = record { does = task-refused c.args.job.now c.args.strict c.args.found.now c.args.globals.now c.args.unions.now c.args.p c.plan_step-s.result.rule c.plan_step-s.result.r c.plan_step-s.result.first c.plan_step-s.result.second c.plan_step-s.result.count (c.plan_step-s.ensures.goes c.if-s-ne0.false) c.loop-i.invariant c.loop-i-test.true c.if-state-eq1.false c.advance-c.result (part-is c.loop-i.bound c.loop-i.at c.loop-i.invariant.full) c.advance-c.ensures c.if-c-ne0.true; high = λ u. absurd (c.if-c-ne0.true u); }
+justify-returns-then-c-ne0 t c = record { does = task-refused c.args.job.now c.args.strict c.args.found.now c.args.globals.now c.args.unions.now c.args.p c.plan_step-s.result.rule c.plan_step-s.result.r c.plan_step-s.result.first c.plan_step-s.result.second c.plan_step-s.result.count (c.plan_step-s.ensures.goes c.if-s-ne0.false) c.loop-i.invariant c.loop-i-test.true c.if-state-eq1.false c.advance-c.result (part-is c.loop-i.bound c.loop-i.at c.loop-i.invariant.full) c.advance-c.ensures c.if-c-ne0.true; high = λ u. absurd (c.if-c-ne0.true u) }
 
 pub justify-slice_bounds-push_binding-end : goal.justify-slice_bounds-push_binding-end
 justify-slice_bounds-push_binding-end t c = sym c.loop-i.invariant.full
 
 pub justify-push_binding-at-requires : goal.justify-push_binding-at-requires
-justify-push_binding-at-requires t c = let t = c.loop-i.invariant in let f = t.free c.loop-i-test.true in let l = t.low in let h = t.full in record { le_at = omega arith; at_in_bounds = omega arith; }
+justify-push_binding-at-requires t c = let t = c.loop-i.invariant in let f = t.free c.loop-i-test.true in let l = t.low in let h = t.full in record { le_at = omega arith; at_in_bounds = omega arith }
 
 pub justify-turn_after-i-requires : goal.justify-turn_after-i-requires
-justify-turn_after-i-requires t c = let x = c.loop-i-test.true in let f = (c.plan_step-s.ensures.goes c.if-s-ne0.false).few in record { i_le_count = x; count_bound = f; }
+justify-turn_after-i-requires t c = let x = c.loop-i-test.true in let f = (c.plan_step-s.ensures.goes c.if-s-ne0.false).few in record { i_le_count = x; count_bound = f }
 
 pub justify-fact_state-state-requires-then-s-4 : goal.justify-fact_state-state-requires-then-s-4
-justify-fact_state-state-requires-then-s-4 t c = record { ready = c.requires.ground.ready; searched = c.requires.ground.searched; r_bound = (c.plan_step-s.ensures.goes c.if-s-ne0.false).inside c.if-s-4.true; count_in_bounds = facts-count (planned-by c.args.job.now c.args.p c.plan_step-s.result.r c.plan_step-s.result.first c.plan_step-s.result.second c.plan_step-s.result.count c.if-s-4.true (c.plan_step-s.ensures.goes c.if-s-ne0.false)) refl; }
+justify-fact_state-state-requires-then-s-4 t c = record { ready = c.requires.ground.ready; searched = c.requires.ground.searched; r_bound = (c.plan_step-s.ensures.goes c.if-s-ne0.false).inside c.if-s-4.true; count_in_bounds = facts-count (planned-by c.args.job.now c.args.p c.plan_step-s.result.r c.plan_step-s.result.first c.plan_step-s.result.second c.plan_step-s.result.count c.if-s-4.true (c.plan_step-s.ensures.goes c.if-s-ne0.false)) refl }
 
 pub justify-loop-i-smaller-then-s-4 : goal.justify-loop-i-smaller-then-s-4
 justify-loop-i-smaller-then-s-4 t c = let x = c.loop-i-test.true in let f = c.loop-i.invariant.few in let s = c.fact_state-state-then-s-4.ensures.few in let m = c.turn_after-i.ensures.least in omega arith
@@ -173,7 +173,7 @@ pub justify-shape_of-scratch : goal.justify-shape_of-scratch
 justify-shape_of-scratch t c = c.loop-i.invariant.len_w
 
 pub justify-returns : goal.justify-returns
-justify-returns t c = record { does = passed-as c.pass.ensures (c.loop-i.invariant.ended (let u = c.loop-i.invariant.upto in let x = c.loop-i-test.false in omega arith)); high = λ _. ap (λ (x : Checked). x.value) c.pass.ensures ∙ task-height c.args.job.now c.args.strict c.args.found.now c.args.globals.now c.args.unions.now c.args.p c.plan_step-s.result.rule c.plan_step-s.result.r c.plan_step-s.result.first c.plan_step-s.result.second c.plan_step-s.result.count (c.plan_step-s.ensures.goes c.if-s-ne0.false) c.requires.ground.ready c.requires.p_bound c.loop-i.invariant (let u = c.loop-i.invariant.upto in let x = c.loop-i-test.false in omega arith); }
+justify-returns t c = record { does = passed-as c.pass.ensures (c.loop-i.invariant.ended (let u = c.loop-i.invariant.upto in let x = c.loop-i-test.false in omega arith)); high = λ _. ap (λ (x : Checked). x.value) c.pass.ensures ∙ task-height c.args.job.now c.args.strict c.args.found.now c.args.globals.now c.args.unions.now c.args.p c.plan_step-s.result.rule c.plan_step-s.result.r c.plan_step-s.result.first c.plan_step-s.result.second c.plan_step-s.result.count (c.plan_step-s.ensures.goes c.if-s-ne0.false) c.requires.ground.ready c.requires.p_bound c.loop-i.invariant (let u = c.loop-i.invariant.upto in let x = c.loop-i-test.false in omega arith) }
 
 pub walk-overflow_add-at : goal.walk-overflow_add-at
 walk-overflow_add-at t c = let k = c.requires.ground.indexed.stored.formed.few in omega arith
@@ -200,7 +200,7 @@ pub walk-shape_of-scratch-then-r-ne0 : goal.walk-shape_of-scratch-then-r-ne0
 walk-shape_of-scratch-then-r-ne0 t c = c.justify-r.auto.scratch
 
 pub walk-returns-then-r-ne0 : goal.walk-returns-then-r-ne0
-walk-returns-then-r-ne0 t c = let a = c.args in let pre = c.requires in record { does = walk-stops a.job.now a.strict a.found.now a.globals.now a.unions.now a.p pre.ground pre.p_bound pre.p_value c.justify-r.ensures.does c.if-r-ne0.true; high = λ u. absurd (c.if-r-ne0.true u); }
+walk-returns-then-r-ne0 t c = let a = c.args in let pre = c.requires in record { does = walk-stops a.job.now a.strict a.found.now a.globals.now a.unions.now a.p pre.ground pre.p_bound pre.p_value c.justify-r.ensures.does c.if-r-ne0.true; high = λ u. absurd (c.if-r-ne0.true u) }
 
 pub walk-note_height-requires : goal.walk-note_height-requires
 walk-note_height-requires t c = let g = c.requires.ground.long in let h = c.requires.p_bound in let k = c.justify-r.auto.scratch in omega arith
@@ -224,4 +224,4 @@ pub walk-shape_of-scratch : goal.walk-shape_of-scratch
 walk-shape_of-scratch t c = c.note_height.auto.scratch ∙ c.justify-r.auto.scratch
 
 pub walk-returns : goal.walk-returns
-walk-returns t c = let a = c.args in let pre = c.requires in record { does = walk_ends a.job.now a.strict a.found.now a.globals.now a.unions.now a.p pre.ground pre.p_bound pre.p_value c.justify-r.ensures.does c.if-r-ne0.false (set_at c.justify-r.new.scratch (length a.skinds.now) c.justify-r.result.value c.note_height.ensures c.wide.ensures) (c.justify-r.ensures.high c.if-r-ne0.false); high = c.justify-r.ensures.high; }
+walk-returns t c = let a = c.args in let pre = c.requires in record { does = walk_ends a.job.now a.strict a.found.now a.globals.now a.unions.now a.p pre.ground pre.p_bound pre.p_value c.justify-r.ensures.does c.if-r-ne0.false (set_at c.justify-r.new.scratch (length a.skinds.now) c.justify-r.result.value c.note_height.ensures c.wide.ensures) (c.justify-r.ensures.high c.if-r-ne0.false); high = c.justify-r.ensures.high }

@@ -24,7 +24,7 @@ is_ordinary-requires c = let pre = c.requires in
     let h = pre.count_in_bounds in
     let n = ap length c.rule_facts_at-facts.ensures.is in
     let low = c.rule_facts_at-facts.ensures.within c.args.i (omega arith) in
-    record { ready = pre.ready; searched = pre.searched; i_bound = omega arith; }
+    record { ready = pre.ready; searched = pre.searched; i_bound = omega arith }
 
 pub returns-then-is_ordinary : goal.returns-then-is_ordinary
 returns-then-is_ordinary c = let a = c.args in

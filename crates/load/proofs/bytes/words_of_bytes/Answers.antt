@@ -39,4 +39,4 @@ returns c = let a = c.args in
     let v = c.loop-i.invariant in
     let e : c.loop-i.i ≡ length (words_of a.bytes.now) = omega arith in
     let l = words-least a.bytes.now in
-    record { count = v.0; inside = omega (arith, l, v.0, v.3, c.requires); words = v.2 ∙ ap (paste a.words.now 0 (words_of a.bytes.now)) e ∙ put-paste a.words.now 0 (words_of a.bytes.now); }
+    record { count = v.0; inside = omega (arith, l, v.0, v.3, c.requires); words = v.2 ∙ ap (paste a.words.now 0 (words_of a.bytes.now)) e ∙ put-paste a.words.now 0 (words_of a.bytes.now) }

@@ -23,14 +23,13 @@ loop-i-init c = let s = c in
     let t = get_or (table_list (tables_for K E P a.z)) a.table [] in
     let f = get_or (tests_for a.round z (tables_for K E P a.z)) a.table passed in
     let long : length cs ≡ n = cells-length K E P n in
-    let size : length t ≡ get_or (counts_of z) a.table 0 = table-length z cs long a.table s.requires.table_bound in
-    (
+    let size : length t ≡ get_or (counts_of z) a.table 0 = table-length z cs long a.table s.requires.table_bound in (
       omega (arith, c.passed_first-i.ensures.few, s.requires.count_value),
       found-past f t a.first c.passed_first-i.result (omega (arith, c.passed_first-i.ensures.few)) (λ i h. c.passed_first-i.ensures.pass i h ∙ ap (f i) (sym (table-cell z cs long a.table s.requires.table_bound i (omega (arith, c.passed_first-i.ensures.few))))),
     )
 
 pub passes-requires : goal.passes-requires
-passes-requires c = let s = c in record { held = s.requires.held; place = record { table = s.requires.table_bound; first = s.requires.first_value; inside = omega (arith, s.requires.count_value) }; }
+passes-requires c = let s = c in record { held = s.requires.held; place = record { table = s.requires.table_bound; first = s.requires.first_value; inside = omega (arith, s.requires.count_value) } }
 
 pub overflow_add-result : goal.overflow_add-result
 overflow_add-result c = let s = c in omega (arith, place_inside (sizes_in s.args.z) s.args.table c.loop-i.i s.requires.table_bound (omega (arith, s.requires.count_value)), s.requires.first_value)

@@ -27,7 +27,7 @@ first_failing-f-requires c = let s = c in
     let k = l.table in
     let ns : get_or c.counts-ns.result k 0 ≡ get_or (counts_of z) k 0 = ap (λ (xs : List ℕ). get_or xs k 0) c.counts-ns.ensures in
     let ten : length fs ≡ 10 = tests-ten a.round z t in
-    record { held = s.requires.held; table_bound = omega arith; first_value = l.invariant.1; count_value = ns; distinct = s.requires.distinct; sound = s.requires.sound; }
+    record { held = s.requires.held; table_bound = omega arith; first_value = l.invariant.1; count_value = ns; distinct = s.requires.distinct; sound = s.requires.sound }
 
 pub returns-in-At : goal.returns-in-At
 returns-in-At c = let s = c in

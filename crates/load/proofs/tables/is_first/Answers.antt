@@ -18,10 +18,10 @@ pub loop-j-init : goal.loop-j-init
 loop-j-init c = (omega arith, refl)
 
 pub words-requires : goal.words-requires
-words-requires c = record { formed = rw c.fill-f.ensures c.requires.held.formed; i_lt_cells = omega (arith, ap (λ (x : Fill). x.cells) c.fill-f.ensures); }
+words-requires c = record { formed = rw c.fill-f.ensures c.requires.held.formed; i_lt_cells = omega (arith, ap (λ (x : Fill). x.cells) c.fill-f.ensures) }
 
 pub words-requires-in-loop-j : goal.words-requires-in-loop-j
-words-requires-in-loop-j c = record { formed = rw c.fill-f.ensures c.requires.held.formed; i_lt_cells = omega (arith, ap (λ (x : Fill). x.cells) c.fill-f.ensures); }
+words-requires-in-loop-j c = record { formed = rw c.fill-f.ensures c.requires.held.formed; i_lt_cells = omega (arith, ap (λ (x : Fill). x.cells) c.fill-f.ensures) }
 
 pub returns-then-alike : goal.returns-then-alike
 returns-then-alike c = let s = c in

@@ -13,13 +13,13 @@ chain-requires c = let s = c in
     let a = s.args in
     let e = s.requires.table_value in
     let n = number-count (sizes_in a.z) a.table (keyed-table a.table e) in
-    record { formed = rw c.fill-f.ensures s.requires.held.formed; n_bound = omega (arith, n, ap (λ (x : Fill). x.cells) c.fill-f.ensures, s.requires.first_value, s.requires.count_value); n_in_bounds = omega (arith, keyed-few (sizes_in a.z) a.table s.requires.held.limits e, s.requires.count_value); }
+    record { formed = rw c.fill-f.ensures s.requires.held.formed; n_bound = omega (arith, n, ap (λ (x : Fill). x.cells) c.fill-f.ensures, s.requires.first_value, s.requires.count_value); n_in_bounds = omega (arith, keyed-few (sizes_in a.z) a.table s.requires.held.limits e, s.requires.count_value) }
 
 pub differing-requires : goal.differing-requires
 differing-requires c = let s = c in
     let a = s.args in
     let n = number-count (sizes_in a.z) a.table (keyed-table a.table s.requires.table_value) in
-    record { formed = rw c.fill-f.ensures s.requires.held.formed; n_bound = omega (arith, n, ap (λ (x : Fill). x.cells) c.fill-f.ensures, s.requires.first_value, s.requires.count_value); chained = c.chain.ensures.chained; }
+    record { formed = rw c.fill-f.ensures s.requires.held.formed; n_bound = omega (arith, n, ap (λ (x : Fill). x.cells) c.fill-f.ensures, s.requires.first_value, s.requires.count_value); chained = c.chain.ensures.chained }
 
 pub returns : goal.returns
 returns c = let s = c in

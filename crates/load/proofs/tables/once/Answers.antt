@@ -13,7 +13,7 @@ pub returns-then-table-eq9 : goal.returns-then-table-eq9
 returns-then-table-eq9 c = rw c.if-table-eq9.true (c.proof_once.ensures ∙ ap (λ (x : Cell). binds_once (substitution (read_proof x).justification)) c.requires.ws_value)
 
 pub is_first-requires : goal.is_first-requires
-is_first-requires c = let s = c in record { held = s.requires.held; i_bound = omega (arith, place_inside (sizes_in s.args.z) s.args.table s.args.i s.requires.place.table s.requires.place.inside, s.requires.place.first); }
+is_first-requires c = let s = c in record { held = s.requires.held; i_bound = omega (arith, place_inside (sizes_in s.args.z) s.args.table s.args.i s.requires.place.table s.requires.place.inside, s.requires.place.first) }
 
 pub returns-then-table-eq0 : goal.returns-then-table-eq0
 returns-then-table-eq0 c = let s = c in
@@ -23,7 +23,7 @@ returns-then-table-eq0 c = let s = c in
     rw e (rw e at g)
 
 pub is_first-requires-then-table-eq6 : goal.is_first-requires-then-table-eq6
-is_first-requires-then-table-eq6 c = let s = c in record { held = s.requires.held; i_bound = omega (arith, place_inside (sizes_in s.args.z) s.args.table s.args.i s.requires.place.table s.requires.place.inside, s.requires.place.first); }
+is_first-requires-then-table-eq6 c = let s = c in record { held = s.requires.held; i_bound = omega (arith, place_inside (sizes_in s.args.z) s.args.table s.args.i s.requires.place.table s.requires.place.inside, s.requires.place.first) }
 
 pub returns-then-table-eq6 : goal.returns-then-table-eq6
 returns-then-table-eq6 c = let s = c in
@@ -33,7 +33,7 @@ returns-then-table-eq6 c = let s = c in
     rw e (rw e at g)
 
 pub is_first-requires-then-table-eq7 : goal.is_first-requires-then-table-eq7
-is_first-requires-then-table-eq7 c = let s = c in record { held = s.requires.held; i_bound = omega (arith, place_inside (sizes_in s.args.z) s.args.table s.args.i s.requires.place.table s.requires.place.inside, s.requires.place.first); }
+is_first-requires-then-table-eq7 c = let s = c in record { held = s.requires.held; i_bound = omega (arith, place_inside (sizes_in s.args.z) s.args.table s.args.i s.requires.place.table s.requires.place.inside, s.requires.place.first) }
 
 pub returns-then-table-eq7 : goal.returns-then-table-eq7
 returns-then-table-eq7 c = let s = c in

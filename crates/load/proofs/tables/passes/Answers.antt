@@ -22,7 +22,7 @@ pub bounds-kinds-at : goal.bounds-kinds-at
 bounds-kinds-at c = omega (arith, place_inside (sizes_in c.args.z) c.args.table c.args.i c.requires.place.table c.requires.place.inside, c.requires.place.first)
 
 pub words-ws-requires : goal.words-ws-requires
-words-ws-requires c = record { formed = rw c.fill-f.ensures c.requires.held.formed; i_lt_cells = omega (arith, ap (λ (x : Fill). x.cells) c.fill-f.ensures, place_inside (sizes_in c.args.z) c.args.table c.args.i c.requires.place.table c.requires.place.inside, c.requires.place.first); }
+words-ws-requires c = record { formed = rw c.fill-f.ensures c.requires.held.formed; i_lt_cells = omega (arith, ap (λ (x : Fill). x.cells) c.fill-f.ensures, place_inside (sizes_in c.args.z) c.args.table c.args.i c.requires.place.table c.requires.place.inside, c.requires.place.first) }
 
 pub returns-then-round-eq0 : goal.returns-then-round-eq0
 returns-then-round-eq0 c = let s = c in
@@ -74,7 +74,7 @@ once-requires c = let s = c in
     let h : at < n = omega (arith, place_inside (sizes_in a.z) a.table a.i s.requires.place.table s.requires.place.inside, s.requires.place.first) in
     let this = held-cell K E P n at c.words-ws.result.now h (c.words-ws.ensures ∙ ap (λ (x : Fill). (get_or (cells_of K E P x.cells) at no_cell).words) c.fill-f.ensures) in
     let t = tables_for K E P a.z in
-    record { held = s.requires.held; place = s.requires.place; ws_value = this; }
+    record { held = s.requires.held; place = s.requires.place; ws_value = this }
 
 pub returns : goal.returns
 returns c = let a = c.args in

@@ -16,7 +16,7 @@ loop-i-init c = record { fit = none_pass; refer = none_pass }
 
 pub words-ws-requires : goal.words-ws-requires
 words-ws-requires c = let s = c in
-    record { formed = rw c.fill-f.ensures s.requires.formed; i_lt_cells = omega (arith, ap (λ (x : Fill). x.cells) c.fill-f.ensures, number-count (sizes_in s.args.z) 0 (omega arith)); }
+    record { formed = rw c.fill-f.ensures s.requires.formed; i_lt_cells = omega (arith, ap (λ (x : Fill). x.cells) c.fill-f.ensures, number-count (sizes_in s.args.z) 0 (omega arith)) }
 
 pub bounds-kinds-i : goal.bounds-kinds-i
 bounds-kinds-i c = let s = c in omega (arith, s.requires.formed.kinds, number-count (sizes_in s.args.z) 0 (omega arith))

@@ -23,7 +23,7 @@ returns-then-z-e c = let s = c in
 
 pub words-requires : goal.words-requires
 words-requires c = let s = c in
-    record { formed = rw c.fill.ensures s.requires.formed; i_lt_cells = omega (arith, ap (λ (x : Fill). x.cells) c.fill.ensures); }
+    record { formed = rw c.fill.ensures s.requires.formed; i_lt_cells = omega (arith, ap (λ (x : Fill). x.cells) c.fill.ensures) }
 
 pub returns : goal.returns
 returns c = let s = c in
