@@ -3,7 +3,7 @@
 
 ghost use Rattle.std.specs.Prelude.{◌≡◌, [], ◌≤◌, length, get_or};
 ghost use Rattle.model.specs.Answer.{entry, refusal_words};
-ghost use Rattle.model.specs.Answer.{check as Answer·check};
+ghost use Rattle.model.specs.Answer as Answer;
 ghost use Rattle.model.specs.Host.{words_of, own_arrays, own_slots, own_scratch, host_entry, host_entry_mode};
 
 use answer::write_refusal;
@@ -28,7 +28,7 @@ fn refuse_bytes(answer: &mut [u32]) -> u32
 // Checks a job's words with the host's own store, index and scratch. The index's multiplier comes from the answer's first word as it was lent.
 fn check_words(words: &[u32], asked: u32, mode: u32, answer: &mut [u32]) -> u32
     requires { length answer.old ≡ 8 }
-    ensures is { answer.new ≡ (Answer·check words.now asked mode own_arrays own_slots own_scratch).answer }
+    ensures is { answer.new ≡ (Answer.check words.now asked mode own_arrays own_slots own_scratch).answer }
     ensures number { result ≡ get_or answer.new 0 0 }
 {
     let mut kinds = [0u32; 4096];
@@ -54,7 +54,7 @@ fn check_words(words: &[u32], asked: u32, mode: u32, answer: &mut [u32]) -> u32
 fn check_whole(job: &[u8], asked: u32, mode: u32, answer: &mut [u32]) -> u32
     requires job_len_bound { length job.now ≤ 65536 }
     requires answer_len { length answer.old ≡ 8 }
-    ensures is { answer.new ≡ (Answer·check (words_of job.now) asked mode own_arrays own_slots own_scratch).answer }
+    ensures is { answer.new ≡ (Answer.check (words_of job.now) asked mode own_arrays own_slots own_scratch).answer }
     ensures number { result ≡ get_or answer.new 0 0 }
 {
     let mut words = [0u32; 16384];
