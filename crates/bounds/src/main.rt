@@ -6,6 +6,7 @@ ghost use Rattle.std.specs.Prelude.{◌≡◌, ◌+◌, ◌*◌, ◌≤◌, ◌<
 
 use cells::{copy, wide};
 use load::{Loaded, load};
+use std::io;
 
 // The most cells and words that a job can have: 53,248 and 131,072, behind twelve sizes.
 fn job_words() -> [u32; 240000]
@@ -15,25 +16,12 @@ fn job_words() -> [u32; 240000]
 }
 
 // Writes a text, a number and the answer of loading, to the end of a line.
-fn report(name: &[u8], n: u64, r: Loaded) {
-    io::write_all(1, name);
-    io::print_decimal(1, n);
+fn report(rt: &impl Print, name: &str, n: u64, r: Loaded) -> io::Result<()> {
+    print!(rt; "{name}{n}: ")?;
     match r {
-        Loaded::Admitted => {
-            io::write_all(1, b": admitted\n");
-        }
-        Loaded::Host(number) => {
-            io::write_all(1, b": ");
-            io::print_decimal(1, number as u64);
-            io::write_all(1, b"\n");
-        }
-        Loaded::Writer(number, cell) => {
-            io::write_all(1, b": ");
-            io::print_decimal(1, number as u64);
-            io::write_all(1, b" at cell ");
-            io::print_decimal(1, cell as u64);
-            io::write_all(1, b"\n");
-        }
+        Loaded::Admitted => println!(rt; "admitted"),
+        Loaded::Host(number) => println!(rt; "{number}"),
+        Loaded::Writer(number, cell) => println!(rt; "{number} at cell {cell}"),
     }
 }
 
@@ -95,26 +83,23 @@ fn words_asked(job: &[u32]) -> usize {
 }
 
 // A size at a place.
-fn load_sized(job: &mut [u32], place: usize, size: u32) {
+fn load_sized(rt: &impl Print, job: &mut [u32], place: usize, size: u32) -> io::Result<()> {
     set_sizes(job, place, size);
     let count = words_asked(job);
-    io::write_all(1, b"size ");
-    io::print_decimal(1, place as u64);
-    report(b" = ", size as u64, answer(job, count));
+    print!(rt; "size {place}")?;
+    report(rt, " = ", size as u64, answer(job, count))
 }
 
 // Each size at its limit and one past it.
-fn load_limits(job: &mut [u32]) {
+fn load_limits(rt: &impl Print, job: &mut [u32]) -> io::Result<()> {
     let limits: [u32; 12] = [
         16384, 4096, 4096, 4096, 256, 4096, 4096, 4096, 4096, 4096, 4096, 131072,
     ];
-    let mut place = 0;
-    while place < 12 {
-        let limit = limits[place];
-        load_sized(job, place, limit);
-        load_sized(job, place, more(limit));
-        place += 1;
+    for (place, limit) in limits.iter().enumerate() {
+        load_sized(rt, job, place, *limit)?;
+        load_sized(rt, job, place, more(*limit))?;
     }
+    Ok(())
 }
 
 // The words of a term of the largest job: the first has its name alone, the second thirteen words, any other eight.
@@ -160,23 +145,24 @@ fn set_largest(job: &mut [u32]) {
     }
 }
 
-fn run(job: &mut [u32]) {
-    report(b"words ", 0, answer(job, 0));
-    report(b"words ", 11, answer(job, 11));
-    report(b"words, all zero, ", 12, answer(job, 12));
-    load_limits(job);
+fn run(rt: &impl Print, job: &mut [u32]) -> io::Result<()> {
+    report(rt, "words ", 0, answer(job, 0))?;
+    report(rt, "words ", 11, answer(job, 11))?;
+    report(rt, "words, all zero, ", 12, answer(job, 12))?;
+    load_limits(rt, job)?;
     set_sizes(job, 0, 2147483648);
     set(job, 1, 2147483648);
     report(
-        b"sizes whose sum is past 32 bits, words ",
+        rt,
+        "sizes whose sum is past 32 bits, words ",
         14,
         answer(job, 14),
-    );
+    )?;
     set_largest(job);
-    report(b"largest, words ", 163854, answer(job, 163854));
+    report(rt, "largest, words ", 163854, answer(job, 163854))
 }
 
-fn main() {
+fn main(rt: HostRuntime) -> io::Result<()> {
     let mut words = job_words();
-    run(&mut words);
+    run(&rt, &mut words)
 }

@@ -5,9 +5,12 @@ ghost use Rattle.std.specs.Prelude.{◌≡◌, ◌≤◌, ◌-◌, length};
 ghost use Rattle.model.specs.Layout.{sizes_of};
 ghost use Rattle.model.specs.Host.{words_of, program_answer};
 
-use console::write_words;
+use console::{read_full, write_words};
 use host::sizercobalt_check_bytes;
 use load::bytes::words_of_bytes;
+use std::io;
+use std::io::Write;
+use std::random::RandomSource;
 
 // The number of a job's last proof, and 0 where there is none.
 fn last_proof(job: &[u8]) -> u32
@@ -37,25 +40,25 @@ fn check_last(job: &[u8], answer: &mut [u32])
 }
 
 // A random word, by which the host entry's index mixes; 0 where the system has none.
-fn random_word() -> u32 {
+fn random_word(rt: &impl RandomSource) -> u32 {
     let mut bytes = [0u8; 4];
-    libc::getentropy(&mut bytes);
+    let _ = rt.fill_bytes(&mut bytes);
     let mut words = [0u32; 1];
     words_of_bytes(&bytes, &mut words);
     words[0]
 }
 
 // Checks a job's bytes and writes the answer.
-fn print_answer(job: &[u8]) {
+fn print_answer(rt: &impl RandomSource, output: &mut impl Write, job: &[u8]) -> io::Result<()> {
     let mut answer = [0u32; 8];
-    answer[0] = random_word();
+    answer[0] = random_word(rt);
     check_last(job, &mut answer);
-    write_words(&answer);
+    write_words(output, &answer)
 }
 
 // One byte more than a job may have tells that there are too many.
-fn main() {
+fn main(rt: HostRuntime) -> io::Result<()> {
     let mut bytes = [0u8; 65537];
-    let count = io::read_full(0, &mut bytes);
-    print_answer(&bytes[..count]);
+    let count = read_full(&mut rt.stdin(), &mut bytes)?;
+    print_answer(&rt, &mut rt.stdout(), &bytes[..count])
 }

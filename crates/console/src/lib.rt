@@ -1,49 +1,85 @@
-// Words from standard input and to standard output, for the programs.
+// Words from a reader and to a writer, for the programs: standard input and standard output.
 #![tactic(auto)]
 
-ghost use Rattle.std.specs.Prelude.{◌≤◌, length};
+ghost use Rattle.std.specs.Prelude.{◌≡◌, ◌∷◌, ◌+◌, ◌≤◌, ◌<◌, length, take, drop, IfOk, OnOk, OnErr};
+ghost use Rattle.std.specs.Fmt.{decimal};
+ghost use Rattle.std.specs.Io.KnownBytes.{Consumes, IsAtEnd, Appends};
+ghost use Rattle.console.specs.Words.{LosesFront, GivesWords, HoldsSome, line_of};
 
 use load::bytes::words_of_bytes;
+use std::io;
+use std::io::{Read, Write};
 
-// Reads the next words, over the front of those lent; how many they are.
-fn read_some(words: &mut [u32]) -> usize
-    requires { 16384 ≤ length words.old }
-    ensures { result ≤ length words.new }
+// Reads until the bytes lent are full or the input ends; how many they are. Only a read that fails is an error, and leaves what was
+// read before at the front.
+pub fn read_full<R: Read>(input: &mut R, bytes: &mut [u8]) -> io::Result<usize>
+    ensures count { IfOk result (λ n. n ≤ length bytes.new) }
+    ensures bytes { IfOk result (λ n. Consumes (R.remaining input.old) (R.remaining input.new) (take n bytes.new)) }
+    ensures end { IfOk result (λ n. n < length bytes.new → IsAtEnd (R.remaining input.new)) }
+    ensures err { OnErr result (LosesFront (R.remaining input.old) (R.remaining input.new) bytes.new) }
 {
-    let mut bytes = io::large_buffer();
-    let n = io::read_full(0, &mut bytes);
-    words_of_bytes(&bytes[..n], words)
+    let mut done = 0;
+    while done < bytes.len() {
+        let n = input.read(&mut bytes[done..])?;
+        if n == 0 {
+            return Ok(done);
+        }
+        done += n;
+    }
+    Ok(done)
 }
 
-// Reads the words of standard input, as far as there is room for them; how many they are.
-pub fn read_words(words: &mut [u32]) -> usize
-    ensures { result ≤ length words.new }
+// Reads the next words, over the front of those lent; how many they are.
+fn read_some<R: Read>(input: &mut R, words: &mut [u32]) -> io::Result<usize>
+    requires { 16384 ≤ length words.old }
+    ensures count { IfOk result (λ n. n ≤ length words.new) }
+    ensures words { IfOk result (λ n. GivesWords (R.remaining input.old) (R.remaining input.new) (take n words.new)) }
+    ensures end { IfOk result (λ n. n ≡ 0 → IsAtEnd (R.remaining input.new)) }
+    ensures rest { IfOk result (λ n. drop n words.new ≡ drop n words.old) }
+    ensures err { OnErr result (words.new ≡ words.old) }
+{
+    let mut bytes = [0u8; 65536];
+    let n = read_full(input, &mut bytes)?;
+    Ok(words_of_bytes(&bytes[..n], words))
+}
+
+// Reads the words of the input, as far as there is room for them; how many they are. Only a read that fails is an error, and leaves
+// the words that were read before at the front.
+pub fn read_words<R: Read>(input: &mut R, words: &mut [u32]) -> io::Result<usize>
+    ensures count { IfOk result (λ n. n ≤ length words.new) }
+    ensures words { IfOk result (λ n. GivesWords (R.remaining input.old) (R.remaining input.new) (take n words.new)) }
+    ensures end { IfOk result (λ n. n + 16384 ≤ length words.new → IsAtEnd (R.remaining input.new)) }
+    ensures rest { IfOk result (λ n. drop n words.new ≡ drop n words.old) }
+    ensures err { OnErr result (HoldsSome (R.remaining input.old) words.old words.new) }
 {
     let mut at = 0;
     while 16384 <= words.len() - at {
-        let got = read_some(&mut words[at..]);
+        let got = read_some(input, &mut words[at..])?;
         if got == 0 {
-            return at;
+            return Ok(at);
         }
         at += got;
     }
-    at
+    Ok(at)
 }
 
-// Writes a word, in decimal.
-fn write_word(x: u32) {
-    io::print_decimal(1, x as u64);
-}
-
-// Writes the words on a line, in decimal, a space between two.
-pub fn write_words(words: &[u32]) {
-    let mut i = 0;
-    while i < words.len() {
-        if 0 < i {
-            io::write_all(1, b" ");
-        }
-        write_word(words[i]);
-        i += 1;
+// Writes a word, in decimal, behind a space where it is not the first.
+fn write_word<W: Write>(output: &mut W, i: usize, x: u32) -> io::Result<()>
+    ensures first { i ≡ 0 → OnOk result (Appends (W.contents output.old) (W.contents output.new) (decimal x)) }
+    ensures later { 0 < i → OnOk result (Appends (W.contents output.old) (W.contents output.new) (32 ∷ decimal x)) }
+{
+    if 0 < i {
+        return write!(output, " {x}");
     }
-    io::write_all(1, b"\n");
+    write!(output, "{x}")
+}
+
+// Writes the words on a line, in decimal, a space between two. Only a write that fails is an error.
+pub fn write_words<W: Write>(output: &mut W, words: &[u32]) -> io::Result<()>
+    ensures { OnOk result (Appends (W.contents output.old) (W.contents output.new) (line_of words.now)) }
+{
+    for (i, word) in words.iter().enumerate() {
+        write_word(output, i, *word)?;
+    }
+    output.write_all(b"\n")
 }

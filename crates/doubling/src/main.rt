@@ -7,9 +7,11 @@ ghost use Rattle.std.specs.Prelude.{◌≤◌, ◌<◌, length};
 use cells::wide;
 use console::{read_words, write_words};
 use entry::check;
+use std::io;
+use std::io::{Read, Write};
 
 // Checks a job with a store, index and scratch of its own, and writes the answer.
-fn check_job(words: &[u32], asked: u32) {
+fn check_job(output: &mut impl Write, words: &[u32], asked: u32) -> io::Result<()> {
     let mut kinds = [0u32; 256];
     let mut ends = [0u32; 256];
     let mut pool = [0u32; 2048];
@@ -27,7 +29,7 @@ fn check_job(words: &[u32], asked: u32) {
         &mut scratch,
         &mut answer,
     );
-    write_words(&answer);
+    write_words(output, &answer)
 }
 
 // Where the job at a place ends: past the place, and not past the list, even where the list is cut short.
@@ -48,30 +50,35 @@ fn job_end(list: &[u32], at: usize) -> usize
 }
 
 // Checks the job of one entry: its length, its asked proof, its words.
-fn check_entry(entry: &[u32]) {
+fn check_entry(output: &mut impl Write, entry: &[u32]) -> io::Result<()> {
     if entry.len() < 2 {
-        return;
+        return Ok(());
     }
-    check_job(&entry[2..], entry[1]);
+    check_job(output, &entry[2..], entry[1])
 }
 
 // Checks the list's jobs in turn.
-fn check_list(list: &[u32]) {
+fn check_list(output: &mut impl Write, list: &[u32]) -> io::Result<()> {
     let mut at = 0;
     while at < list.len() {
         let end = job_end(list, at);
-        check_entry(&list[at..end]);
+        check_entry(output, &list[at..end])?;
         at = end;
     }
+    Ok(())
 }
 
 // Reads the list and checks its jobs.
-fn check_input(words: &mut [u32]) {
-    let count = read_words(words);
-    check_list(&words[..count]);
+fn check_input(
+    input: &mut impl Read,
+    output: &mut impl Write,
+    words: &mut [u32],
+) -> io::Result<()> {
+    let count = read_words(input, words)?;
+    check_list(output, &words[..count])
 }
 
-fn main() {
+fn main(rt: HostRuntime) -> io::Result<()> {
     let mut words = [0u32; 32768];
-    check_input(&mut words);
+    check_input(&mut rt.stdin(), &mut rt.stdout(), &mut words)
 }

@@ -7,6 +7,7 @@ ghost use Rattle.cells.specs.Table.{Formed};
 
 use cells::{Fill, append};
 use index::{Tally, fill_once, multiplier};
+use std::io;
 
 fn kinds_and_ends() -> [u32; 10000]
     ensures { 10000 ≡ length result }
@@ -58,14 +59,13 @@ fn put_applications(kinds: &mut [u32], ends: &mut [u32], pool: &mut [u32], fill:
     f
 }
 
-fn report(t: Tally) {
-    io::print_decimal(1, t.listed as u64);
-    io::write_all(1, b" cells listed, ");
-    io::print_decimal(1, t.compared as u64);
-    io::write_all(1, b" comparisons\n");
+fn report(rt: &impl Print, t: Tally) -> io::Result<()> {
+    let listed = t.listed;
+    let compared = t.compared;
+    println!(rt; "{listed} cells listed, {compared} comparisons")
 }
 
-fn main() {
+fn main(rt: HostRuntime) -> io::Result<()> {
     let mut kinds = kinds_and_ends();
     let mut ends = kinds_and_ends();
     let mut pool = pool_words();
@@ -79,5 +79,5 @@ fn main() {
     let g = put_applications(&mut kinds, &mut ends, &mut pool, f);
     let x = multiplier(&index);
     let t = fill_once(&mut index, x, &kinds, &ends, &pool, g, g.cells);
-    report(t);
+    report(&rt, t)
 }

@@ -6,6 +6,8 @@ ghost use Rattle.std.specs.Prelude.{◌≡◌, ◌+◌, ◌≤◌, ◌<◌, leng
 use cells::wide;
 use console::read_words;
 use entry::check;
+use std::io;
+use std::io::{Read, Write};
 
 // How a job of the list went.
 #[derive(Clone, Copy)]
@@ -224,13 +226,12 @@ fn replay_entry(entry: &[u32]) -> Replayed {
 }
 
 // Writes how many jobs went one way.
-fn report(text: &[u8], n: u64) {
-    io::print_decimal(1, n);
-    io::write_all(1, text);
+fn report(output: &mut impl Write, way: &str, n: u64) -> io::Result<()> {
+    writeln!(output, "{n} {way}")
 }
 
 // Replays the list's jobs, behind its seven words of head, and writes how they went.
-fn replay(list: &[u32]) {
+fn replay(output: &mut impl Write, list: &[u32]) -> io::Result<()> {
     let mut accepted = 0;
     let mut refused = 0;
     let mut different = 0;
@@ -245,9 +246,9 @@ fn replay(list: &[u32]) {
             Replayed::Different => different += 1,
         }
     }
-    report(b" accepted\n", accepted);
-    report(b" refused\n", refused);
-    report(b" different\n", different);
+    report(output, "accepted", accepted)?;
+    report(output, "refused", refused)?;
+    report(output, "different", different)
 }
 
 // Room for the list's words.
@@ -258,12 +259,16 @@ fn list_words() -> [u32; 250000]
 }
 
 // Reads the list and replays it.
-fn replay_list(words: &mut [u32]) {
-    let count = read_words(words);
-    replay(&words[..count]);
+fn replay_list(
+    input: &mut impl Read,
+    output: &mut impl Write,
+    words: &mut [u32],
+) -> io::Result<()> {
+    let count = read_words(input, words)?;
+    replay(output, &words[..count])
 }
 
-fn main() {
+fn main(rt: HostRuntime) -> io::Result<()> {
     let mut words = list_words();
-    replay_list(&mut words);
+    replay_list(&mut rt.stdin(), &mut rt.stdout(), &mut words)
 }
