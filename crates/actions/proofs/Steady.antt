@@ -9,7 +9,7 @@ use lib.Dec.{eqb}
 use borrow.Author.Tests.{eqb-true}
 use Rattle.model.specs.Term.{Term}
 use Rattle.model.specs.Program.{Head, literal, variable, constructor, custom, primitive, Expr, node, Exprs, nil, cons, Binding, Program}
-use Rattle.model.specs.Check.{Outcome, ok, refused, and_then, ◌>>=◌, pure, or_refuse, Room}
+use Rattle.model.specs.Check.{Outcome, ok, and_then, ◌>>=◌, pure, or_refuse, Room}
 use Rattle.model.specs.Evaluate.{lookup}
 use Rattle.model.proofs.Post.{Post, post-ok, post-map, post-bind, post-result}
 use Rattle.index.specs.declared.Fill.{Fill}

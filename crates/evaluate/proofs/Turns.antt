@@ -5,18 +5,18 @@ use mathlib.Core.Bool.{Bool, true, false, true≢false}
 use mathlib.Core.List.Memᴰ
 use mathlib.Core.List.{List, [], ◌∷◌, Memᴰ}
 use mathlib.Core.Option.{some}
-use Prim.Native.Nat.{ℕ, zero, suc, ◌+◌, ◌-◌, ◌<◌, ◌≤◌}
+use Prim.Native.Nat.{ℕ, zero, suc, ◌+◌, ◌<◌, ◌≤◌}
 use native.Mathlib.Nat.{not-suc-le-zero, le_of_suc-le-suc}
 use native.Mathlib.Omega.{arith}
 use lib.Dec.{eqb}
 use borrow.Author.Tests.{eqb-true, eqb-false}
-use lib.ListN.{length, get_or, set, take, drop, replicate, length-set}
+use lib.ListN.{length, get_or, set, take, replicate, length-set}
 use Rattle.model.specs.Cell.{no_cell}
 use Rattle.model.specs.Layout.{sizes_of}
 use Rattle.model.specs.Term.{Term, Extends}
 use Rattle.model.specs.Program.{Head, variable, Expr, node, Binding, Program}
 use Rattle.model.specs.Decode.{read_head, read_arguments, arguments_by}
-use Rattle.model.specs.Check.{Outcome, ok, refused, Check, and_then, Room}
+use Rattle.model.specs.Check.{Outcome, ok, Check, and_then, Room}
 use Rattle.model.proofs.Post.{post-result}
 use Rattle.model.proofs.Store.{extends-same}
 use Rattle.index.specs.declared.Fill.{Fill}
@@ -37,7 +37,7 @@ use Rattle.program.specs.Read.{expr_for, arguments_for, head_for}
 use Rattle.evaluate.specs.Value.{eval_for, value_for, head_term, eval_term, eval_terms, Reaches, here, down}
 use Rattle.evaluate.specs.Evaluation.{Finds, Memo, Knows, noted, bound, unknown, Noted, Evaluates, EvaluatesMore, EvaluatesRoot}
 use Rattle.evaluate.proofs.HeadValues.{given-some, head-does, variable-does}
-use Rattle.evaluate.proofs.Collecting.{each, each-is, rest, Run, run-start, run-stop, run-turn, run-done}
+use Rattle.evaluate.proofs.Collecting.{each, each-is, rest, Run, run-start, run-turn, run-done}
 use Rattle.evaluate.proofs.Settling.{value-term, same-value, head-settled, term-settled, term-again}
 
 -- members by place

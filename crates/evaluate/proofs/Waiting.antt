@@ -3,13 +3,12 @@ use mathlib.Core.Path.{◌≡◌, refl, sym, ap, subst, subst⁻¹, ◌∙◌}
 use mathlib.Core.Logic.{◌⊎◌, inl, inr}
 use mathlib.Core.Bool.{Bool, true, false, cond, true≢false}
 use mathlib.Core.List.{List, [], ◌∷◌, ◌++◌, Memᴰ}
-use Prim.Native.Nat.{ℕ, zero, suc, ◌+◌, ◌*◌, ◌<◌, ◌≤◌}
+use Prim.Native.Nat.{ℕ, zero, suc, ◌+◌, ◌<◌, ◌≤◌}
 use native.Mathlib.Nat.{not-suc-le-zero, le_of_suc-le-suc}
 use native.Mathlib.Omega.{arith}
 use lib.Dec.{eqb}
 use borrow.Author.Tests.{eqb-true, eqb-false}
-use native.Mathlib.Numerals.{add-one}
-use lib.ListN.{length, get_or, set, take, drop, length-set}
+use lib.ListN.{length, get_or, set, take, length-set}
 use Rattle.model.specs.Term.{Term, Extends}
 use Rattle.model.specs.Program.{Head, variable, Expr, node, Binding, Program}
 use Rattle.model.specs.Decode.{arguments_by}
@@ -25,7 +24,7 @@ use Rattle.outcome.specs.declared.Checked.{Checked}
 use Rattle.outcome.proofs.Laws.{ok_of, refused-of, grown-same, grown-then, room-same}
 use Rattle.program.specs.declared.Looked.{Looked}
 use Rattle.evaluate.specs.Value.{eval_term, head_term, Reaches, here, down}
-use Rattle.evaluate.specs.Evaluation.{Memo, Knows, noted, bound, unknown, KnowsFirst, none, more, Noted, Evaluates}
+use Rattle.evaluate.specs.Evaluation.{Memo, Knows, noted, bound, unknown, KnowsFirst, none, more, Evaluates}
 use Rattle.evaluate.proofs.Collecting.{rest, rest-value, rest-refused, run-done}
 use Rattle.evaluate.proofs.Settling.{term-settled, term-again}
 use Rattle.evaluate.proofs.Turns.{Turn, memo-room, start, finishes, turn-known, rest_all, member-at}

@@ -12,7 +12,7 @@ use lib.ListN.{length, get_or, take, drop, set, length-set}
 use lib.Seq.{get_or-take, get_or-set_other}
 use Rattle.model.specs.Cell.{Cell, no_cell, same_words}
 use Rattle.model.specs.Layout.{sizes_of, kinds_of, ends_of, pool_of}
-use Rattle.model.specs.Program.{Fact, Action, Rule}
+use Rattle.model.specs.Program.{Fact, Action}
 use Rattle.model.specs.Decode.{word, read_rule}
 use Rattle.model.specs.Walk.{duplicate_rule_name}
 use Rattle.model.proofs.Tests.{and-true}

@@ -22,7 +22,6 @@ use Rattle.model.specs.Normalize.{as_app, normaliser_of, unwrap_or, normalize_by
 use Rattle.model.specs.Load.{any}
 use Rattle.model.specs.Walk.{member, rule_of, duplicate_rule_name}
 use Rattle.cells.specs.declared.Found.{Found}
-use Rattle.decode.specs.View as view
 use Rattle.decode.specs.View.{cell, term_of, row_of}
 use Rattle.decode.specs.declared.Row.{Row as RowView}
 use Rattle.decode.specs.declared.Term.{Term as TermView}

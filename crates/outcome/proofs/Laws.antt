@@ -8,12 +8,11 @@ use Rattle.model.specs.Term.{Term}
 use Rattle.model.specs.Check.{Outcome, ok, refused, Check, and_then, pure, Room}
 use Rattle.index.specs.declared.Fill.{Fill}
 use Rattle.index.specs.declared.Added.{Added}
-use Rattle.termdag.specs.Store as store
 use Rattle.termdag.specs.Store.{terms_in, Indexed, room_of, Adds}
 use Rattle.termdag.proofs.Loading.{drop-later}
 use Rattle.outcome.specs.declared.Refusal.{Refusal}
 use Rattle.outcome.specs.declared.Checked.{Checked}
-use Rattle.outcome.specs.Does.{refusal, checked_by, checked_of, refusal_of, outcome_by, outcome_of, Grown, Does}
+use Rattle.outcome.specs.Does.{checked_by, checked_of, refusal_of, outcome_by, outcome_of, Grown, Does}
 
 -- the store's growth
 pub grown-same : {K E P I : List ℕ} {f : Fill} → Indexed K E P I f → Grown K E P I f K E P I f

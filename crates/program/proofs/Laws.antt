@@ -14,7 +14,6 @@ use Rattle.model.specs.Layout.{Tables, sizes_of, kinds_of, ends_of, pool_of, cel
 use Rattle.model.specs.Program.{variable, Expr, node, nil, Rule, Function}
 use Rattle.model.specs.Decode.{word, expr_of, read_fact, read_action, read_function, read_primitive, read_row, read_normaliser, rule_actions, read_rule, read_bindings, read_program}
 use Rattle.model.specs.Evaluate.{lookup, primitive_at}
-use Rattle.model.specs.Action.{merge_of}
 use Rattle.model.specs.Load.{counts, below, row_fits, rule_fits, passed, fit_tests}
 use Rattle.model.proofs.Tests.{eq_of, lt_of, le_of, and_left, and_right}
 use Rattle.cells.specs.declared.Found.{Found}

@@ -1,7 +1,5 @@
 use mathlib.Core.Path.{refl, sym, ◌∙◌}
 use native.Mathlib.Omega.{arith}
-use Prim.Native.Nat.{◌-◌}
-use lib.ListN.{length}
 use Rattle.cells.proofs.Laws.{same_length, same-no, same-yes, same_end}
 use Rattle.cells.proofs.same_words.Goals as goal
 

@@ -1,6 +1,5 @@
 use mathlib.Core.Path.{sym, ap, ◌∙◌}
 use mathlib.Core.Bool.{true≢false}
-use Prim.Native.Nat.{◌-◌}
 use native.Mathlib.Omega.{arith}
 use Rattle.chains.specs.Chains.{has_key, words_from}
 use Rattle.chains.proofs.Chaining.{passed_first, passed-more, own-slot, own_key}

@@ -1,6 +1,5 @@
 use mathlib.Core.Path.{sym}
 use mathlib.Core.Bool.{true≢false}
-use Prim.Native.Nat.{◌-◌}
 use native.Mathlib.Omega.{arith}
 use Rattle.chains.specs.Chains.{words_from, same_key}
 use Rattle.chains.proofs.Chaining.{unlike-none, unlike-more, unlike-all}

@@ -1,4 +1,4 @@
-use Prim.Native.Nat.{◌+◌, ◌-◌, ◌≤◌}
+use Prim.Native.Nat.{◌+◌, ◌≤◌}
 use Rattle.chains.specs.Chains.{words_from, slot_at, Chained, Within}
 use Rattle.chains.proofs.chain.Given as goal
 

@@ -1,7 +1,6 @@
 use mathlib.Core.Path.{sym, ◌∙◌}
-use Prim.Native.Nat.{◌-◌}
 use native.Mathlib.Omega.{arith}
-use Rattle.chains.specs.Chains.{key_arguments, words_from, same_key}
+use Rattle.chains.specs.Chains.{words_from, same_key}
 use Rattle.chains.proofs.Chaining.{differs_none, differs_more, differs-again, differs-all, hits-of}
 use Rattle.chains.proofs.differing.Goals as goal
 

@@ -1,4 +1,3 @@
-use Prim.Native.Nat.{◌-◌}
 use native.Mathlib.Omega.{arith}
 use Rattle.chains.proofs.Chaining.{emptying_none, emptying_more, emptying_all}
 use Rattle.chains.proofs.empty.Goals as goal

@@ -1,6 +1,4 @@
 use mathlib.Core.Path.{sym, ap, ◌∙◌}
-use mathlib.Core.Bool.{true}
-use Prim.Native.Nat.{◌-◌}
 use native.Mathlib.Omega.{arith}
 use Rattle.chains.specs.Chains.{has_key, words_from, slot_at}
 use Rattle.chains.proofs.Chaining.{key-slot, passed_first, passed-more, hit-there, hit-none, none-there}

@@ -1,7 +1,7 @@
 use mathlib.Core.Path.{refl}
 use Prim.Native.Nat.{◌+◌}
 use native.Mathlib.Omega.{arith}
-use lib.ListN.{length, get_or, set, length-set}
+use lib.ListN.{get_or, length-set}
 use Rattle.chains.proofs.link.Goals as goal
 
 pub bounds-table-b-3 : goal.bounds-table-b-3

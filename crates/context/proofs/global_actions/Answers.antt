@@ -1,6 +1,5 @@
 use mathlib.Core.Path.{sym, ◌∙◌}
 use mathlib.Core.List.{[]}
-use Prim.Native.Nat.{◌-◌}
 use native.Mathlib.Omega.{arith}
 use Rattle.context.proofs.Starting.{start, stops, turns, finishes}
 use Rattle.context.proofs.global_actions.Goals as goal

@@ -1,5 +1,4 @@
 use mathlib.Core.Path.{refl, sym, ◌∙◌}
-use Prim.Native.Nat.{◌-◌}
 use native.Mathlib.Omega.{arith}
 use Rattle.decode.specs.View.{proposition_of}
 use Rattle.context.proofs.Unions.{union-yes, union-no, union-none}

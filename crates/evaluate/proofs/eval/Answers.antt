@@ -1,4 +1,4 @@
-use lib.ListN.{length, length-take}
+use lib.ListN.{length-take}
 use Rattle.evaluate.proofs.Turns.{known, node-for, no_arguments, at_head, found-does}
 use Rattle.evaluate.proofs.Waiting.{first-upto, first-memo, first-vals, open_at, open-start, open-down, down-less, open-stop, open_done, open_up, up-less, evaluates-as}
 use Rattle.program.specs.Read.{expr_for, arguments_for, head_for}

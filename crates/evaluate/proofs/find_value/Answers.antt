@@ -1,10 +1,5 @@
-use mathlib.Core.Path.{◌≡◌, refl, subst}
-use Prim.Native.Nat.{ℕ, ◌+◌, ◌-◌}
-use native.Mathlib.Omega.{arith}
-use Rattle.model.specs.Evaluate.{validated}
-use Rattle.evaluate.specs.Evaluation.{Finds}
+use mathlib.Core.Path.{refl}
 use mathlib.Core.Bool.{cond}
-use lib.ListN.{take, drop}
 use Rattle.termdag.specs.Store.{terms_in, room_of}
 use Rattle.program.specs.Ready.{program_for}
 use Rattle.evaluate.proofs.HeadValues.{finds-known, finds-none, head-finds}

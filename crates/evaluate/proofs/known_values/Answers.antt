@@ -1,7 +1,5 @@
 use mathlib.Core.Path.{refl, ◌∙◌}
-use Prim.Native.Nat.{◌-◌}
 use native.Mathlib.Omega.{arith}
-use lib.ListN.{length}
 use borrow.Author.Rules.{rules}
 use Rattle.evaluate.specs.Evaluation.{none}
 use Rattle.evaluate.proofs.Waiting.{knows-length, unknown-next, first_more, first-same}

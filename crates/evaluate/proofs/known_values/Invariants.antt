@@ -1,7 +1,7 @@
 use mathlib.Core.Path.{◌≡◌}
 use mathlib.Core.List.{List}
 use Prim.Native.Nat.{ℕ, ◌-◌}
-use lib.ListN.{length, drop}
+use lib.ListN.{length}
 use Rattle.program.specs.Read.{head_for}
 use Rattle.evaluate.specs.Value.{bindings_in}
 use Rattle.evaluate.specs.Evaluation.{KnowsFirst}

@@ -1,6 +1,6 @@
 use mathlib.Core.List.{List}
 use Prim.Native.Nat.{ℕ, ◌-◌, ◌≤◌}
-use lib.ListN.{length, drop}
+use lib.ListN.{length}
 use Rattle.model.specs.Program.{Head, Binding}
 use Rattle.evaluate.specs.Evaluation.{KnowsFirst}
 use Rattle.evaluate.proofs.noted_values.Given as goal

@@ -1,7 +1,6 @@
 use Rattle.evaluate.specs.Value.{bindings_in}
 use Rattle.program.specs.Read.{arguments_for}
 use borrow.Author.Rules.{rules}
-use Prim.Native.Nat.{◌-◌}
 use mathlib.Core.Path.{ap, ◌∙◌}
 use native.Mathlib.Omega.{arith}
 use Rattle.facts.proofs.Wants.{arguments-start, arguments-stop, arguments-turn, arguments-done}

@@ -4,7 +4,6 @@ use Rattle.decode.specs.View.{proposition_of}
 use native.Mathlib.Omega.{arith}
 use borrow.Author.Rules.{rules}
 use mathlib.Core.List.{[]}
-use Prim.Native.Nat.{◌-◌}
 use Rattle.heads.proofs.head_actions.Goals as goal
 
 pub overflow_sub-at : goal.overflow_sub-at

@@ -1,7 +1,7 @@
 use Rattle.heads.proofs.Lone.{no_run, lone-run}
 use Rattle.model.proofs.Tests.{not-false}
 use native.Mathlib.Omega.{arith}
-use Rattle.std.proofs.lemmas.Bool.{not_from_false, not_from_true}
+use Rattle.std.proofs.lemmas.Bool.{not_from_true}
 use Rattle.heads.proofs.lone_run.Goals as goal
 
 pub returns-then-not-marking : goal.returns-then-not-marking

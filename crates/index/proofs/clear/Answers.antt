@@ -1,5 +1,5 @@
 use lib.Seq.{drop-length}
-use Rattle.std.proofs.Common.{◌≡◌, ◌-◌, length, drop, refl, ◌∙◌, append-nil, arith, length-set}
+use Rattle.std.proofs.Common.{◌≡◌, length, refl, ◌∙◌, append-nil, arith, length-set}
 use borrow.Author.Fill.{fill_none, fill_more}
 use Rattle.index.proofs.clear.Goals as goal
 

@@ -1,5 +1,5 @@
 use Rattle.model.specs.Cell.{cell_at, cells_of}
-use Rattle.std.proofs.Common.{◌-◌, length, refl, ◌∙◌, arith}
+use Rattle.std.proofs.Common.{length, refl, ◌∙◌, arith}
 use Rattle.index.proofs.Filling.{going-none, going-lists, few-compared, going_more, going-found, going_end}
 use Rattle.index.proofs.fill_once.Goals as goal
 

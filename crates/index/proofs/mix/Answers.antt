@@ -1,4 +1,4 @@
-use Rattle.std.proofs.Common.{ℕ, ◌+◌, ◌-◌, drop, sym, refl, ap, ◌∙◌, arith}
+use Rattle.std.proofs.Common.{ℕ, ◌+◌, drop, sym, refl, ap, ◌∙◌, arith}
 use Rattle.index.specs.Mixing.{mix_from, spread}
 use Rattle.index.proofs.Arithmetic.{mix-more, mix-last, mix-end}
 use Rattle.index.proofs.mix.Goals as goal

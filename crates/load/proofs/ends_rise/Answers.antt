@@ -1,7 +1,6 @@
 use Rattle.load.proofs.Rounds.{rise-no, rise-yes, rise-end}
 use native.Mathlib.Omega.{arith}
 use mathlib.Core.Path.{refl, sym, ◌∙◌}
-use Prim.Native.Nat.{◌-◌}
 use Rattle.load.proofs.ends_rise.Goals as goal
 
 pub loop-i-init : goal.loop-i-init

@@ -1,7 +1,7 @@
 use Rattle.load.proofs.Rounds.{round-yes, round-no, rounds-end}
 use native.Mathlib.Omega.{arith}
 use mathlib.Core.Path.{refl, sym, ap, ◌∙◌}
-use Prim.Native.Nat.{ℕ, ◌-◌}
+use Prim.Native.Nat.{ℕ}
 use Rattle.model.specs.Load.{marks}
 use Rattle.model.specs.Layout.{table_list}
 use Rattle.load.specs.Held.{sizes_in, tables_for, tests_for, first_found}

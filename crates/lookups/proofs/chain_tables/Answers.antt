@@ -1,10 +1,9 @@
-use mathlib.Core.Path.{ap, ◌∙◌}
+use mathlib.Core.Path.{◌∙◌}
 use mathlib.Core.Bool.{true, false}
 use mathlib.Core.Logic.{inl}
 use native.Mathlib.Omega.{arith}
 use lib.Dec.{lit<}
-use lib.ListN.{length, length-set}
-use borrow.Author.Rules.{rules}
+use lib.ListN.{length-set}
 use Rattle.chains.proofs.Chaining.{within_both}
 use Rattle.lookups.proofs.Keys.{chained-kept, within-set, within_wider}
 use Rattle.lookups.proofs.chain_tables.Goals as goal

@@ -4,7 +4,6 @@ use mathlib.Core.Option.{some}
 use native.Mathlib.Omega.{arith}
 use lib.Dec.{lit<}
 use lib.ListN.{get_or}
-use borrow.Author.Rules.{rules}
 use Rattle.model.specs.Cell.{no_cell}
 use Rattle.model.specs.Layout.{sizes_of}
 use Rattle.model.specs.Program.{bare, idle}

@@ -1,4 +1,3 @@
-use mathlib.Core.Bool.{false}
 use native.Mathlib.Omega.{arith}
 use Rattle.program.proofs.Laws.{front-whole}
 use Rattle.lookups.proofs.Keys.{named-first}

@@ -1,12 +1,9 @@
-use mathlib.Core.Path.{◌≡◌, refl, sym, ◌∙◌}
-use Prim.Native.Nat.{◌+◌, ◌-◌, ◌≤◌, ◌<◌}
+use mathlib.Core.Path.{refl, sym, ◌∙◌}
+use Prim.Native.Nat.{◌+◌}
 use native.Mathlib.Omega.{arith}
 use lib.Dec.{eqb}
-use lib.ListN.{length, get_or, take}
-use borrow.Author.Rules.{rules}
+use lib.ListN.{take}
 use borrow.Author.Tests.{eq-eqb, ne_eqb}
-use Rattle.model.specs.Cell.{no_cell}
-use Rattle.model.specs.Layout.{sizes_of, cell_count}
 use Rattle.model.specs.Decode.{word}
 use Rattle.program.specs.Ready.{table_for}
 use Rattle.program.proofs.Words.{inside-from, name_in, first-end, has_end, span-first, span-within, span-words, span-next}

@@ -1,7 +1,6 @@
 use mathlib.Core.Bool.{◌&&◌}
 use native.Mathlib.Omega.{arith}
 use lib.Dec.{ltb}
-use borrow.Author.Rules.{rules}
 use Rattle.model.proofs.Tests.{lt_of, and_left, and_right}
 use Rattle.lookups.proofs.Keys.{chained-few}
 use Rattle.lookups.proofs.needs_no_chains.Goals as goal

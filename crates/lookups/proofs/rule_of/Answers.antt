@@ -1,4 +1,3 @@
-use borrow.Author.Rules.{rules}
 use lib.Dec.{lit<}
 use native.Mathlib.Omega.{arith}
 use Rattle.model.specs.Layout.{sizes_of}

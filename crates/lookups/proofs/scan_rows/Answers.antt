@@ -1,13 +1,12 @@
 use mathlib.Core.Path.{sym, ap, ◌∙◌}
 use mathlib.Core.Option.{some}
-use Prim.Native.Nat.{◌-◌, ◌<◌}
+use Prim.Native.Nat.{◌<◌}
 use native.Mathlib.Omega.{arith}
 use lib.Dec.{lit<}
 use lib.ListN.{get_or}
 use Rattle.model.specs.Cell.{no_cell}
 use Rattle.model.specs.Layout.{sizes_of}
 use Rattle.model.specs.Program.{Row}
-use Rattle.model.specs.Decode.{read_row}
 use Rattle.model.specs.Evaluate.{row_value}
 use Rattle.program.specs.Ready.{tables_for}
 use Rattle.program.proofs.Words.{inside, words-in}

@@ -1,11 +1,9 @@
 use mathlib.Core.Path.{◌≡◌, sym, ap, ◌∙◌}
 use mathlib.Core.List.{[]}
 use mathlib.Core.Option.{some}
-use Prim.Native.Nat.{◌-◌}
 use native.Mathlib.Omega.{arith}
 use lib.Dec.{lit<}
 use lib.ListN.{get_or, take}
-use borrow.Author.Rules.{rules}
 use Rattle.model.specs.Cell.{no_cell}
 use Rattle.model.specs.Layout.{sizes_of}
 use Rattle.model.specs.Program.{bare, idle}

@@ -1,8 +1,7 @@
-use mathlib.Core.Path.{◌≡◌, ap}
+use mathlib.Core.Path.{◌≡◌}
 use mathlib.Core.List.{[], map}
 use Prim.Native.Nat.{◌-◌, ◌≤◌}
 use lib.ListN.{drop}
-use borrow.Author.Rules.{rules}
 use Rattle.model.specs.Walk.{duplicate_rule_name}
 use Rattle.program.specs.Ready.{tables_for, program_for}
 use Rattle.program.proofs.Laws.{rule_for}

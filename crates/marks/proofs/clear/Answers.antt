@@ -1,7 +1,6 @@
 use native.Mathlib.Omega.{arith}
 use mathlib.Core.Path.{refl}
-use Prim.Native.Nat.{◌-◌}
-use lib.ListN.{length, length-set}
+use lib.ListN.{length-set}
 use Rattle.marks.proofs.Laws.{clear_step, clear-end}
 use Rattle.marks.proofs.clear.Goals as goal
 

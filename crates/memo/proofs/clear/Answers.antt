@@ -1,6 +1,6 @@
 use borrow.Author.Fill.{fill_more}
 use lib.ListN.{length, set, drop, replicate, length-set, drop_of_length-le}
-use Prim.Native.Nat.{ℕ, ◌-◌}
+use Prim.Native.Nat.{ℕ}
 use mathlib.Core.List.{List, ◌++◌, append-nil}
 use native.Mathlib.Omega.{arith}
 use mathlib.Core.Path.{◌≡◌, refl, ap, ◌∙◌}

@@ -1,7 +1,7 @@
 use mathlib.Core.Path.{◌≡◌, refl, ap, subst, ◌∙◌}
 use native.Mathlib.Omega.{arith}
-use Prim.Native.Nat.{ℕ, ◌-◌}
-use lib.ListN.{length, length-set}
+use Prim.Native.Nat.{ℕ}
+use lib.ListN.{length-set}
 use Rattle.model.specs.Layout.{sizes_of}
 use Rattle.normal_form.specs.Search.{offence_in, SearchedTo}
 use Rattle.normal_form.proofs.Laws.{searched-none, searched-more}

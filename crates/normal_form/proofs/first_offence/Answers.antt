@@ -1,9 +1,7 @@
 use mathlib.Core.Path.{◌∙◌}
 use native.Mathlib.Omega.{arith}
-use Prim.Native.Nat.{◌-◌}
-use Rattle.model.specs.Fact.{offence}
 use Rattle.decode.specs.View.{head_of}
-use Rattle.normal_form.proofs.Laws.{rest, rest_all, rest-none, rest-yes, rest-no}
+use Rattle.normal_form.proofs.Laws.{rest_all, rest-none, rest-yes, rest-no}
 use Rattle.normal_form.proofs.first_offence.Goals as goal
 
 pub head_at-h-requires : goal.head_at-h-requires

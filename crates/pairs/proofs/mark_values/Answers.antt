@@ -1,5 +1,4 @@
 use native.Mathlib.Omega.{arith}
-use Prim.Native.Nat.{◌-◌}
 use mathlib.Core.Path.{◌∙◌, ap}
 use Rattle.pairs.specs.Marking.{mark_values}
 use Rattle.pairs.proofs.Laws.{marked-none, marked_step}

@@ -1,5 +1,4 @@
 use mathlib.Core.Path.{refl, sym, ◌∙◌}
-use Prim.Native.Nat.{◌-◌}
 use native.Mathlib.Omega.{arith}
 use Rattle.program.proofs.Laws.{pair-yes, pair-no, pair-none}
 use Rattle.program.proofs.lookup_pairs.Goals as goal

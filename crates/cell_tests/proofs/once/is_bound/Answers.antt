@@ -1,6 +1,5 @@
 use native.Mathlib.Omega.{arith}
 use mathlib.Core.Path.{refl, sym, ◌∙◌}
-use Prim.Native.Nat.{◌-◌}
 use Rattle.cell_tests.proofs.Laws.{bound-yes, bound-no, bound-end}
 use Rattle.cell_tests.proofs.once.is_bound.Goals as goal
 

@@ -1,6 +1,5 @@
 use native.Mathlib.Omega.{arith}
 use mathlib.Core.Path.{refl, sym, ◌∙◌}
-use Prim.Native.Nat.{◌-◌}
 use Rattle.cell_tests.proofs.Laws.{pairs-yes, pairs-no, pairs-done}
 use Rattle.cell_tests.proofs.refer.pairs_below.Goals as goal
 

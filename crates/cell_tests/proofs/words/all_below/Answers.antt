@@ -1,7 +1,5 @@
 use mathlib.Core.Path.{refl, sym, ◌∙◌}
-use Prim.Native.Nat.{◌-◌}
 use native.Mathlib.Omega.{arith}
-use Rattle.model.specs.Load.{below}
 use Rattle.cell_tests.proofs.Laws.{below-no, below-yes, below_end}
 use Rattle.cell_tests.proofs.words.all_below.Goals as goal
 

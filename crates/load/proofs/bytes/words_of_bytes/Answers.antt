@@ -2,7 +2,6 @@ use Rattle.load.proofs.ByteLaws.{words-least, words_count, word_at, paste-front}
 use Rattle.model.specs.Host.{words_of}
 use mathlib.Core.Path.{◌≡◌, refl, ap, ◌∙◌}
 use native.Mathlib.Omega.{arith}
-use Prim.Native.Nat.{◌-◌}
 use lib.ListN.{length, length-set}
 use lib.Seq.{paste, paste-zero}
 use Rattle.cells.proofs.Appending.{put-paste}

@@ -1,6 +1,5 @@
 use native.Mathlib.Omega.{arith}
 use Rattle.model.specs.Layout.{sizes_of}
-use borrow.Author.Rules.{rules}
 use Rattle.load.proofs.sizes.read_sizes.Goals as goal
 
 pub returns : goal.returns

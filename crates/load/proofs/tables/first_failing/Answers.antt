@@ -4,7 +4,7 @@ use mathlib.Core.Path.{◌≡◌, sym, ap, ◌∙◌}
 use Rattle.load.specs.Held.{sizes_in, tables_for, tests_for, counts_of}
 use Rattle.model.specs.Cell.{no_cell, cells_of}
 use Rattle.model.specs.Layout.{cell_count, table_list}
-use Prim.Native.Nat.{ℕ, ◌+◌, ◌-◌}
+use Prim.Native.Nat.{ℕ, ◌+◌}
 use lib.ListN.{get_or, length}
 use mathlib.Core.List.{[]}
 use Rattle.cells.proofs.Laws.{cells-length}

@@ -4,7 +4,7 @@ use mathlib.Core.Path.{◌≡◌, refl, sym, ap, ◌∙◌}
 use Rattle.load.specs.Held.{sizes_in, tables_for, tests_for, first_found, counts_of}
 use Rattle.model.specs.Cell.{cells_of}
 use Rattle.model.specs.Layout.{cell_count, table_list}
-use Prim.Native.Nat.{ℕ, ◌+◌, ◌-◌, ◌<◌}
+use Prim.Native.Nat.{ℕ, ◌+◌, ◌<◌}
 use lib.ListN.{get_or, length, drop}
 use mathlib.Core.List.{List, []}
 use Rattle.cells.proofs.Laws.{cells-length}

@@ -6,7 +6,7 @@ use Rattle.model.specs.Cell.{Cell, no_cell, cells_of}
 use Rattle.model.specs.Layout.{cell_count}
 use Rattle.cells.proofs.Laws.{cells-length}
 use Rattle.cells.specs.declared.Fill.{Fill}
-use Prim.Native.Nat.{◌+◌, ◌-◌}
+use Prim.Native.Nat.{◌+◌}
 use lib.ListN.{length, get_or}
 use mathlib.Core.Bool.{Bool, not}
 use Rattle.load.proofs.tables.is_first.Goals as goal

@@ -1,5 +1,5 @@
 use mathlib.Core.Path.{◌≡◌}
-use Prim.Native.Nat.{◌-◌, ◌≤◌}
+use Prim.Native.Nat.{◌≤◌}
 use Rattle.model.specs.Layout.{sizes_of}
 use Rattle.load.specs.Held.{cell_number}
 use Rattle.program.proofs.job.first_behind.Given as goal
