@@ -1,4 +1,4 @@
-//! Links the static library that `rt staticlib host` wrote.
+//! Links the static library that `scripts/build` wrote.
 
 use std::env;
 use std::path::Path;

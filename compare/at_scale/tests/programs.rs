@@ -203,7 +203,7 @@ fn printed(program: &str, input: &[u8]) -> String {
     let path = root().join("target/bin").join(program);
     assert!(
         path.exists(),
-        "there is no target/bin/{program}: run `rt check` first"
+        "there is no target/bin/{program}: run `scripts/build` first"
     );
     program::printed(path.to_str().expect("a name"), input)
 }
