@@ -23,6 +23,16 @@ fn made_anew_it_is_the_same() {
 }
 
 #[test]
+fn the_program_replay_is_given_the_same() {
+    let given = Path::new(env!("CARGO_MANIFEST_DIR")).join("../../crates/replay/stdin");
+    assert!(
+        fs::read(given).expect("what the program is given")
+            == fs::read(data("fixed_list.bin")).expect("the list"),
+        "copy data/fixed_list.bin to crates/replay/stdin"
+    );
+}
+
+#[test]
 fn read_back_it_is_what_the_rust_says() {
     let list = read(&to_words(
         &fs::read(data("fixed_list.bin")).expect("the list"),

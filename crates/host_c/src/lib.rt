@@ -5,7 +5,7 @@ ghost use Rattle.std.specs.Prelude.{◌≡◌, length};
 ghost use Rattle.model.specs.Answer.{entry};
 ghost use Rattle.model.specs.Host.{host_entry, host_entry_mode};
 
-// THE HOST ENTRY WITH A MODE: the check of a job's bytes for an asked proof, with a store of its own. What a returned 0 means is in proofs/Sound.
+// THE HOST ENTRY WITH A MODE: the check of a job's bytes for an asked proof, with a store of its own. What a returned 0 means is in host/proofs/Sound.
 #[unsafe(no_mangle)]
 pub extern "C" fn sizercobalt_check_bytes_mode(
     job: &[u8],
