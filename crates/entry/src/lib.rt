@@ -48,7 +48,7 @@ pub fn check(
     scratch: &mut [u32],
     answer: &mut [u32],
 ) -> u32
-    ensures { record { number = result; answer = answer.new; arrays = record { kinds = kinds.exit.now; ends = ends.new; pool = pool.new } } ≡ entry job.now asked mode (record { kinds = kinds.entry.now; ends = ends.old; pool = pool.old }) (length index.old) (length scratch.old) answer.old }
+    ensures { record { number = result; answer = answer.new; arrays = record { kinds = kinds.new; ends = ends.new; pool = pool.new } } ≡ entry job.now asked mode (record { kinds = kinds.old; ends = ends.old; pool = pool.old }) (length index.old) (length scratch.old) answer.old }
 {
     if answer.len() != 8 {
         return 10;

@@ -160,7 +160,7 @@ pub fn load_cells(
     scratch: usize,
 ) -> Loaded
     requires { Cut kinds.now ends.now pool.now z }
-    ensures refusal { refusal_of result ≡ cell_refusal ends.now (sizes_in z) (tables_for kinds.entry.now ends.now pool.now z) (record { kinds = lent_kinds; ends = lent_ends; pool = lent_pool; index = length index.old; scratch = scratch }) }
+    ensures refusal { refusal_of result ≡ cell_refusal ends.now (sizes_in z) (tables_for kinds.now ends.now pool.now z) (record { kinds = lent_kinds; ends = lent_ends; pool = lent_pool; index = length index.old; scratch = scratch }) }
     ensures lists { result ≡ Loaded.Admitted → Lists multiplier index.new (cells_of kinds.now ends.now pool.now z.terms) }
 {
     if !ends_rise(ends, z.pool) {
