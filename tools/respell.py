@@ -15,7 +15,6 @@ import sys
 KIT = os.environ.get("RATTLE_KIT", "/opt/rattle")
 # A lemma that would have a definition's name.
 LEMMAS = {n: n + "_lem" for n in ("ends_of", "no_cell", "of_one", "of_two", "room_of", "rule_fits")}
-WORD = re.compile(r"[^\s(){}\[\],;.λ∷→≡≤<|↦\"]+")
 CAMEL = re.compile(r"(?<![\w'\-·◌])[a-z][\w]*[A-Z][\w']*(?![\w\-])")
 DEFINED = re.compile(r"^\s*(?:abbrev |unfoldable )?(?:pub )?((?:[^\s(){}:;,.]+ )*?[^\s(){}:;,.]+) :(?= |$)", re.M)
 
