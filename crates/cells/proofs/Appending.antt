@@ -1,4 +1,6 @@
 -- What appending does to the cells of a table, and the contracts of `append` and `add`, case by case.
+use Rattle.std.specs.Prelude as prelude
+use Rattle.std.specs.Prelude.{Some, None}
 use mathlib.Core.Path.{◌≡◌, refl, sym, ap, ap₂, ◌∙◌}
 use mathlib.Core.Logic.{◌≢◌, inl, inr}
 use mathlib.Core.Bool.{Bool, true, false}
@@ -14,7 +16,6 @@ use borrow.Author.Count.{below_more}
 use Rattle.model.specs.Cell.{Cell, no_cell, tabulate, start_of, words_at, cell_at, cells_of}
 use Rattle.cells.specs.Table.{Formed, find_cell, Once, put, total, table_of, Table, Result, has_room, append_if, append_cell, add_found, add_cell, Ran}
 use Rattle.cells.specs.declared.Fill.{Fill}
-use Rattle.cells.specs.declared.Found.{Found}
 use Rattle.cells.specs.declared.Added.{Added}
 use Rattle.cells.proofs.Laws.{cells-length, words-length, tabulate-ext, tabulate-more, never-found, LastCases, last-cases}
 
@@ -192,17 +193,17 @@ module _ {K E P : List ℕ} {f : Fill} (F : Formed K E P f) where
           pool = put-after P f.words c.words l;
         })
 
-    pub add-old : (i : ℕ) → find_cell (cells_of K E P f.cells) c ≡ Found.At i → Ran K E P f K E P (record { number = i; full = false; fill = f }) (add_cell c (table_of K E P f))
+    pub add-old : (i : ℕ) → find_cell (cells_of K E P f.cells) c ≡ Some i → Ran K E P f K E P (record { number = i; full = false; fill = f }) (add_cell c (table_of K E P f))
     unfolding add_cell
     add-old i e = rw (e, add_cell) (ran-none refl refl refl refl)
 
-    pub add-new : {K' E' P' : List ℕ} {a : Added} → find_cell (cells_of K E P f.cells) c ≡ Found.Nothing
+    pub add-new : {K' E' P' : List ℕ} {a : Added} → find_cell (cells_of K E P f.cells) c ≡ None
         → Ran K E P f K' E' P' a (append_cell c (table_of K E P f)) → Ran K E P f K' E' P' a (add_cell c (table_of K E P f))
     unfolding add_cell
     add-new e p = rw (e, add_cell) p
 
 -- no two cells are equal after an addition
-pub once-append : (cs : List Cell) (c : Cell) → find_cell cs c ≡ Found.Nothing → Once cs → Once (cs ++ (c ∷ []))
+pub once-append : (cs : List Cell) (c : Cell) → find_cell cs c ≡ None → Once cs → Once (cs ++ (c ∷ []))
 once-append cs c e o = record { one = λ i j h k q. go i j (last-cases cs c i h) (last-cases cs c j k) q }
   where
     fresh : (i : ℕ) → i < length cs → get_or cs i no_cell ≡ c → ⊥
@@ -218,10 +219,10 @@ pub add_once : (c : Cell) (t : Table) → Once t.cells → Once (add_cell c t).c
 unfolding add_cell append_cell
 add_once c t o = go (find_cell t.cells c) refl
   where
-    by-room : (b : Bool) → find_cell t.cells c ≡ Found.Nothing → Once (append_if b c t).cells
+    by-room : (b : Bool) → find_cell t.cells c ≡ None → Once (append_if b c t).cells
     by-room true e = once-append t.cells c e o
     by-room false e = o
 
-    go : (x : Found) → find_cell t.cells c ≡ x → Once (add_found x c t).cells
-    go (Found.At i) e = o
-    go Found.Nothing e = by-room (has_room t c) e
+    go : (x : prelude.Option ℕ) → find_cell t.cells c ≡ x → Once (add_found x c t).cells
+    go (Some i) e = o
+    go None e = by-room (has_room t c) e

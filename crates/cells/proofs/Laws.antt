@@ -1,4 +1,6 @@
 -- Laws of tables: reading a cell, comparing words, looking a cell up.
+use Rattle.std.specs.Prelude as prelude
+use Rattle.std.specs.Prelude.{Some, None}
 use mathlib.Core.Path.{◌≡◌, refl, sym, ap, ◌∙◌}
 use mathlib.Core.Logic.{⊎_elim, ◌⊎◌, inl, inr}
 use mathlib.Core.Bool.{Bool, true, false, ◌&&◌}
@@ -16,7 +18,6 @@ use Rattle.model.proofs.Tests.{and-false, and_left, and_right, words-eq}
 use Rattle.model.proofs.Valid.{length-tabulate, cell_same}
 use Rattle.cells.specs.Table.{Formed, find_from, find_cell, found_by, Once}
 use Rattle.cells.specs.declared.Fill.{Fill}
-use Rattle.cells.specs.declared.Found.{Found}
 
 -- a part up to the end
 pub to_end : (n : ℕ) (ws : List ℕ) → take (length ws - n) (drop n ws) ≡ drop n ws
@@ -93,11 +94,11 @@ module _ (a b : List ℕ) (k : ℕ) (h : k < length a) (l : k < length b) where
   same-yes e = rw (same_step a b k h l, eq-eqb (get_or a k 0) (get_or b k 0) e)
 
 -- what a look-up found, by a word
-pub found_some : (n : ℕ) → (n ≡ 0 → ⊥) → found_by n ≡ Found.At (n - 1)
+pub found_some : (n : ℕ) → (n ≡ 0 → ⊥) → found_by n ≡ Some (n - 1)
 found_some zero h = absurd (h refl)
-found_some (suc n) h = ap Found.At (omega arith)
+found_some (suc n) h = ap Some (omega arith)
 
-pub found_none : (n : ℕ) → n ≡ 0 → found_by n ≡ Found.Nothing
+pub found_none : (n : ℕ) → n ≡ 0 → found_by n ≡ None
 found_none n e = ap found_by e
 
 -- a cell of the table against a kind and words
@@ -124,13 +125,13 @@ same-cell-eq a b e =
 Hit : (k : ℕ) (cs : List Cell) (c : Cell) (i : ℕ) → Type 0
 Hit k cs c i = (k ≤ i) × (i < k + length cs) × (get_or cs (i - k) no_cell ≡ c)
 
-hit : (cs : List Cell) (c : Cell) (k i : ℕ) → find_from k cs c ≡ Found.At i → Hit k cs c i
+hit : (cs : List Cell) (c : Cell) (k i : ℕ) → find_from k cs c ≡ Some i → Hit k cs c i
 unfolding find_from Hit
 hit [] c k i e = let z : ◌≡◌ {A = ℕ} 0 1 = cc in absurd (omega arith)
 hit (x ∷ cs) c k i e = go (same_cell x c) refl (λ q. hit cs c (k + 1) i q) e
   where
-    go : (t : Bool) → same_cell x c ≡ t → (find_from (k + 1) cs c ≡ Found.At i → Hit (k + 1) cs c i)
-        → elim t [ true ↦ Found.At k | false ↦ find_from (k + 1) cs c ] ≡ Found.At i → Hit k (x ∷ cs) c i
+    go : (t : Bool) → same_cell x c ≡ t → (find_from (k + 1) cs c ≡ Some i → Hit (k + 1) cs c i)
+        → elim t [ true ↦ Some k | false ↦ find_from (k + 1) cs c ] ≡ Some i → Hit k (x ∷ cs) c i
     go true s ih q =
         let r : k ≡ i = cc in
         let d : i - k ≡ 0 = omega arith in
@@ -140,7 +141,7 @@ hit (x ∷ cs) c k i e = go (same_cell x c) refl (λ q. hit cs c (k + 1) i q) e
         let d : i - k ≡ suc (i - (k + 1)) = omega arith in
         (omega arith, omega arith, rw d h.2)
 
-pub found_at : (cs : List Cell) (c : Cell) (i : ℕ) → find_cell cs c ≡ Found.At i → (i < length cs) × (get_or cs i no_cell ≡ c)
+pub found_at : (cs : List Cell) (c : Cell) (i : ℕ) → find_cell cs c ≡ Some i → (i < length cs) × (get_or cs i no_cell ≡ c)
 unfolding Hit
 found_at cs c i e =
     let h = hit cs c 0 i e in
@@ -149,7 +150,7 @@ found_at cs c i e =
 
 -- where an equal cell stands one is found, and where no two are equal it is that one
 SomeFound : (k : ℕ) (cs : List Cell) (c : Cell) → Type 0
-SomeFound k cs c = (i : ℕ) × (find_from k cs c ≡ Found.At i)
+SomeFound k cs c = (i : ℕ) × (find_from k cs c ≡ Some i)
 
 some-found : (cs : List Cell) (c : Cell) (k n : ℕ) → n < length cs → same_cell (get_or cs n no_cell) c ≡ true → SomeFound k cs c
 unfolding find_from SomeFound
@@ -157,24 +158,24 @@ some-found [] c k n h e = absurd (not-suc-le-zero h)
 some-found (x ∷ cs) c k n h e = go (same_cell x c) refl (λ m l q. some-found cs c (k + 1) m l q) n h e
   where
     go : (t : Bool) → same_cell x c ≡ t → ((m : ℕ) → m < length cs → same_cell (get_or cs m no_cell) c ≡ true → SomeFound (k + 1) cs c)
-        → (n : ℕ) → n < suc (length cs) → same_cell (get_or (x ∷ cs) n no_cell) c ≡ true → (i : ℕ) × (elim t [ true ↦ Found.At k | false ↦ find_from (k + 1) cs c ] ≡ Found.At i)
+        → (n : ℕ) → n < suc (length cs) → same_cell (get_or (x ∷ cs) n no_cell) c ≡ true → (i : ℕ) × (elim t [ true ↦ Some k | false ↦ find_from (k + 1) cs c ] ≡ Some i)
     go true s ih n h e = (k, refl)
     go false s ih zero h e = let z : false ≡ true = sym s ∙ e in (k, cc)
     go false s ih (suc n) h e = ih n (le_of_suc-le-suc h) e
 
-pub once-found : (cs : List Cell) (c : Cell) (n : ℕ) → Once cs → n < length cs → same_cell (get_or cs n no_cell) c ≡ true → find_cell cs c ≡ Found.At n
+pub once-found : (cs : List Cell) (c : Cell) (n : ℕ) → Once cs → n < length cs → same_cell (get_or cs n no_cell) c ≡ true → find_cell cs c ≡ Some n
 unfolding SomeFound
 once-found cs c n once h e =
     let (i, q) = some-found cs c 0 n h e in
     let g = found_at cs c i q in
-    q ∙ ap Found.At (once.one i n g.0 h (g.1 ∙ sym (same-cell-eq (get_or cs n no_cell) c e)))
+    q ∙ ap Some (once.one i n g.0 h (g.1 ∙ sym (same-cell-eq (get_or cs n no_cell) c e)))
 
 -- where none is found, none is equal
-pub never-found : (cs : List Cell) (c : Cell) (i : ℕ) → find_cell cs c ≡ Found.Nothing → i < length cs → get_or cs i no_cell ≡ c → ⊥
+pub never-found : (cs : List Cell) (c : Cell) (i : ℕ) → find_cell cs c ≡ None → i < length cs → get_or cs i no_cell ≡ c → ⊥
 unfolding SomeFound
 never-found cs c i e h q =
     let (n, g) = some-found cs c 0 i h (ap (λ (x : Cell). same_cell x c) q ∙ cell_same c) in
-    let z : ◌≡◌ {A = Found} Found.Nothing (Found.At n) = sym e ∙ g in
+    let z : ◌≡◌ {A = prelude.Option ℕ} None (Some n) = sym e ∙ g in
     let y : ◌≡◌ {A = ℕ} 0 1 = cc in
     omega arith
 

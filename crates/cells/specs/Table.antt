@@ -1,8 +1,9 @@
 -- A table of cells in three word arrays: when it is well formed, and what looking a cell up and adding one do to its list of cells.
+use Rattle.std.specs.Prelude as prelude
+use Rattle.std.specs.Prelude.{Some, None}
 use Rattle.std.specs.Prelude.{◌≡◌, Bool, true, false, ◌&&◌, List, [], ◌∷◌, ◌++◌, ℕ, zero, suc, ◌+◌, ◌≤◌, ◌<◌, ◌^◌, ltb, leb, length, get_or, take, drop}
 use Rattle.model.specs.Cell.{Cell, no_cell, same_cell, start_of, cells_of}
 use Rattle.cells.specs.declared.Fill.{Fill}
-use Rattle.cells.specs.declared.Found.{Found}
 use Rattle.cells.specs.declared.Added.{Added}
 
 -- The arrays hold as many cells, in as many pool words, as the fill says.
@@ -17,17 +18,17 @@ pub record Formed (K E P : List ℕ) (f : Fill) : Type 0 where
   pub below : (i : ℕ) → i < f.cells → get_or E i 0 ≤ f.words
 
 -- The first cell that equals c, where the list's first has the number k.
-unfoldable pub find_from : ℕ → List Cell → Cell → Found
-find_from k [] c = Found.Nothing
-find_from k (x ∷ cs) c = elim (same_cell x c) [ true ↦ Found.At k | false ↦ find_from (k + 1) cs c ]
+unfoldable pub find_from : ℕ → List Cell → Cell → prelude.Option ℕ
+find_from k [] c = None
+find_from k (x ∷ cs) c = elim (same_cell x c) [ true ↦ Some k | false ↦ find_from (k + 1) cs c ]
 
-abbrev pub find_cell : List Cell → Cell → Found
+abbrev pub find_cell : List Cell → Cell → prelude.Option ℕ
 find_cell cs c = find_from 0 cs c
 
 -- What a look-up found, by a word: the number of the equal cell plus one, or 0 for none.
-abbrev pub found_by : ℕ → Found
-found_by zero = Found.Nothing
-found_by (suc i) = Found.At i
+abbrev pub found_by : ℕ → prelude.Option ℕ
+found_by zero = None
+found_by (suc i) = Some i
 
 -- No two cells are equal.
 pub record Once (cs : List Cell) : Type 0 where
@@ -68,9 +69,9 @@ append_if false c t = record { number = 0; full = true; cells = t.cells }
 unfoldable pub append_cell : Cell → Table → Result
 append_cell c t = append_if (has_room t c) c t
 
-abbrev pub add_found : Found → Cell → Table → Result
-add_found (Found.At i) c t = record { number = i; full = false; cells = t.cells }
-add_found Found.Nothing c t = append_cell c t
+abbrev pub add_found : prelude.Option ℕ → Cell → Table → Result
+add_found (Some i) c t = record { number = i; full = false; cells = t.cells }
+add_found None c t = append_cell c t
 
 -- The number of an equal cell, else of the cell appended.
 unfoldable pub add_cell : Cell → Table → Result

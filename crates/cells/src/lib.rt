@@ -12,13 +12,6 @@ pub struct Fill {
     pub words: usize,
 }
 
-// The number of the first cell that equals one looked for.
-#[derive(Clone, Copy)]
-pub enum Found {
-    At(usize),
-    Nothing,
-}
-
 // The number of a cell and the fill after. Where the table was full the number means nothing and the fill is as before.
 #[derive(Clone, Copy)]
 pub struct Added {

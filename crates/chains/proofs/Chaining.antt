@@ -1,4 +1,6 @@
 -- Laws of chains: numbers linked one by one from the last on, and the way along a chain.
+use Rattle.std.specs.Prelude as prelude
+use Rattle.std.specs.Prelude.{Some, None}
 use mathlib.Core.Path.{◌≡◌, refl, sym, ap, ap₂, subst, ◌∙◌}
 use mathlib.Core.Logic.{inl, inr}
 use mathlib.Core.Bool.{Bool, true, false, true≢false}
@@ -11,7 +13,6 @@ use lib.Seq.{get_or-set_same, get_or-set_other}
 use borrow.Author.Tests.{ltb-true, ltb-false, eq-eqb, ne_eqb}
 use Rattle.model.specs.Cell.{same_words}
 use Rattle.model.proofs.Tests.{eq_of, and_left, and_right, words-eq, words_same, never}
-use Rattle.cells.specs.declared.Found.{Found}
 use Rattle.index.proofs.Arithmetic.{le-or-lt, eq-or-ne}
 use Rattle.chains.specs.Chains.{key_arguments, has_key, key_slot, slot_at, same_key, Next, Chained, Within, Emptied, Linked, FirstHit, found_before, Differ}
 
@@ -151,21 +152,21 @@ module _ {slot : ℕ → ℕ} {hit : ℕ → Bool} {n s m : ℕ} (hits : (j : �
   }
 
 module _ {slot : ℕ → ℕ} {hit : ℕ → Bool} {n s i : ℕ} (p : Passed slot hit n s 0 i) where
-  pub hit-there : i < n → hit i ≡ true → FirstHit hit n (Found.At i)
+  pub hit-there : i < n → hit i ≡ true → FirstHit hit n (Some i)
   hit-there h y = record {
     there = λ j e. let r : i ≡ j = cc in (omega arith, ap hit (sym r) ∙ y);
     before = λ j k e l. let r : i ≡ j = cc in p.before k (omega arith) (omega arith);
     none = λ e. let z : ◌≡◌ {A = ℕ} 0 1 = cc in absurd (omega arith);
   }
 
-  pub hit-none : n ≤ i → FirstHit hit n Found.Nothing
+  pub hit-none : n ≤ i → FirstHit hit n None
   hit-none h = record {
     there = λ j e. let z : ◌≡◌ {A = ℕ} 0 1 = cc in absurd (omega arith);
     before = λ j k e l. let z : ◌≡◌ {A = ℕ} 0 1 = cc in absurd (omega arith);
     none = λ _ j l. p.before j (omega arith) (omega arith);
   }
 
-pub none-there : (slot : ℕ → ℕ) (hit : ℕ → Bool) {n : ℕ} → n ≡ 0 → FirstHit hit n Found.Nothing
+pub none-there : (slot : ℕ → ℕ) (hit : ℕ → Bool) {n : ℕ} → n ≡ 0 → FirstHit hit n None
 none-there slot hit {n} e = hit-none {slot = slot} {hit = hit} {n = n} {s = 0} {i = 0} (record { least = omega arith; most = omega arith; is = λ l. absurd (omega arith); before = λ j u l. absurd (omega arith) }) (omega arith)
 
 -- the first i numbers differ
@@ -177,10 +178,10 @@ pub differs_none : (same : ℕ → ℕ → Bool) (n : ℕ) → Differs same n 0
 differs_none same n = record { low = omega arith; differ = λ k j h l. absurd (omega arith) }
 
 module _ {same : ℕ → ℕ → Bool} {n i : ℕ} (d : Differs same n i) where
-  module _ (h : i < n) (f : Found) (x : FirstHit (λ j. same j i) n f) where
-    differs_next : (f : Found) → FirstHit (λ j. same j i) n f → found_before f i ≡ false → (j : ℕ) → j < i → same j i ≡ false
-    differs_next (Found.At k) y e j l = let u = ltb-false k i e in y.before k j refl (omega arith)
-    differs_next Found.Nothing y e j l = y.none refl j (omega arith)
+  module _ (h : i < n) (f : prelude.Option ℕ) (x : FirstHit (λ j. same j i) n f) where
+    differs_next : (f : prelude.Option ℕ) → FirstHit (λ j. same j i) n f → found_before f i ≡ false → (j : ℕ) → j < i → same j i ≡ false
+    differs_next (Some k) y e j l = let u = ltb-false k i e in y.before k j refl (omega arith)
+    differs_next None y e j l = y.none refl j (omega arith)
 
     pub differs_more : found_before f i ≡ false → Differs same n (i + 1)
     differs_more e = record {
@@ -188,9 +189,9 @@ module _ {same : ℕ → ℕ → Bool} {n i : ℕ} (d : Differs same n i) where
       differ = λ k j l m. elim (eq-or-ne k i) [ inl u ↦ rw u (differs_next f x e j (omega arith)) | inr u ↦ d.differ k j (omega arith) m ];
     }
 
-    differs-last : (f : Found) → FirstHit (λ j. same j i) n f → found_before f i ≡ true → (j : ℕ) × (j < i) × FirstHit (λ j. same j i) n (Found.At j)
-    differs-last (Found.At k) y e = (k, ltb-true k i e, y)
-    differs-last Found.Nothing y e = never e
+    differs-last : (f : prelude.Option ℕ) → FirstHit (λ j. same j i) n f → found_before f i ≡ true → (j : ℕ) × (j < i) × FirstHit (λ j. same j i) n (Some j)
+    differs-last (Some k) y e = (k, ltb-true k i e, y)
+    differs-last None y e = never e
 
     pub differs-again : found_before f i ≡ true → Differ same n i
     differs-again e = record { low = d.low; differ = d.differ; again = λ _. differs-last f x e }
@@ -199,7 +200,7 @@ module _ {same : ℕ → ℕ → Bool} {n i : ℕ} (d : Differs same n i) where
   differs-all h = record { low = d.low; differ = d.differ; again = λ l. absurd (omega arith) }
 
 -- the key of cell i, read from its words w
-pub hits-of : (rows : Bool) (ws : ℕ → List ℕ) (i : ℕ) {w us : List ℕ} {h n : ℕ} {f : Found} → w ≡ ws i → h ≡ get_or w 0 0 → us ≡ key_arguments rows w
+pub hits-of : (rows : Bool) (ws : ℕ → List ℕ) (i : ℕ) {w us : List ℕ} {h n : ℕ} {f : prelude.Option ℕ} → w ≡ ws i → h ≡ get_or w 0 0 → us ≡ key_arguments rows w
     → FirstHit (λ j. has_key rows (ws j) h us) n f → FirstHit (λ j. same_key rows ws j i) n f
 hits-of rows ws i {w} {us} {h} {n} {f} e p q x =
     subst (λ (v : List ℕ). FirstHit (λ j. has_key rows (ws j) (get_or v 0 0) (key_arguments rows v)) n f) e (subst (λ (v : List ℕ). FirstHit (λ j. has_key rows (ws j) (get_or w 0 0) v) n f) q (subst (λ (k : ℕ). FirstHit (λ j. has_key rows (ws j) k us) n f) p x))

@@ -1,8 +1,9 @@
 -- Chains of a table's cells by their keys: of each slot the first cell, of each cell the next one of its slot.
+use Rattle.std.specs.Prelude as prelude
+use Rattle.std.specs.Prelude.{Some, None}
 use Rattle.std.specs.Prelude.{◌≡◌, ◌⊎◌, Bool, true, false, cond, ◌&&◌, List, [], ℕ, suc, ◌+◌, ◌≤◌, ◌<◌, eqb, ltb, length, get_or, set, drop}
 use Rattle.model.specs.Cell.{no_cell, same_words, cells_of}
 use Rattle.cells.specs.declared.Fill.{Fill}
-use Rattle.cells.specs.declared.Found.{Found}
 use Rattle.index.specs.Mixing.{golden, stirred, slot_of}
 
 -- A key is a cell's first word and, of a row, its arguments.
@@ -57,18 +58,18 @@ pub record Linked (b n s i : ℕ) (T T' : List ℕ) : Type 0 where
   pub is : T' ≡ set (set T (b + n + i) (get_or T (b + s) 0)) (b + s) i
 
 -- r is the first number below n that hits.
-pub record FirstHit (hit : ℕ → Bool) (n : ℕ) (r : Found) : Type 0 where
-  pub there : (i : ℕ) → r ≡ Found.At i → (i < n) × (hit i ≡ true)
-  pub before : (i j : ℕ) → r ≡ Found.At i → j < i → hit j ≡ false
-  pub none : r ≡ Found.Nothing → (j : ℕ) → j < n → hit j ≡ false
+pub record FirstHit (hit : ℕ → Bool) (n : ℕ) (r : prelude.Option ℕ) : Type 0 where
+  pub there : (i : ℕ) → r ≡ Some i → (i < n) × (hit i ≡ true)
+  pub before : (i j : ℕ) → r ≡ Some i → j < i → hit j ≡ false
+  pub none : r ≡ None → (j : ℕ) → j < n → hit j ≡ false
 
 -- What was found stands before place i.
-abbrev pub found_before : Found → ℕ → Bool
-found_before (Found.At j) i = ltb j i
-found_before Found.Nothing i = false
+abbrev pub found_before : prelude.Option ℕ → ℕ → Bool
+found_before (Some j) i = ltb j i
+found_before None i = false
 
 -- The first r of n numbers differ, by a test of two, from those before them; the next one, if there is one, does not.
 pub record Differ (same : ℕ → ℕ → Bool) (n r : ℕ) : Type 0 where
   pub low : r ≤ n
   pub differ : (i j : ℕ) → i < r → j < i → same j i ≡ false
-  pub again : r < n → (j : ℕ) × (j < r) × FirstHit (λ i. same i r) n (Found.At j)
+  pub again : r < n → (j : ℕ) × (j < r) × FirstHit (λ i. same i r) n (Some j)

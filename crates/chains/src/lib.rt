@@ -7,7 +7,7 @@ ghost use Rattle.cells.specs.Table.{Formed};
 ghost use Rattle.chains.specs.Chains.{key_arguments, has_key, key_slot, words_from, slot_at, same_key, Chained, Within, Emptied, Linked, FirstHit, found_before, Differ};
 
 use cell_tests::words::{at, rest};
-use cells::{Fill, Found, same_words, wide, words};
+use cells::{Fill, same_words, wide, words};
 use index::{home, stir_last};
 
 // The words of a key behind its first: a row's arguments, else none.
@@ -108,34 +108,34 @@ pub fn find(
     rows: bool,
     head: u32,
     args: &[u32],
-) -> Found
+) -> Option<usize>
     requires formed { Formed kinds.now ends.now pool.now fill }
     requires n_bound { first + n ≤ fill.cells }
     requires chained { Chained (slot_at x n rows (words_from kinds.now ends.now pool.now fill first)) n b 0 table.now }
     ensures { FirstHit (λ i. has_key rows (words_from kinds.now ends.now pool.now fill first i) head args.now) n result }
 {
     if n == 0 {
-        return Found::Nothing;
+        return None;
     }
     let s = slot_of(x, n, head, args);
     let mut i = wide(table[b + s]);
     while i < n {
         let ws = words(kinds, ends, pool, fill, first + i);
         if has_key(rows, ws, head, args) {
-            return Found::At(i);
+            return Some(i);
         }
         i = wide(table[b + n + i]);
     }
-    Found::Nothing
+    None
 }
 
 // What was found stands before place i.
-fn found_before(f: Found, i: usize) -> bool
+fn found_before(f: Option<usize>, i: usize) -> bool
     ensures { result ≡ found_before f i }
 {
     match f {
-        Found::At(j) => j < i,
-        Found::Nothing => false,
+        Some(j) => j < i,
+        None => false,
     }
 }
 

@@ -1,4 +1,6 @@
 -- Side conditions: a side's value, the comparison of two, one side after the other.
+use Rattle.std.specs.Prelude as prelude
+use Rattle.std.specs.Prelude.{Some, None}
 use mathlib.Core.Path.{◌≡◌, refl, sym, ap, ap₂, subst, ◌∙◌}
 use mathlib.Core.Bool.{Bool, true, false}
 use mathlib.Core.List.{List, [], ◌∷◌}
@@ -18,44 +20,43 @@ use Rattle.outcome.specs.Does.{passed, outcome_of}
 use Rattle.outcome.specs.declared.Refusal.{Refusal}
 use Rattle.outcome.proofs.Laws.{does-map}
 use Rattle.program.specs.Ready.{option_of}
-use Rattle.program.specs.declared.Looked.{Looked}
 use Rattle.evaluate.specs.Value.{value_of}
 use Rattle.evaluate.specs.Evaluation.{Checks}
 use Rattle.evaluate.proofs.Checking.{checks-then, checks-stop, checks-here, checks-as, term-then, value-elsewhere}
 use Rattle.conditions.specs.Bound.{bound_over}
-use Rattle.conditions.specs.declared.Binds.{Binds}
+use Rattle.conditions.specs.declared.Bound as code
 use Rattle.conditions.specs.declared.Side.{Side}
 use Rattle.conditions.specs.declared.Condition.{Condition}
 
 -- a variable that is bound, or none
-module _ (rule i t : ℕ) {v : Looked} (σ : List Binding) (s : List Term) where
-  pub output-bound : {x : ℕ} → v ≡ Looked.Some x → ok (record { name = x; term = t } ∷ σ) s ≡ bind_output rule i σ (option_of v) t s
-  output-bound e = ap (λ (w : Looked). bind_output rule i σ (option_of w) t s) (sym e)
+module _ (rule i t : ℕ) {v : prelude.Option ℕ} (σ : List Binding) (s : List Term) where
+  pub output-bound : {x : ℕ} → v ≡ Some x → ok (record { name = x; term = t } ∷ σ) s ≡ bind_output rule i σ (option_of v) t s
+  output-bound e = ap (λ (w : prelude.Option ℕ). bind_output rule i σ (option_of w) t s) (sym e)
 
-  pub output-none : v ≡ Looked.None → refused (record { number = 48; fields = rule ∷ i ∷ [] }) s ≡ bind_output rule i σ (option_of v) t s
-  output-none e = ap (λ (w : Looked). bind_output rule i σ (option_of w) t s) (sym e)
+  pub output-none : v ≡ None → refused (record { number = 48; fields = rule ∷ i ∷ [] }) s ≡ bind_output rule i σ (option_of v) t s
+  output-none e = ap (λ (w : prelude.Option ℕ). bind_output rule i σ (option_of w) t s) (sym e)
 
 -- two sides compared, by what has a value
 module _ (rule i : ℕ) (σ : List Binding) (lv rv : Option ℕ) (s : List Term) where
-  abbrev compared : Looked → Looked → Outcome (List Binding)
+  abbrev compared : prelude.Option ℕ → prelude.Option ℕ → Outcome (List Binding)
   compared a b = compare_sides rule i σ lv (option_of a) rv (option_of b) s
 
-  pub compared-none : {b : Looked} → b ≡ Looked.None → refused (record { number = 48; fields = rule ∷ i ∷ [] }) s ≡ compare_sides rule i σ lv none rv (option_of b) s
+  pub compared-none : {b : prelude.Option ℕ} → b ≡ None → refused (record { number = 48; fields = rule ∷ i ∷ [] }) s ≡ compare_sides rule i σ lv none rv (option_of b) s
   unfolding compare_sides
-  compared-none e = ap (compared Looked.None) (sym e)
+  compared-none e = ap (compared None) (sym e)
 
-  pub compared-right : {b : Looked} {y : ℕ} → b ≡ Looked.Some y → bind_output rule i σ lv y s ≡ compare_sides rule i σ lv none rv (option_of b) s
+  pub compared-right : {b : prelude.Option ℕ} {y : ℕ} → b ≡ Some y → bind_output rule i σ lv y s ≡ compare_sides rule i σ lv none rv (option_of b) s
   unfolding compare_sides
-  compared-right e = ap (compared Looked.None) (sym e)
+  compared-right e = ap (compared None) (sym e)
 
-  pub compared-first : {a : Looked} (b : Looked) → a ≡ Looked.None → compare_sides rule i σ lv none rv (option_of b) s ≡ compare_sides rule i σ lv (option_of a) rv (option_of b) s
-  compared-first b e = ap (λ (x : Looked). compared x b) (sym e)
+  pub compared-first : {a : prelude.Option ℕ} (b : prelude.Option ℕ) → a ≡ None → compare_sides rule i σ lv none rv (option_of b) s ≡ compare_sides rule i σ lv (option_of a) rv (option_of b) s
+  compared-first b e = ap (λ (x : prelude.Option ℕ). compared x b) (sym e)
 
-  pub compared-left : {a b : Looked} {x : ℕ} → a ≡ Looked.Some x → b ≡ Looked.None → bind_output rule i σ rv x s ≡ compare_sides rule i σ lv (option_of a) rv (option_of b) s
+  pub compared-left : {a b : prelude.Option ℕ} {x : ℕ} → a ≡ Some x → b ≡ None → bind_output rule i σ rv x s ≡ compare_sides rule i σ lv (option_of a) rv (option_of b) s
   unfolding compare_sides
   compared-left e f = ap₂ compared (sym e) (sym f)
 
-  pub compared-both : {a b : Looked} {x y : ℕ} → a ≡ Looked.Some x → b ≡ Looked.Some y → compare_sides rule i σ lv (some x) rv (some y) s ≡ compare_sides rule i σ lv (option_of a) rv (option_of b) s
+  pub compared-both : {a b : prelude.Option ℕ} {x y : ℕ} → a ≡ Some x → b ≡ Some y → compare_sides rule i σ lv (some x) rv (some y) s ≡ compare_sides rule i σ lv (option_of a) rv (option_of b) s
   compared-both e f = ap₂ compared (sym e) (sym f)
 
   compared-by : (x y : ℕ) (t : Bool) → eqb x y ≡ t → and_then (check_that t 42 (rule ∷ i ∷ x ∷ y ∷ []) s) (λ _. pure σ) ≡ compare_sides rule i σ lv (some x) rv (some y) s
@@ -71,17 +72,17 @@ module _ (rule i : ℕ) (σ : List Binding) (lv rv : Option ℕ) (s : List Term)
   compared-differ x y h = compared-by x y false (ne_eqb x y h)
 
 -- a side's value
-module _ {v : Looked} (e : Expr) (is : option_of v ≡ variable_of (head_of e)) (room : Room) (prog : Program) (rule : ℕ) (σ : List Binding) where
-  pub side-bound : {x : ℕ} {o : Option ℕ} (s : List Term) → v ≡ Looked.Some x → o ≡ lookup σ x → ok o s ≡ eval_side room prog rule σ e s
+module _ {v : prelude.Option ℕ} (e : Expr) (is : option_of v ≡ variable_of (head_of e)) (room : Room) (prog : Program) (rule : ℕ) (σ : List Binding) where
+  pub side-bound : {x : ℕ} {o : Option ℕ} (s : List Term) → v ≡ Some x → o ≡ lookup σ x → ok o s ≡ eval_side room prog rule σ e s
   side-bound s d l = ap {B = Outcome (Option ℕ)} (λ (p : Option ℕ). ok p s) l ∙ ap (λ (p : Option ℕ). eval_side_by room prog rule σ e p s) (ap option_of (sym d) ∙ is)
 
-  side-value : (s : List Term) → v ≡ Looked.None → and_then (value_of false room prog rule σ e s) (λ t. pure (some t)) ≡ eval_side room prog rule σ e s
+  side-value : (s : List Term) → v ≡ None → and_then (value_of false room prog rule σ e s) (λ t. pure (some t)) ≡ eval_side room prog rule σ e s
   side-value s d =
       ap (λ (o : Outcome ℕ). and_then o (λ t. pure (some t))) (value-elsewhere room prog rule σ e s)
       ∙ sym (term-then (eval_expr room prog rule σ e s) (λ t. pure (some t)))
       ∙ ap (λ (p : Option ℕ). eval_side_by room prog rule σ e p s) (ap option_of (sym d) ∙ is)
 
-  pub side-checks : {K E P I : List ℕ} {f : Fill} {K₁ E₁ P₁ I₁ : List ℕ} {f₁ : Fill} {r : Refusal} {t : ℕ} {m : List ℕ} → v ≡ Looked.None
+  pub side-checks : {K E P I : List ℕ} {f : Fill} {K₁ E₁ P₁ I₁ : List ℕ} {f₁ : Fill} {r : Refusal} {t : ℕ} {m : List ℕ} → v ≡ None
       → Checks K E P I f K₁ E₁ P₁ I₁ f₁ r t m (value_of false room prog rule σ e (terms_in K E P f)) → Checks K E P I f K₁ E₁ P₁ I₁ f₁ r (some t) m (eval_side room prog rule σ e (terms_in K E P f))
   side-checks {K} {E} {P} {I} {f} {t = t} d c = checks-as (side-value (terms_in K E P f) d) (record { does = does-map some (some t) c.does (λ _. refl); past = c.past })
 
@@ -97,19 +98,19 @@ module _ (prog : Program) (rule i : ℕ) (σ : List Binding) (strict : Bool) (l 
   after room a s = and_then (eval_side room prog rule σ r s) (both a)
 
   module _ {K E P I : List ℕ} {f : Fill} where
-    refused_as : {K' E' P' I' : List ℕ} {m : List ℕ} (a : Side) {c : Condition} → c ≡ record { refusal = a.refusal; binds = Binds.Nothing; fill = a.fill }
+    refused_as : {K' E' P' I' : List ℕ} {m : List ℕ} (a : Side) {c : Condition} → c ≡ record { refusal = a.refusal; binds = None; fill = a.fill }
         → Checks K E P I f K' E' P' I' a.fill a.refusal σ m (whole K E P f) → Checks K E P I f K' E' P' I' c.fill c.refusal (bound_over c.binds σ) m (whole K E P f)
     refused_as {K'} {E'} {P'} {I'} {m} a e d = subst (λ (x : Condition). Checks K E P I f K' E' P' I' x.fill x.refusal (bound_over x.binds σ) m (whole K E P f)) (sym e) d
 
     module _ {K₁ E₁ P₁ I₁ m₁ : List ℕ} (a : Side) (A : Checks K E P I f K₁ E₁ P₁ I₁ a.fill a.refusal (option_of a.value) m₁ (eval_side (room_of K P) prog rule σ l (terms_in K E P f))) where
-      pub left-refused : {c : Condition} → (a.refusal.number ≡ 0 → ⊥) → c ≡ record { refusal = a.refusal; binds = Binds.Nothing; fill = a.fill }
+      pub left-refused : {c : Condition} → (a.refusal.number ≡ 0 → ⊥) → c ≡ record { refusal = a.refusal; binds = None; fill = a.fill }
           → Checks K E P I f K₁ E₁ P₁ I₁ c.fill c.refusal (bound_over c.binds σ) m₁ (whole K E P f)
       unfolding check_side_condition
       left-refused h e = refused_as a e (checks-stop σ (after (room_of K P)) A h)
 
       module _ (q : a.refusal.number ≡ 0) {K₂ E₂ P₂ I₂ m₂ : List ℕ} (b : Side)
           (B : Checks K₁ E₁ P₁ I₁ a.fill K₂ E₂ P₂ I₂ b.fill b.refusal (option_of b.value) m₂ (eval_side (room_of K₁ P₁) prog rule σ r (terms_in K₁ E₁ P₁ a.fill))) where
-        pub right-refused : {c : Condition} → (b.refusal.number ≡ 0 → ⊥) → c ≡ record { refusal = b.refusal; binds = Binds.Nothing; fill = b.fill }
+        pub right-refused : {c : Condition} → (b.refusal.number ≡ 0 → ⊥) → c ≡ record { refusal = b.refusal; binds = None; fill = b.fill }
             → Checks K E P I f K₂ E₂ P₂ I₂ c.fill c.refusal (bound_over c.binds σ) m₂ (whole K E P f)
         unfolding check_side_condition
         right-refused h e = refused_as b e (checks-then after A q (checks-stop σ (both (option_of a.value)) B h))
@@ -139,7 +140,7 @@ module _ (prog : Program) (rule : ℕ) (σ : List Binding) (i : ℕ) (e : Expr) 
   -- in strict mode it is evaluated as a side is, and binds nothing
   pub bare-evaluated : {K₁ E₁ P₁ I₁ m₁ : List ℕ} {strict : Bool} (a : Side) {c : Condition} → strict ≡ true
       → Checks K E P I f K₁ E₁ P₁ I₁ a.fill a.refusal (option_of a.value) m₁ (eval_side (room_of K P) prog rule σ e (terms_in K E P f))
-      → c ≡ record { refusal = a.refusal; binds = Binds.Nothing; fill = a.fill }
+      → c ≡ record { refusal = a.refusal; binds = None; fill = a.fill }
       → Checks K E P I f K₁ E₁ P₁ I₁ c.fill c.refusal (bound_over c.binds σ) m₁ (check_side_condition (room_of K P) prog rule σ strict (bare i e) (terms_in K E P f))
   unfolding check_side_condition
   bare-evaluated {K₁} {E₁} {P₁} {I₁} {m₁} a is A h = rw (is, h) (record { does = does-map (λ _. σ) σ A.does (λ _. refl); past = A.past })

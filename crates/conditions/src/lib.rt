@@ -16,7 +16,6 @@ ghost use Rattle.program.specs.Read.{expr_for, fact_for};
 ghost use Rattle.evaluate.specs.Value.{bindings_in};
 ghost use Rattle.evaluate.specs.Evaluation.{Checks};
 ghost use Rattle.conditions.specs.Bound.{bound_over};
-ghost use Rattle.conditions.specs.declared.Binds as binds;
 
 use cells::wide;
 use decode::Fact;
@@ -24,29 +23,28 @@ use evaluate::{evaluate, lookup};
 use index::Fill;
 use normal_form::variable_of;
 use outcome::Refusal;
-use program::Looked;
 use program::read::fact_at;
 
 // The value of a condition's side, if it has one.
 #[derive(Clone, Copy)]
 pub struct Side {
     pub refusal: Refusal,
-    pub value: Looked,
+    pub value: Option<u32>,
     pub fill: Fill,
 }
 
-// What a condition binds: nothing, or a name to a term.
+// What a condition may bind: a name to a term.
 #[derive(Clone, Copy)]
-pub enum Binds {
-    Nothing,
-    Pair(u32, u32),
+pub struct Bound {
+    pub name: u32,
+    pub term: u32,
 }
 
 // What a condition gives.
 #[derive(Clone, Copy)]
 pub struct Condition {
     pub refusal: Refusal,
-    pub binds: Binds,
+    pub binds: Option<Bound>,
     pub fill: Fill,
 }
 
@@ -75,7 +73,7 @@ fn eval_side(
     ensures { Checks skinds.old sends.old spool.old index.old fill skinds.new sends.new spool.new index.new result.fill result.refusal (option_of result.value) memo.new (model.eval_side (room_of skinds.old spool.old) (program_for job.now) rule (bindings_in bound.now pairs.now globals.now) (expr_for job.now e) (terms_in skinds.old sends.old spool.old fill)) }
 {
     let variable = variable_of(job, e);
-    if let Looked::Some(x) = variable {
+    if let Some(x) = variable {
         let value = lookup(bound, pairs, globals, x);
         return Side {
             refusal: Refusal {
@@ -94,52 +92,52 @@ fn eval_side(
     let have = r.fill;
     Side {
         refusal,
-        value: Looked::Some(r.value),
+        value: Some(r.value),
         fill: have,
     }
 }
 
 // A variable without a value is bound to the other side's.
-fn bind_output(rule: u32, i: u32, variable: Looked, t: u32, fill: Fill) -> Condition
+fn bind_output(rule: u32, i: u32, variable: Option<u32>, t: u32, fill: Fill) -> Condition
     ensures fill_value { result.fill ≡ fill }
     ensures s_value { (σ : List Binding) (s : List Term) → outcome_of result.refusal (bound_over result.binds σ) s ≡ model.bind_output rule i σ (option_of variable) t s }
 {
     match variable {
-        Looked::Some(x) => Condition {
+        Some(x) => Condition {
             refusal: Refusal {
                 number: 0,
                 count: 0,
                 fields: [0; 6],
             },
-            binds: Binds::Pair(x, t),
+            binds: Some(Bound { name: x, term: t }),
             fill,
         },
-        Looked::None => Condition {
+        None => Condition {
             refusal: Refusal {
                 number: 48,
                 count: 2,
                 fields: [rule, i, 0, 0, 0, 0],
             },
-            binds: Binds::Nothing,
+            binds: None,
             fill,
         },
     }
 }
 
 // The two sides, where the left one has no value.
-fn compare_right(rule: u32, i: u32, left: Looked, b: Looked, fill: Fill) -> Condition
+fn compare_right(rule: u32, i: u32, left: Option<u32>, b: Option<u32>, fill: Fill) -> Condition
     ensures fill_value { result.fill ≡ fill }
     ensures s_value { (σ : List Binding) (rv : Option ℕ) (s : List Term) → outcome_of result.refusal (bound_over result.binds σ) s ≡ model.compare_sides rule i σ (option_of left) none rv (option_of b) s }
 {
     match b {
-        Looked::Some(y) => bind_output(rule, i, left, y, fill),
-        Looked::None => Condition {
+        Some(y) => bind_output(rule, i, left, y, fill),
+        None => Condition {
             refusal: Refusal {
                 number: 48,
                 count: 2,
                 fields: [rule, i, 0, 0, 0, 0],
             },
-            binds: Binds::Nothing,
+            binds: None,
             fill,
         },
     }
@@ -157,7 +155,7 @@ fn compare_values(rule: u32, i: u32, x: u32, y: u32, fill: Fill) -> Condition
                 count: 0,
                 fields: [0; 6],
             },
-            binds: Binds::Nothing,
+            binds: None,
             fill,
         };
     }
@@ -167,7 +165,7 @@ fn compare_values(rule: u32, i: u32, x: u32, y: u32, fill: Fill) -> Condition
             count: 4,
             fields: [rule, i, x, y, 0, 0],
         },
-        binds: Binds::Nothing,
+        binds: None,
         fill,
     }
 }
@@ -176,19 +174,19 @@ fn compare_values(rule: u32, i: u32, x: u32, y: u32, fill: Fill) -> Condition
 fn compare_sides(
     rule: u32,
     i: u32,
-    left: Looked,
-    a: Looked,
-    right: Looked,
-    b: Looked,
+    left: Option<u32>,
+    a: Option<u32>,
+    right: Option<u32>,
+    b: Option<u32>,
     fill: Fill,
 ) -> Condition
     ensures fill_value { result.fill ≡ fill }
     ensures s_value { (σ : List Binding) (s : List Term) → outcome_of result.refusal (bound_over result.binds σ) s ≡ model.compare_sides rule i σ (option_of left) (option_of a) (option_of right) (option_of b) s }
 {
-    let Looked::Some(x) = a else {
+    let Some(x) = a else {
         return compare_right(rule, i, left, b, fill);
     };
-    let Looked::Some(y) = b else {
+    let Some(y) = b else {
         return bind_output(rule, i, right, x, fill);
     };
     compare_values(rule, i, x, y, fill)
@@ -196,10 +194,10 @@ fn compare_sides(
 
 // A condition that binds nothing, after its side.
 fn binds_nothing(s: Side) -> Condition
-    ensures { result ≡ record { refusal = s.refusal; binds = binds.Binds.Nothing; fill = s.fill } }
+    ensures { result ≡ record { refusal = s.refusal; binds = None; fill = s.fill } }
 {
     let refusal = s.refusal;
-    let binds = Binds::Nothing;
+    let binds = None;
     let fill = s.fill;
     Condition {
         refusal,
@@ -291,7 +289,7 @@ fn check_bare_condition(
             count: 0,
             fields: [0; 6],
         },
-        binds: Binds::Nothing,
+        binds: None,
         fill,
     }
 }

@@ -1,4 +1,6 @@
 -- The global actions one after another, and the context that they leave.
+use Rattle.std.specs.Prelude as prelude
+use Rattle.std.specs.Prelude.{Some, None}
 use mathlib.Core.Path.{◌≡◌, refl, sym, ap, subst, ◌∙◌}
 use mathlib.Core.Bool.{Bool, true, ◌||◌}
 use mathlib.Core.List.{List, [], ◌∷◌, ◌++◌, append-nil}
@@ -29,7 +31,6 @@ use Rattle.termdag.proofs.Laws.{terms-length}
 use Rattle.load.specs.Held.{Limits}
 use Rattle.program.specs.Ready.{program_for, option_of}
 use Rattle.program.specs.Read.{action_for}
-use Rattle.program.specs.declared.Looked.{Looked}
 use Rattle.evaluate.specs.Evaluation.{Sane}
 use Rattle.evaluate.specs.Value.{bindings_in}
 use Rattle.actions.specs.Acting.{Standing, Acts, Pushed, effect_bindings}
@@ -254,19 +255,19 @@ module _ (J F : List ℕ) where
     }
 
 -- no rule name twice
-once : (prog : Program) (room : Room) (s : List Term) {l : Looked} → l ≡ Looked.None → option_of l ≡ duplicate_rule_name [] prog.rules
+once : (prog : Program) (room : Room) (s : List Term) {l : prelude.Option ℕ} → l ≡ None → option_of l ≡ duplicate_rule_name [] prog.rules
     → process_actions room prog name_global_actions prog.globals (start_context []) s ≡ new_context room prog s
 unfolding new_context
 once prog room s l q = ap (λ o. and_then (no_duplicate o s) (λ _. process_actions room prog name_global_actions prog.globals (start_context []))) (ap option_of (sym l) ∙ q)
 
-twice : (prog : Program) (room : Room) (s : List Term) {l : Looked} (name : ℕ) → l ≡ Looked.Some name → option_of l ≡ duplicate_rule_name [] prog.rules
+twice : (prog : Program) (room : Room) (s : List Term) {l : prelude.Option ℕ} (name : ℕ) → l ≡ Some name → option_of l ≡ duplicate_rule_name [] prog.rules
     → refused (record { number = 44; fields = name ∷ [] }) s ≡ new_context room prog s
 unfolding new_context
 twice prog room s name l q = ap (λ o. and_then (no_duplicate o s) (λ _. process_actions room prog name_global_actions prog.globals (start_context []))) (ap option_of (sym l) ∙ q)
 
 -- the context: refused, or with its marks closed
-module _ {prog : Program} {k e p ix : List ℕ} {f : Fill} {l : Looked} (q : option_of l ≡ duplicate_rule_name [] prog.rules) where
-  pub context-twice : {name : ℕ} {memo m T U : List ℕ} → Indexed k e p ix f → l ≡ Looked.Some name
+module _ {prog : Program} {k e p ix : List ℕ} {f : Fill} {l : prelude.Option ℕ} (q : option_of l ≡ duplicate_rule_name [] prog.rules) where
+  pub context-twice : {name : ℕ} {memo m T U : List ℕ} → Indexed k e p ix f → l ≡ Some name
       → Context prog k e p ix f k e p ix (globals (refusal 44 1 (name ∷ 0 ∷ 0 ∷ 0 ∷ 0 ∷ 0 ∷ [])) 0 0 f) memo m T U
   context-twice {name} S n = record {
     context = start_context [];
@@ -283,7 +284,7 @@ module _ {prog : Program} {k e p ix : List ℕ} {f : Fill} {l : Looked} (q : opt
       never : ◌≡◌ {A = ℕ} 44 0 → ⊥
       never z = omega arith
 
-  module _ {k₁ e₁ p₁ ix₁ : List ℕ} {r : Globals} {memo₁ m₁ T₁ U₁ : List ℕ} (n : l ≡ Looked.None) (C : Collected prog k e p ix f k₁ e₁ p₁ ix₁ r memo₁ m₁ T₁ U₁) where
+  module _ {k₁ e₁ p₁ ix₁ : List ℕ} {r : Globals} {memo₁ m₁ T₁ U₁ : List ℕ} (n : l ≡ None) (C : Collected prog k e p ix f k₁ e₁ p₁ ix₁ r memo₁ m₁ T₁ U₁) where
     does-new : Does k e p ix f k₁ e₁ p₁ ix₁ r.fill r.refusal C.context (new_context (room_of k p) prog (terms_in k e p f))
     does-new = record { outcome = C.does.outcome ∙ once prog (room_of k p) (terms_in k e p f) n q; grown = C.does.grown }
 

@@ -20,7 +20,6 @@ use index::Fill;
 use lookups::duplicate_rule_name;
 use marks::{clear, close, is_marked};
 use outcome::Refusal;
-use program::Looked;
 use program::job::globals;
 
 // What the global actions leave: where the bindings start in their table, the words of unions in theirs, and the fill of the store.
@@ -212,7 +211,7 @@ pub fn new_context(
     ensures { Context (program_for job.now) skinds.old sends.old spool.old index.old fill skinds.new sends.new spool.new index.new result memo.new marks.new table.new unions.new }
 {
     let duplicate = duplicate_rule_name(job, found);
-    if let Looked::Some(name) = duplicate {
+    if let Some(name) = duplicate {
         return Globals {
             refusal: Refusal {
                 number: 44,

@@ -1,4 +1,6 @@
 -- What the declared types say, as the definitions have it: expressions, facts and actions are looked up by their numbers.
+use Rattle.std.specs.Prelude as prelude
+use Rattle.std.specs.Prelude.{Some, None}
 use Rattle.std.specs.Prelude.{◌≡◌, List, ℕ, take, drop}
 use Rattle.std.proofs.Math.Option.{Option, none, some}
 use Rattle.model.specs.Cell.{Cell}
@@ -10,7 +12,6 @@ use Rattle.decode.specs.declared.Term.{Term}
 use Rattle.decode.specs.declared.Head.{Head}
 use Rattle.decode.specs.declared.Fact.{Fact}
 use Rattle.decode.specs.declared.Action.{Action}
-use Rattle.decode.specs.declared.Merge.{Merge}
 use Rattle.decode.specs.declared.Function.{Function}
 use Rattle.decode.specs.declared.Primitive.{Primitive}
 use Rattle.decode.specs.declared.Row.{Row}
@@ -55,9 +56,9 @@ module _ (expr : ℕ → program.Expr) where
   action_of Action.Idle = program.idle
 
   -- A function's merge expression.
-  abbrev pub merge_of : Merge → Option program.Expr
-  merge_of Merge.Nothing = none
-  merge_of (Merge.Expr e) = some (expr e)
+  abbrev pub merge_of : prelude.Option ℕ → Option program.Expr
+  merge_of None = none
+  merge_of (Some e) = some (expr e)
 
   -- A function.
   abbrev pub function_of : Function → program.Function

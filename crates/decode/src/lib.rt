@@ -67,18 +67,11 @@ pub enum Action {
     Idle,
 }
 
-// A function's merge: none, or an expression.
-#[derive(Clone, Copy)]
-pub enum Merge {
-    Nothing,
-    Expr(u32),
-}
-
-// A function: its name and its merge.
+// A function: its name, and its merge, if it has one, by the expression's number.
 #[derive(Clone, Copy)]
 pub struct Function {
     pub name: u32,
-    pub merge: Merge,
+    pub merge: Option<u32>,
 }
 
 // A primitive: whether it has a validator, and whether its output is a container sort. The validator of kinds 4 to 8 computes.
@@ -241,11 +234,11 @@ pub fn read_function(kind: u32, words: &[u32]) -> Function
     match kind {
         0 => Function {
             name: words[0],
-            merge: Merge::Nothing,
+            merge: None,
         },
         _ => Function {
             name: words[0],
-            merge: Merge::Expr(words[1]),
+            merge: Some(words[1]),
         },
     }
 }

@@ -1,4 +1,6 @@
 -- The evaluator's turns: an expression that is noted, an argument evaluated, known, refused, all of them evaluated.
+use Rattle.std.specs.Prelude as prelude
+use Rattle.std.specs.Prelude.{Some}
 use mathlib.Core.Path.{◌≡◌, refl, sym, ap, subst, subst⁻¹, ◌∙◌}
 use mathlib.Core.Logic.{◌⊎◌, inl, inr}
 use mathlib.Core.Bool.{Bool, true, false, true≢false}
@@ -31,7 +33,6 @@ use Rattle.model.proofs.Fuel.{expr-node}
 use Rattle.model.proofs.Valid.{expressions-lower}
 use Rattle.decode.specs.View.{cell}
 use Rattle.decode.specs.declared.Head as view
-use Rattle.program.specs.declared.Looked.{Looked}
 use Rattle.program.specs.Ready.{tables_for, Ready, program_for}
 use Rattle.program.specs.Read.{expr_for, arguments_for, head_for}
 use Rattle.evaluate.specs.Value.{eval_for, value_for, head_term, eval_term, eval_terms, Reaches, here, down}
@@ -62,7 +63,7 @@ at_head fact room prog rule σ ts s {K = K} {E = E} {P = P} {I = I} {f = f} {K' 
     subst (λ (x : Head). Does K E P I f K' E' P' I' f' r a (head_term fact room prog rule σ x ts s)) e d
 
 -- a value that needs no new term
-pub found-does : (K E P I : List ℕ) (f : Fill) {r : Looked} {t : ℕ} {o : Outcome ℕ} → Indexed K E P I f → Finds r o (terms_in K E P f) → r ≡ Looked.Some t → Does K E P I f K E P I f passed t o
+pub found-does : (K E P I : List ℕ) (f : Fill) {r : prelude.Option ℕ} {t : ℕ} {o : Outcome ℕ} → Indexed K E P I f → Finds r o (terms_in K E P f) → r ≡ Some t → Does K E P I f K E P I f passed t o
 found-does K E P I f {t = t} S F q = does-here S (sym (F.value t q))
 
 module _ (fact : Bool) (prog : Program) (rule : ℕ) (σ : List Binding) (n : ℕ) (args : ℕ → List ℕ) (head : ℕ → Head) (expr : ℕ → Expr) where
@@ -220,8 +221,8 @@ module _ (fact : Bool) (prog : Program) (rule : ℕ) (σ : List Binding) (n : �
       })
 
   -- an expression whose value needs no evaluation
-  pub knows : {e : ℕ} {K E P I : List ℕ} {f : Fill} {m : List ℕ} {r : Looked} {m' : List ℕ} {t : ℕ} → e < n → expr e ≡ node e (head e) (arguments_by expr (args e)) → ((x : ℕ) → variable x ≡ head e → args e ≡ [])
-      → Indexed K E P I f → Memo args (eval (room_of K P)) n (terms_in K E P f) m → Knows head σ e m r m' → r ≡ Looked.Some t
+  pub knows : {e : ℕ} {K E P I : List ℕ} {f : Fill} {m : List ℕ} {r : prelude.Option ℕ} {m' : List ℕ} {t : ℕ} → e < n → expr e ≡ node e (head e) (arguments_by expr (args e)) → ((x : ℕ) → variable x ≡ head e → args e ≡ [])
+      → Indexed K E P I f → Memo args (eval (room_of K P)) n (terms_in K E P f) m → Knows head σ e m r m' → r ≡ Some t
       → Evaluates args eval n e K E P I f m K E P I (record { refusal = passed; value = t; fill = f }) m'
   knows {e} {K} {E} {P} {I} {f} {m} {r} {m'} {t} h d a S M (noted p q g) z =
       let y : t ≡ value_at m e = cc in
@@ -238,9 +239,9 @@ module _ (fact : Bool) (prog : Program) (rule : ℕ) (σ : List Binding) (n : �
 
   -- the next argument: its value is known, or nothing changed
   module _ {e : ℕ} {xs K₀ E₀ P₀ I₀ : List ℕ} {f₀ : Fill} {m₀ K E P I : List ℕ} {f : Fill} {m vals : List ℕ} {i : ℕ} (T : Turn e xs K₀ E₀ P₀ I₀ f₀ m₀ K E P I f m vals i)
-      {r : Looked} {m' : List ℕ} (w : Knows head σ (get_or xs i 0) m r m') where
+      {r : prelude.Option ℕ} {m' : List ℕ} (w : Knows head σ (get_or xs i 0) m r m') where
     pub turn-known : {t : ℕ} → i < length xs → xs ≡ args e → length xs ≤ 16 → ((j : ℕ) → j < length xs → get_or xs j 0 < n) → ((a : ℕ) → expr a ≡ node a (head a) (arguments_by expr (args a)))
-        → ((a x : ℕ) → variable x ≡ head a → args a ≡ []) → length m' ≡ length m → r ≡ Looked.Some t → Turn e xs K₀ E₀ P₀ I₀ f₀ m₀ K E P I f m' (set vals i t) (i + 1)
+        → ((a x : ℕ) → variable x ≡ head a → args a ≡ []) → length m' ≡ length m → r ≡ Some t → Turn e xs K₀ E₀ P₀ I₀ f₀ m₀ K E P I f m' (set vals i t) (i + 1)
     turn-known h q few low d a l z = turns T h (knows (low i h) (d (get_or xs i 0)) (a (get_or xs i 0)) T.run.grown.indexed (next-memo T) w z) q few low l refl
 
 -- an expression of an admitted job is its head over its arguments

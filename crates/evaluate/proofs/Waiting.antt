@@ -1,4 +1,6 @@
 -- Expressions that wait for the value of an argument: the evaluator's way down to it, and back.
+use Rattle.std.specs.Prelude as prelude
+use Rattle.std.specs.Prelude.{Some, None}
 use mathlib.Core.Path.{◌≡◌, refl, sym, ap, subst, subst⁻¹, ◌∙◌}
 use mathlib.Core.Logic.{◌⊎◌, inl, inr}
 use mathlib.Core.Bool.{Bool, true, false, cond, true≢false}
@@ -22,7 +24,6 @@ use Rattle.memo.proofs.Laws.{note-length, note-other, note-value-other, put-leng
 use Rattle.outcome.specs.Does.{outcome_of, Grown, Does}
 use Rattle.outcome.specs.declared.Checked.{Checked}
 use Rattle.outcome.proofs.Laws.{ok_of, refused-of, grown-same, grown-then, room-same}
-use Rattle.program.specs.declared.Looked.{Looked}
 use Rattle.evaluate.specs.Value.{eval_term, head_term, Reaches, here, down}
 use Rattle.evaluate.specs.Evaluation.{Memo, Knows, noted, bound, unknown, KnowsFirst, none, more, Evaluates}
 use Rattle.evaluate.proofs.Collecting.{rest, rest-value, rest-refused, run-done}
@@ -88,12 +89,12 @@ weight-less n u (suc v) h = let r = weight-same n u v (le_of_suc-le-suc h) in om
 
 -- what is known without an evaluation
 module _ {head : ℕ → Head} {σ : List Binding} where
-  pub knows-length : {e : ℕ} {m : List ℕ} {r : Looked} {m' : List ℕ} → Knows head σ e m r m' → length m' ≡ length m
+  pub knows-length : {e : ℕ} {m : List ℕ} {r : prelude.Option ℕ} {m' : List ℕ} → Knows head σ e m r m' → length m' ≡ length m
   knows-length (noted p q g) = ap length g
   knows-length {e} {m} (bound x t p q r g) = ap length g ∙ note-length m e t
   knows-length (unknown u p g) = ap length g
 
-  knows-above : {e : ℕ} {m : List ℕ} {r : Looked} {m' : List ℕ} (k : ℕ) → (k ≡ e → ⊥) → Knows head σ e m r m' → (is_noted m' k ≡ is_noted m k) × (value_at m' k ≡ value_at m k)
+  knows-above : {e : ℕ} {m : List ℕ} {r : prelude.Option ℕ} {m' : List ℕ} (k : ℕ) → (k ≡ e → ⊥) → Knows head σ e m r m' → (is_noted m' k ≡ is_noted m k) × (value_at m' k ≡ value_at m k)
   knows-above k h (noted p q g) = (ap (λ (l : List ℕ). is_noted l k) g, ap (λ (l : List ℕ). value_at l k) g)
   knows-above {e} {m} k h (bound x t p q r g) = (ap (λ (l : List ℕ). is_noted l k) g ∙ note-other m e t k h, ap (λ (l : List ℕ). value_at l k) g ∙ note-value-other m e t k h)
   knows-above k h (unknown u p g) = (ap (λ (l : List ℕ). is_noted l k) g, ap (λ (l : List ℕ). value_at l k) g)
@@ -106,13 +107,13 @@ module _ {head : ℕ → Head} {σ : List Binding} where
       let v = low i l in
       let q = knows-above k (λ z. omega arith) w in (q.0 ∙ p.0, q.1 ∙ p.1)
 
-  pub first_more : {xs m₀ vals₀ : List ℕ} {i t : ℕ} {m m' vals : List ℕ} {r : Looked} → KnowsFirst head σ xs m₀ vals₀ i m vals → i < length xs → Knows head σ (get_or xs i 0) m r m' → r ≡ Looked.Some t
+  pub first_more : {xs m₀ vals₀ : List ℕ} {i t : ℕ} {m m' vals : List ℕ} {r : prelude.Option ℕ} → KnowsFirst head σ xs m₀ vals₀ i m vals → i < length xs → Knows head σ (get_or xs i 0) m r m' → r ≡ Some t
       → KnowsFirst head σ xs m₀ vals₀ (i + 1) m' (set vals i t)
-  first_more {xs} {i = i} {m = m} {m' = m'} W h w q = more W h (subst (λ (y : Looked). Knows head σ (get_or xs i 0) m y m') q w)
+  first_more {xs} {i = i} {m = m} {m' = m'} W h w q = more W h (subst (λ (y : prelude.Option ℕ). Knows head σ (get_or xs i 0) m y m') q w)
 
   pub first-noted : {xs m₀ vals₀ : List ℕ} {i : ℕ} {m vals : List ℕ} {t : ℕ} → KnowsFirst head σ xs m₀ vals₀ i m vals → i < length xs → is_noted m (get_or xs i 0) ≡ true → t ≡ value_at m (get_or xs i 0)
       → KnowsFirst head σ xs m₀ vals₀ (i + 1) m (set vals i t)
-  first-noted {m = m} {t = t} W h p q = first_more W h (noted p refl refl) (ap Looked.Some (sym q))
+  first-noted {m = m} {t = t} W h p q = first_more W h (noted p refl refl) (ap Some (sym q))
 
   pub first-same : {xs m₀ vals₀ : List ℕ} {i : ℕ} {m m' vals : List ℕ} → m' ≡ m → KnowsFirst head σ xs m₀ vals₀ i m vals → KnowsFirst head σ xs m₀ vals₀ i m' vals
   first-same {xs} {m₀} {vals₀} {i} {vals = vals} g W = subst⁻¹ (λ (l : List ℕ). KnowsFirst head σ xs m₀ vals₀ i l vals) g W
@@ -130,7 +131,7 @@ module _ {head : ℕ → Head} {σ : List Binding} where
   first-vals (more {i} {t} {vals = vals} W h w) = length-set vals i t ∙ first-vals W
 
   -- without a value nothing changed, and it is not noted
-  pub unknown-next : {e : ℕ} {m : List ℕ} {r : Looked} {m' : List ℕ} → Knows head σ e m r m' → r ≡ Looked.None → (is_noted m' e ≡ false) × (m' ≡ m)
+  pub unknown-next : {e : ℕ} {m : List ℕ} {r : prelude.Option ℕ} {m' : List ℕ} → Knows head σ e m r m' → r ≡ None → (is_noted m' e ≡ false) × (m' ≡ m)
   unknown-next (noted p q g) z = let y : ◌≡◌ {A = ℕ} 0 1 = cc in absurd (omega arith)
   unknown-next (bound x t p q b g) z = let y : ◌≡◌ {A = ℕ} 0 1 = cc in absurd (omega arith)
   unknown-next {e} (unknown u p g) z = (ap (λ (l : List ℕ). is_noted l e) g ∙ u, g)

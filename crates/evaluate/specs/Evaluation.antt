@@ -1,4 +1,6 @@
 -- The contract of the evaluator: its outcome, and its memo.
+use Rattle.std.specs.Prelude as prelude
+use Rattle.std.specs.Prelude.{Some, None}
 use Rattle.std.specs.Prelude.{ℕ, ◌+◌, ◌<◌, ◌≡◌, ◌⊎◌, true, false, length, get_or, set}
 use mathlib.Core.List.{List, Memᴰ}
 use Rattle.std.proofs.Math.Option.{some}
@@ -6,7 +8,6 @@ use Rattle.model.specs.Term.{Term, Ordered}
 use Rattle.model.specs.Program.{Head, variable, Binding, Row, Program}
 use Rattle.model.specs.Check.{Outcome, ok, Check, Room}
 use Rattle.model.specs.Evaluate.{lookup}
-use Rattle.program.specs.declared.Looked.{Looked}
 use Rattle.termdag.specs.Store.{terms_in, room_of}
 use Rattle.memo.specs.Memo.{value_at, is_noted, note_at, Past}
 use Rattle.outcome.specs.Does.{Does}
@@ -29,20 +30,20 @@ pub record Memo (args : ℕ → List ℕ) (eval : ℕ → Check ℕ) (n : ℕ) (
   pub closed : (k a : ℕ) → k < n → is_noted m k ≡ true → Memᴰ a (args k) → is_noted m a ≡ true
 
 -- The value r of e that needs no evaluation, and the memo after: e is noted, or a variable that is bound, which is noted then. Without a value nothing is noted.
-pub data Knows (head : ℕ → Head) (σ : List Binding) (e : ℕ) (m : List ℕ) (r : Looked) (m' : List ℕ) : Type 0 where
-  noted : is_noted m e ≡ true → r ≡ Looked.Some (value_at m e) → m' ≡ m → Knows head σ e m r m'
-  bound : (x t : ℕ) → variable x ≡ head e → some t ≡ lookup σ x → r ≡ Looked.Some t → m' ≡ note_at m e t → Knows head σ e m r m'
-  unknown : is_noted m e ≡ false → r ≡ Looked.None → m' ≡ m → Knows head σ e m r m'
+pub data Knows (head : ℕ → Head) (σ : List Binding) (e : ℕ) (m : List ℕ) (r : prelude.Option ℕ) (m' : List ℕ) : Type 0 where
+  noted : is_noted m e ≡ true → r ≡ Some (value_at m e) → m' ≡ m → Knows head σ e m r m'
+  bound : (x t : ℕ) → variable x ≡ head e → some t ≡ lookup σ x → r ≡ Some t → m' ≡ note_at m e t → Knows head σ e m r m'
+  unknown : is_noted m e ≡ false → r ≡ None → m' ≡ m → Knows head σ e m r m'
 
 -- The values of the first i of xs, put into vals, need no evaluation.
 pub data KnowsFirst (head : ℕ → Head) (σ : List Binding) (xs m₀ vals₀ : List ℕ) : ℕ → List ℕ → List ℕ → Type 0 where
   none : KnowsFirst head σ xs m₀ vals₀ 0 m₀ vals₀
-  more : {i t : ℕ} {m m' vals : List ℕ} → KnowsFirst head σ xs m₀ vals₀ i m vals → i < length xs → Knows head σ (get_or xs i 0) m (Looked.Some t) m'
+  more : {i t : ℕ} {m m' vals : List ℕ} → KnowsFirst head σ xs m₀ vals₀ i m vals → i < length xs → Knows head σ (get_or xs i 0) m (Some t) m'
       → KnowsFirst head σ xs m₀ vals₀ (i + 1) m' (set vals i t)
 
 -- The value r, if there is one, of a check with the outcome o in the store s: then the check leaves the store.
-pub record Finds (r : Looked) (o : Outcome ℕ) (s : List Term) : Type 0 where
-  pub value : (v : ℕ) → r ≡ Looked.Some v → o ≡ ok v s
+pub record Finds (r : prelude.Option ℕ) (o : Outcome ℕ) (s : List Term) : Type 0 where
+  pub value : (v : ℕ) → r ≡ Some v → o ≡ ok v s
 
 -- What is noted after the evaluation of e: what was, and e with all below it.
 pub record Noted (args : ℕ → List ℕ) (n e : ℕ) (m m' : List ℕ) : Type 0 where

@@ -16,7 +16,6 @@ ghost use Rattle.decode.specs.View.{head_of};
 ghost use Rattle.decode.specs.declared.Head as heads;
 ghost use Rattle.memo.specs.Memo.{is_noted, Past};
 ghost use Rattle.outcome.specs.Does.{outcome_of, Does};
-ghost use Rattle.program.specs.declared.Looked as looked;
 ghost use Rattle.program.specs.Read.{head_for, arguments_for};
 ghost use Rattle.evaluate.specs.Value.{custom_term, head_term, bindings_in, eval_for, value_for};
 ghost use Rattle.evaluate.specs.Evaluation.{Memo, Knows, KnowsFirst, Finds, Evaluates, EvaluatesRoot};
@@ -28,20 +27,20 @@ use index::Fill;
 use lookups::row_value;
 use outcome::{Checked, add_app, add_lit, pass, refuse1, refuse2};
 use program::read::{arguments_at, head_at};
-use program::{Looked, lookup_pairs, primitive_at};
+use program::{lookup_pairs, primitive_at};
 use termdag::{find_app, find_lit};
 
 // The term bound to a name: by conditions and lets, by the substitution, by the globals.
-pub fn lookup(bound: &[u32], pairs: &[u32], globals: &[u32], name: u32) -> Looked
+pub fn lookup(bound: &[u32], pairs: &[u32], globals: &[u32], name: u32) -> Option<u32>
     ensures { option_of result ≡ lookup (bindings_in bound.now pairs.now globals.now) name }
 {
     let first = lookup_pairs(bound, name);
-    if let Looked::Some(t) = first {
-        return Looked::Some(t);
+    if let Some(t) = first {
+        return Some(t);
     }
     let second = lookup_pairs(pairs, name);
-    if let Looked::Some(t) = second {
-        return Looked::Some(t);
+    if let Some(t) = second {
+        return Some(t);
     }
     lookup_pairs(globals, name)
 }
@@ -83,8 +82,8 @@ fn validated(
         );
     }
     match row_value(job, found, p, args) {
-        Looked::Some(t) => pass(t, fill),
-        Looked::None => refuse1(46, primitive.name, fill),
+        Some(t) => pass(t, fill),
+        None => refuse1(46, primitive.name, fill),
     }
 }
 
@@ -101,8 +100,8 @@ pub fn variable(
     ensures s_value { (s : List Term) → outcome_of result.refusal result.value s ≡ or_refuse (lookup (bindings_in bound.now pairs.now globals.now) name) 45 (rule ∷ name ∷ []) s }
 {
     match lookup(bound, pairs, globals, name) {
-        Looked::Some(t) => pass(t, fill),
-        Looked::None => refuse2(45, rule, name, fill),
+        Some(t) => pass(t, fill),
+        None => refuse2(45, rule, name, fill),
     }
 }
 
@@ -178,7 +177,7 @@ fn known_value(
     globals: &[u32],
     memo: &mut [u32],
     e: u32,
-) -> Looked
+) -> Option<u32>
     requires ready { Ready job.now }
     requires e_bound { e < (sizes_of job.now).expressions }
     requires e_in_bounds { e + e + 2 < length memo.old }
@@ -186,18 +185,18 @@ fn known_value(
 {
     let at = wide(e);
     if memo::is_noted(memo, at) {
-        return Looked::Some(memo::value_of(memo, at));
+        return Some(memo::value_of(memo, at));
     }
     let head = head_at(job, at);
     let Head::Var(x) = head else {
-        return Looked::None;
+        return None;
     };
     match lookup(bound, pairs, globals, x) {
-        Looked::Some(t) => {
+        Some(t) => {
             memo::note(memo, at, t);
-            Looked::Some(t)
+            Some(t)
         }
-        Looked::None => Looked::None,
+        None => None,
     }
 }
 
@@ -242,7 +241,7 @@ fn known_values(
     let mut i = noted_values(memo, args, vals, 0);
     while i < args.len() {
         let known = known_value(job, bound, pairs, globals, memo, args[i]);
-        let Looked::Some(t) = known else {
+        let Some(t) = known else {
             return i;
         };
         vals[i] = t;
@@ -252,13 +251,13 @@ fn known_values(
 }
 
 // What a look-up's word says: a number plus one, or 0.
-fn number_found(w: u32) -> Looked
-    ensures { (v : ℕ) → result ≡ looked.Looked.Some v → w ≡ suc v }
+fn number_found(w: u32) -> Option<u32>
+    ensures { (v : ℕ) → result ≡ Some v → w ≡ suc v }
 {
     if w == 0 {
-        return Looked::None;
+        return None;
     }
-    Looked::Some(w - 1)
+    Some(w - 1)
 }
 
 // The value of a call whose term is in the store already.
@@ -270,7 +269,7 @@ fn find_call(
     fill: Fill,
     f: u32,
     args: &[u32],
-) -> Looked
+) -> Option<u32>
     requires indexed { Indexed skinds.now sends.now spool.now index.now fill }
     requires args_len_bound { length args.now ≤ 16 }
     ensures { Finds result (add_node (room_of skinds.now spool.now) (app f args.now) (terms_in skinds.now sends.now spool.now fill)) (terms_in skinds.now sends.now spool.now fill) }
@@ -292,13 +291,13 @@ fn find_custom(
     fill: Fill,
     f: u32,
     args: &[u32],
-) -> Looked
+) -> Option<u32>
     requires indexed { Indexed skinds.now sends.now spool.now index.now fill }
     requires args_len_bound { length args.now ≤ 16 }
     ensures { Finds result (custom_term fact (room_of skinds.now spool.now) f args.now (terms_in skinds.now sends.now spool.now fill)) (terms_in skinds.now sends.now spool.now fill) }
 {
     if fact {
-        return Looked::None;
+        return None;
     }
     find_call(skinds, sends, spool, index, fill, f, args)
 }
@@ -314,7 +313,7 @@ fn find_validated(
     fill: Fill,
     p: u32,
     args: &[u32],
-) -> Looked
+) -> Option<u32>
     requires ready { Ready job.now }
     requires keyed { Keyed job.now found.now }
     requires indexed { Indexed skinds.now sends.now spool.now index.now fill }
@@ -323,7 +322,7 @@ fn find_validated(
 {
     let primitive = primitive_at(job, wide(p));
     if !primitive.validator {
-        return Looked::None;
+        return None;
     }
     if 3 < primitive.kind {
         let w = find_computed(skinds, sends, spool, index, fill, primitive.kind, args);
@@ -344,7 +343,7 @@ fn find_value(
     fill: Fill,
     head: Head,
     args: &[u32],
-) -> Looked
+) -> Option<u32>
     requires ready { Ready job.now }
     requires keyed { Keyed job.now found.now }
     requires indexed { Indexed skinds.now sends.now spool.now index.now fill }
@@ -354,7 +353,7 @@ fn find_value(
 {
     match head {
         Head::Lit(l) => number_found(find_lit(skinds, sends, spool, index, fill, l)),
-        Head::Var(_) => Looked::None,
+        Head::Var(_) => None,
         Head::Constructor(f) => find_call(skinds, sends, spool, index, fill, f, args),
         Head::Custom(f) => find_custom(fact, skinds, sends, spool, index, fill, f, args),
         Head::Primitive(p) => find_validated(
@@ -418,7 +417,7 @@ pub fn eval(
             head,
             &vals[..count],
         );
-        if let Looked::Some(t) = known {
+        if let Some(t) = known {
             let above = memo::value_of(memo, i);
             memo::note(memo, i, t);
             if at == e {

@@ -1,4 +1,6 @@
 -- Ordinary facts: the values of a call's arguments, what a fact asks its premise to prove, and whether the premise proves it.
+use Rattle.std.specs.Prelude as prelude
+use Rattle.std.specs.Prelude.{Some, None}
 use mathlib.Core.Path.{◌≡◌, refl, sym, ap, ap₂, subst, ◌∙◌}
 use mathlib.Core.Bool.{Bool, true, false, ◌&&◌}
 use mathlib.Core.List.{List, [], ◌∷◌, ◌++◌}
@@ -25,7 +27,6 @@ use Rattle.outcome.specs.declared.Refusal.{Refusal}
 use Rattle.outcome.specs.declared.Checked.{Checked}
 use Rattle.outcome.proofs.Laws.{does-here, does-map}
 use Rattle.program.specs.Ready.{program_for, option_of}
-use Rattle.program.specs.declared.Looked.{Looked}
 use Rattle.program.specs.Read.{expr_for, arguments_for}
 use Rattle.evaluate.specs.Value.{value_of, eval_for, value_for}
 use Rattle.evaluate.specs.Evaluation.{Memo, Evaluates, Checks}
@@ -35,7 +36,7 @@ use Rattle.evaluate.proofs.Turns.{root-memo, memo-after}
 use Rattle.evaluate.proofs.Collecting.{each, each-is, Run, run-start, run-stop, run-turn, run-done}
 use Rattle.facts.specs.Call.{function_fact_of}
 use Rattle.facts.specs.declared.Asked.{Asked}
-use Rattle.facts.specs.declared.FunctionCall.{FunctionCall}
+use Rattle.facts.specs.declared.FunctionFact as code
 
 -- a value that is only rewritten
 checks-map : {A B : Type 0} (g : A → B) {K E P I : List ℕ} {f : Fill} {K₁ E₁ P₁ I₁ : List ℕ} {f₁ : Fill} {r : Refusal} {a : A} {m : List ℕ} {o : Outcome A}
@@ -109,14 +110,14 @@ module _ (J : List ℕ) (rule : ℕ) (σ : List Binding) where
         (checks-does T.memo.past (run-done T.run h (does-here T.run.grown.indexed refl))))
 
 -- a function fact, by the function and the variable that were found
-module _ {u : Looked} {o : Option ℕ} (p : Option ℕ) (first : option_of u ≡ o) where
-  pub call_none : u ≡ Looked.None → none ≡ function_fact_by o p
+module _ {u : prelude.Option ℕ} {o : Option ℕ} (p : Option ℕ) (first : option_of u ≡ o) where
+  pub call_none : u ≡ None → none ≡ function_fact_by o p
   call_none e = ap (λ (x : Option ℕ). function_fact_by x p) (ap option_of (sym e) ∙ first)
 
-  pub call-other : {v : Looked} {f : ℕ} → u ≡ Looked.Some f → option_of v ≡ p → v ≡ Looked.None → none ≡ function_fact_by o p
+  pub call-other : {v : prelude.Option ℕ} {f : ℕ} → u ≡ Some f → option_of v ≡ p → v ≡ None → none ≡ function_fact_by o p
   call-other e second d = ap₂ function_fact_by (ap option_of (sym e) ∙ first) (ap option_of (sym d) ∙ second)
 
-  pub call-some : {v : Looked} {f x : ℕ} → u ≡ Looked.Some f → option_of v ≡ p → v ≡ Looked.Some x → some (record { function = f; variable = x }) ≡ function_fact_by o p
+  pub call-some : {v : prelude.Option ℕ} {f x : ℕ} → u ≡ Some f → option_of v ≡ p → v ≡ Some x → some (record { function = f; variable = x }) ≡ function_fact_by o p
   call-some e second d = ap₂ function_fact_by (ap option_of (sym e) ∙ first) (ap option_of (sym d) ∙ second)
 
 -- what is asked for, as the code holds it
@@ -200,7 +201,7 @@ module _ (prog : Program) (rule : ℕ) (σ : List Binding) where
             (checks-as (ap (λ (ys : List ℕ). add_node (room_of K₁ P₁) (app function ys) (terms_in K₁ E₁ P₁ d.fill)) e) (checks-does (A.past z) D)))))
 
   -- an equality by what it is
-  pub equality-asks : (i : ℕ) (l r : Expr) {c g : FunctionCall} {K E P I : List ℕ} {f : Fill} {K₁ E₁ P₁ I₁ : List ℕ} {f₁ : Fill} {q : Refusal} {w : Proposition} {m : List ℕ}
+  pub equality-asks : (i : ℕ) (l r : Expr) {c g : prelude.Option code.FunctionFact} {K E P I : List ℕ} {f : Fill} {K₁ E₁ P₁ I₁ : List ℕ} {f₁ : Fill} {q : Refusal} {w : Proposition} {m : List ℕ}
       → function_fact_of c ≡ function_fact l r → c ≡ g
       → Checks K E P I f K₁ E₁ P₁ I₁ f₁ q w m (wanted_equality (room_of K P) prog rule σ l r (function_fact_of g) (terms_in K E P f))
       → Checks K E P I f K₁ E₁ P₁ I₁ f₁ q w m (wanted (room_of K P) prog rule σ (equal i l r) (terms_in K E P f))
@@ -230,16 +231,16 @@ module _ (rule i : ℕ) (w q : Proposition) (s : List Term) where
       go none = ap (λ (b : Bool). check_that b 29 (rule ∷ i ∷ w.lhs ∷ w.rhs ∷ q.lhs ∷ q.rhs ∷ []) s) (sym e)
       go (some f) = ap (λ (b : Bool). check_that b 28 (rule ∷ w.lhs ∷ q.lhs ∷ q.rhs ∷ []) s) (sym e)
 
-  matches-by : (l r : Expr) {c g : FunctionCall} → function_fact_of c ≡ function_fact l r → c ≡ g → matches_equality rule i (function_fact_of g) w q s ≡ matches rule (equal i l r) w q s
+  matches-by : (l r : Expr) {c g : prelude.Option code.FunctionFact} → function_fact_of c ≡ function_fact l r → c ≡ g → matches_equality rule i (function_fact_of g) w q s ≡ matches rule (equal i l r) w q s
   unfolding matches
   matches-by l r e d = ap (λ (x : Option model.FunctionFact). matches_equality rule i x w q s) (ap function_fact_of (sym d) ∙ e)
 
-  pub call-differs : (l r : Expr) {c : FunctionCall} {f x : ℕ} → pair-equal ≡ false → function_fact_of c ≡ function_fact l r → c ≡ FunctionCall.Call f x
+  pub call-differs : (l r : Expr) {c : prelude.Option code.FunctionFact} {f x : ℕ} → pair-equal ≡ false → function_fact_of c ≡ function_fact l r → c ≡ Some (record { function = f; variable = x })
       → refused (record { number = 28; fields = rule ∷ w.lhs ∷ q.lhs ∷ q.rhs ∷ [] }) s ≡ matches rule (equal i l r) w q s
   unfolding check_that
   call-differs l r t e d = ap (λ (b : Bool). check_that b 28 (rule ∷ w.lhs ∷ q.lhs ∷ q.rhs ∷ []) s) (sym t) ∙ matches-by l r e d
 
-  pub pair-differs : (l r : Expr) {c : FunctionCall} → pair-equal ≡ false → function_fact_of c ≡ function_fact l r → c ≡ FunctionCall.No
+  pub pair-differs : (l r : Expr) {c : prelude.Option code.FunctionFact} → pair-equal ≡ false → function_fact_of c ≡ function_fact l r → c ≡ None
       → refused (record { number = 29; fields = rule ∷ i ∷ w.lhs ∷ w.rhs ∷ q.lhs ∷ q.rhs ∷ [] }) s ≡ matches rule (equal i l r) w q s
   unfolding check_that
   pair-differs l r t e d = ap (λ (b : Bool). check_that b 29 (rule ∷ i ∷ w.lhs ∷ w.rhs ∷ q.lhs ∷ q.rhs ∷ []) s) (sym t) ∙ matches-by l r e d

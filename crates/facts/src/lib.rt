@@ -26,7 +26,6 @@ use evaluate::evaluate;
 use index::Fill;
 use normal_form::variable_of;
 use outcome::{Checked, Refusal, add_app, pass};
-use program::Looked;
 use program::read::{arguments_at, fact_at, head_at};
 
 // What a fact asks its premise to prove.
@@ -39,24 +38,24 @@ pub struct Asked {
 
 // A custom call = variable: the function and the variable.
 #[derive(Clone, Copy)]
-pub enum FunctionCall {
-    No,
-    Call(u32, u32),
+pub struct FunctionFact {
+    pub function: u32,
+    pub variable: u32,
 }
 
 // The function that expression e calls, if it is a custom call.
-fn custom_of(job: &[u32], e: u32) -> Looked
+fn custom_of(job: &[u32], e: u32) -> Option<u32>
     requires ready { Ready job.now }
     requires e_bound { e < (sizes_of job.now).expressions }
     ensures { option_of result ≡ model.custom_of (model.head_of (expr_for job.now e)) }
 {
     let head = head_at(job, wide(e));
     match head {
-        Head::Lit(_) => Looked::None,
-        Head::Var(_) => Looked::None,
-        Head::Constructor(_) => Looked::None,
-        Head::Custom(f) => Looked::Some(f),
-        Head::Primitive(_) => Looked::None,
+        Head::Lit(_) => None,
+        Head::Var(_) => None,
+        Head::Constructor(_) => None,
+        Head::Custom(f) => Some(f),
+        Head::Primitive(_) => None,
     }
 }
 
@@ -257,20 +256,23 @@ fn wanted_bare(
 }
 
 // The function fact that an equality is, if it is one.
-fn function_fact(job: &[u32], left: u32, right: u32) -> FunctionCall
+fn function_fact(job: &[u32], left: u32, right: u32) -> Option<FunctionFact>
     requires ready { Ready job.now }
     requires left_bound { left < (sizes_of job.now).expressions }
     requires right_bound { right < (sizes_of job.now).expressions }
     ensures { function_fact_of result ≡ model.function_fact (expr_for job.now left) (expr_for job.now right) }
 {
     let custom = custom_of(job, left);
-    let Looked::Some(f) = custom else {
-        return FunctionCall::No;
+    let Some(f) = custom else {
+        return None;
     };
     let variable = variable_of(job, right);
     match variable {
-        Looked::Some(x) => FunctionCall::Call(f, x),
-        Looked::None => FunctionCall::No,
+        Some(x) => Some(FunctionFact {
+            function: f,
+            variable: x,
+        }),
+        None => None,
     }
 }
 
@@ -303,11 +305,11 @@ fn wanted_equality(
 {
     let call = function_fact(job, left, right);
     match call {
-        FunctionCall::Call(f, x) => wanted_call(
+        Some(f) => wanted_call(
             job, found, bound, pairs, globals, rule, skinds, sends, spool, index, fill, memo, left,
-            f, x,
+            f.function, f.variable,
         ),
-        FunctionCall::No => wanted_values(
+        None => wanted_values(
             job, found, bound, pairs, globals, rule, skinds, sends, spool, index, fill, memo, left,
             right,
         ),
@@ -374,12 +376,12 @@ fn equality_matches(
         };
     }
     match call {
-        FunctionCall::Call(_, _) => Refusal {
+        Some(_) => Refusal {
             number: 28,
             count: 4,
             fields: [rule, w.lhs, q.lhs, q.rhs, 0, 0],
         },
-        FunctionCall::No => Refusal {
+        None => Refusal {
             number: 29,
             count: 6,
             fields: [rule, i, w.lhs, w.rhs, q.lhs, q.rhs],

@@ -1,4 +1,5 @@
 -- A head of one action that is a set or an expression.
+use Rattle.std.specs.Prelude.{Some, None}
 use mathlib.Core.Path.{◌≡◌, refl, sym, ap, ◌∙◌}
 use mathlib.Core.Bool.{Bool, true, false}
 use mathlib.Core.List.{List, [], ◌∷◌, map}
@@ -20,7 +21,6 @@ use Rattle.outcome.specs.declared.Checked.{Checked}
 use Rattle.outcome.proofs.Laws.{grown-same, does-map}
 use Rattle.marks.specs.Marks.{zeros, is_marked, close}
 use Rattle.marks.proofs.Subterms.{member-among}
-use Rattle.program.specs.declared.Looked.{Looked}
 use Rattle.program.specs.Ready.{program_for}
 use Rattle.program.specs.Read.{expr_for, action_for, arguments_for, ActionAt}
 use Rattle.evaluate.specs.Value.{value_for}
@@ -34,7 +34,7 @@ use Rattle.heads.proofs.Heading.{produced-yes}
 use Rattle.heads.proofs.Claiming.{produce-stops, produce-by, marked-is}
 
 -- no such head
-pub no_run : {J : List ℕ} {marking : Bool} {xs : List ℕ} (e : ℕ) → Looked.None ≡ Looked.Some e → LoneRun J marking xs e
+pub no_run : {J : List ℕ} {marking : Bool} {xs : List ℕ} (e : ℕ) → None ≡ Some e → LoneRun J marking xs e
 no_run e q = let x : ◌≡◌ {A = ℕ} 0 1 = cc in absurd (omega arith)
 
 -- a list of one number
@@ -45,7 +45,7 @@ one_number (x ∷ y ∷ ys) l = absurd (omega arith)
 
 -- the action that was read
 pub lone-run : {J : List ℕ} {marking : Bool} {xs : List ℕ} {i a : ℕ} {v : view.Action} → marking ≡ true → length xs ≡ 1 → i ≡ get_or xs 0 0 → ActionAt J i v → v ≡ view.Action.Run a
-    → (e : ℕ) → Looked.Some a ≡ Looked.Some e → LoneRun J marking xs e
+    → (e : ℕ) → Some a ≡ Some e → LoneRun J marking xs e
 lone-run {J} {xs = xs} {a = a} {v = v} t l q d w e z =
     let x : a ≡ e = cc in
     let y : v ≡ view.Action.Run e = w ∙ ap view.Action.Run x in

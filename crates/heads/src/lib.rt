@@ -12,7 +12,6 @@ ghost use Rattle.decode.specs.View.{proposition_of};
 ghost use Rattle.termdag.specs.Store.{terms_in, Stored, room_of};
 ghost use Rattle.outcome.specs.Does.{outcome_of};
 ghost use Rattle.marks.specs.Marks as closing;
-ghost use Rattle.program.specs.declared.Looked as looked;
 ghost use Rattle.program.specs.Ready.{Ready, program_for, rule_for, option_of};
 ghost use Rattle.program.specs.Read.{expr_for, action_for};
 ghost use Rattle.evaluate.specs.Value.{bindings_in};
@@ -21,13 +20,12 @@ ghost use Rattle.heads.specs.Heading.{cleared_if, claimed_by, LoneRun, Heads, Pr
 
 use actions::{Effect, process_action, push_binding, yield_value};
 use cells::wide;
-use decode::{Action, Merge, Name, Proposition};
+use decode::{Action, Name, Proposition};
 use evaluate::{evaluate, lookup};
 use index::Fill;
 use lookups::merge_of;
 use outcome::{Checked, Refusal, pass, refuse1};
 use pairs::mark_values;
-use program::Looked;
 use program::job::{EXPRESSIONS, size};
 use program::read::{action_at, rule_actions_at, rule_name_at};
 
@@ -51,12 +49,12 @@ fn has_pair(effect: Effect, q: Proposition) -> bool
 }
 
 // No term was found.
-fn is_none(l: Looked) -> bool
+fn is_none(l: Option<u32>) -> bool
     ensures { result ≡ true → option_of l ≡ none }
 {
     match l {
-        Looked::Some(_) => false,
-        Looked::None => true,
+        Some(_) => false,
+        None => true,
     }
 }
 
@@ -217,23 +215,23 @@ fn produced(claimed: bool, rule: u32, q: Proposition, fill: Fill) -> Checked
 }
 
 // The expression of a head that is one action, a set or an expression, if there is marking.
-fn lone_run(job: &[u32], marking: bool, actions: &[u32]) -> Looked
+fn lone_run(job: &[u32], marking: bool, actions: &[u32]) -> Option<u32>
     requires ready { Ready job.now }
     requires by_index { (i : ℕ) → i < length actions.now → get_or actions.now i 0 < (sizes_of job.now).actions }
-    ensures { (e : ℕ) → result ≡ looked.Looked.Some e → LoneRun job.now marking actions.now e }
+    ensures { (e : ℕ) → result ≡ Some e → LoneRun job.now marking actions.now e }
 {
     if !marking {
-        return Looked::None;
+        return None;
     }
     if actions.len() != 1 {
-        return Looked::None;
+        return None;
     }
     let action = action_at(job, wide(actions[0]));
     match action {
-        Action::Let(_, _) => Looked::None,
-        Action::Union(_, _) => Looked::None,
-        Action::Run(e) => Looked::Some(e),
-        Action::Idle => Looked::None,
+        Action::Let(_, _) => None,
+        Action::Union(_, _) => None,
+        Action::Run(e) => Some(e),
+        Action::Idle => None,
     }
 }
 
@@ -302,7 +300,7 @@ pub fn check_rule_produces_equality(
     let rule = rule_name_at(job, r);
     let actions = rule_actions_at(job, r);
     let lone = lone_run(job, marking, actions);
-    if let Looked::Some(e) = lone {
+    if let Some(e) = lone {
         return run_produces(
             job, found, bound, pairs, globals, rule, skinds, sends, spool, index, fill, memo,
             marks, e, q,
@@ -349,8 +347,8 @@ pub fn run_merge(
     let bound = [Name::OLD.number, old, Name::NEW.number, new];
     let none = [0u32; 0];
     match merge {
-        Merge::Nothing => refuse1(43, function, fill),
-        Merge::Expr(e) => {
+        None => refuse1(43, function, fill),
+        Some(e) => {
             memo::new_round(memo);
             yield_value(
                 job,

@@ -1,11 +1,12 @@
 -- Laws of an index of cells: what a look-up shows, and what listing one cell more keeps.
+use Rattle.std.specs.Prelude as prelude
+use Rattle.std.specs.Prelude.{Some, None}
 use Rattle.std.proofs.Common.{◌≡◌, ℕ, zero, suc, ◌+◌, ◌-◌, ◌%◌, ◌^◌, ◌<◌, ◌≤◌, Bool, true, false, ◌⊎◌, List, [], ◌∷◌, ◌++◌, length, get_or, set, sym, refl, ap, ◌∙◌, subst, inl, inr, mod-lt, arith, length-append, length-set}
 use lib.ListN.{get_or-append}
 use lib.Seq.{get_or-append_seam}
 use Rattle.model.specs.Cell.{Cell, no_cell, same_cell, cells_of}
 use Rattle.model.proofs.Valid.{cell_same}
 use Rattle.cells.specs.Table.{find_cell, found_by, Once, Table, table_of, has_room, append_if, append_cell, add_found, add_cell, Ran, Result}
-use Rattle.cells.specs.declared.Found.{Found}
 use Rattle.cells.proofs.Laws.{found_at, found_some, found_none, once-found, cells-length}
 use Rattle.index.specs.Mixing.{slot_of}
 use Rattle.index.specs.Slots.{onward, Free, round_from, comparisons}
@@ -31,7 +32,7 @@ module _ (m : ℕ) (I : List ℕ) (cs : List Cell) (c : Cell) (s : ℕ) (own : s
     is : onward I s k ≡ x
     is = ap (λ (y : ℕ). get_or I y 0) (sym there) ∙ sym entry
 
-    absent : x ≡ 0 → (i : ℕ) → find_cell cs c ≡ Found.At i → ⊥
+    absent : x ≡ 0 → (i : ℕ) → find_cell cs c ≡ Some i → ⊥
     absent e i q =
         let g = found_at cs c i q in
         none-hits I (hits cs c) s start-within p more lists (is ∙ e) i g.0 (ap (slot_of m (length I)) g.1 ∙ sym own) (ap (λ (y : Cell). same_cell y c) g.1 ∙ cell_same c)
@@ -43,9 +44,9 @@ module _ (m : ℕ) (I : List ℕ) (cs : List Cell) (c : Cell) (s : ℕ) (own : s
       free = λ _. rw (there, ← own) (empty-free I (hits cs c) s start-within p more (is ∙ e));
     }
       where
-        go : (f : Found) → find_cell cs c ≡ f → Found.Nothing ≡ find_cell cs c
-        go (Found.At i) q = absurd (absent e i q)
-        go Found.Nothing q = sym q
+        go : (f : prelude.Option ℕ) → find_cell cs c ≡ f → None ≡ find_cell cs c
+        go (Some i) q = absurd (absent e i q)
+        go None q = sym q
 
     pub looked-more : (x ≡ 0 → ⊥) → hits cs c (x - 1) ≡ false → Passed I (hits cs c) s (k + 1)
     looked-more d e = passed-more I (hits cs c) s start-within p more (λ z. d (sym is ∙ z)) (ap (λ (y : ℕ). hits cs c (y - 1)) is ∙ e)
@@ -80,31 +81,31 @@ pub free-within : {I : List ℕ} {s a : ℕ} → Free I s a → a < length I
 free-within {I} {s} {a} q = rw q.there (mod-lt (s + q.steps) (omega (arith, q.few)))
 
 -- a look-up that found nothing, and one that did
-pub entry-none : {n : ℕ} {f : Found} → n ≡ 0 → found_by n ≡ f → f ≡ Found.Nothing
+pub entry-none : {n : ℕ} {f : prelude.Option ℕ} → n ≡ 0 → found_by n ≡ f → f ≡ None
 entry-none e q = sym q ∙ found_none _ e
 
-pub entry-some : {n : ℕ} {f : Found} → (n ≡ 0 → ⊥) → found_by n ≡ f → f ≡ Found.At (n - 1)
+pub entry-some : {n : ℕ} {f : prelude.Option ℕ} → (n ≡ 0 → ⊥) → found_by n ≡ f → f ≡ Some (n - 1)
 entry-some {n} d q = sym q ∙ found_some n d
 
-nothing-entry : (n : ℕ) → found_by n ≡ Found.Nothing → n ≡ 0
+nothing-entry : (n : ℕ) → found_by n ≡ None → n ≡ 0
 nothing-entry zero e = refl
 nothing-entry (suc n) e = let w : ◌≡◌ {A = ℕ} 0 1 = cc in absurd (omega arith)
 
 -- adding a cell: it is there, or there is no room, or it is appended
 abbrev AddCases : Cell → Table → Result → Type 0
-AddCases c t r = (r.cells ≡ t.cells) ⊎ ((find_cell t.cells c ≡ Found.Nothing) × (r.cells ≡ t.cells ++ (c ∷ [])))
+AddCases c t r = (r.cells ≡ t.cells) ⊎ ((find_cell t.cells c ≡ None) × (r.cells ≡ t.cells ++ (c ∷ [])))
 
 add-cases : (c : Cell) (t : Table) → AddCases c t (add_cell c t)
 unfolding add_cell append_cell
 add-cases c t = by-found (find_cell t.cells c) refl
   where
-    by-room : find_cell t.cells c ≡ Found.Nothing → (b : Bool) → AddCases c t (append_if b c t)
+    by-room : find_cell t.cells c ≡ None → (b : Bool) → AddCases c t (append_if b c t)
     by-room e true = inr (e, refl)
     by-room e false = inl refl
 
-    by-found : (f : Found) → find_cell t.cells c ≡ f → AddCases c t (add_found f c t)
-    by-found (Found.At i) e = inl refl
-    by-found Found.Nothing e = by-room e (has_room t c)
+    by-found : (f : prelude.Option ℕ) → find_cell t.cells c ≡ f → AddCases c t (add_found f c t)
+    by-found (Some i) e = inl refl
+    by-found None e = by-room e (has_room t c)
 
 module _ {K E P I : List ℕ} {f : Fill} (r : Ready K E P I f) (c : Cell) (p : Probe) (look : Looked f.multiplier I (cells_of K E P f.cells) c p)
     {K' E' P' : List ℕ} {a : Added} (ran : Ran K E P (table_fill f) K' E' P' (table_added a) (add_cell c (table_of K E P (table_fill f)))) (same : a.fill.multiplier ≡ f.multiplier) where
@@ -114,11 +115,11 @@ module _ {K E P I : List ℕ} {f : Fill} (r : Ready K E P I f) (c : Cell) (p : P
   cs' : List Cell
   cs' = cells_of K' E' P' a.fill.cells
 
-  cases : (cs' ≡ cs) ⊎ ((find_cell cs c ≡ Found.Nothing) × (cs' ≡ cs ++ (c ∷ [])))
+  cases : (cs' ≡ cs) ⊎ ((find_cell cs c ≡ None) × (cs' ≡ cs ++ (c ∷ [])))
   unfolding cs cs'
   cases = go (add-cases c (table_of K E P (table_fill f)))
     where
-      go : AddCases c (table_of K E P (table_fill f)) (add_cell c (table_of K E P (table_fill f))) → (cells_of K' E' P' a.fill.cells ≡ cells_of K E P f.cells) ⊎ ((find_cell (cells_of K E P f.cells) c ≡ Found.Nothing) × (cells_of K' E' P' a.fill.cells ≡ cells_of K E P f.cells ++ (c ∷ [])))
+      go : AddCases c (table_of K E P (table_fill f)) (add_cell c (table_of K E P (table_fill f))) → (cells_of K' E' P' a.fill.cells ≡ cells_of K E P f.cells) ⊎ ((find_cell (cells_of K E P f.cells) c ≡ None) × (cells_of K' E' P' a.fill.cells ≡ cells_of K E P f.cells ++ (c ∷ [])))
       go (inl e) = inl (ran.cells ∙ e)
       go (inr (n, e)) = inr (n, ran.cells ∙ e)
 
@@ -127,17 +128,17 @@ module _ {K E P I : List ℕ} {f : Fill} (r : Ready K E P I f) (c : Cell) (p : P
   unfolding cs cs'
   kept-old e = record { ran = ran; lists = rw same (go cases); len_i = refl }
     where
-      go : (cs' ≡ cs) ⊎ ((find_cell cs c ≡ Found.Nothing) × (cs' ≡ cs ++ (c ∷ []))) → Lists f.multiplier I cs'
+      go : (cs' ≡ cs) ⊎ ((find_cell cs c ≡ None) × (cs' ≡ cs ++ (c ∷ []))) → Lists f.multiplier I cs'
       go (inl q) = rw q r.lists
       go (inr (n, q)) = absurd (omega (arith, ap length q, length-append cs (c ∷ []), cells-length K E P f.cells, cells-length K' E' P' a.fill.cells))
 
   -- one is
   module _ (e : a.fill.cells ≡ f.cells → ⊥) where
-    new : (find_cell cs c ≡ Found.Nothing) × (cs' ≡ cs ++ (c ∷ []))
+    new : (find_cell cs c ≡ None) × (cs' ≡ cs ++ (c ∷ []))
     unfolding cs cs'
     new = go cases
       where
-        go : (cs' ≡ cs) ⊎ ((find_cell cs c ≡ Found.Nothing) × (cs' ≡ cs ++ (c ∷ []))) → (find_cell cs c ≡ Found.Nothing) × (cs' ≡ cs ++ (c ∷ []))
+        go : (cs' ≡ cs) ⊎ ((find_cell cs c ≡ None) × (cs' ≡ cs ++ (c ∷ []))) → (find_cell cs c ≡ None) × (cs' ≡ cs ++ (c ∷ []))
         go (inl q) = absurd (e (sym (cells-length K' E' P' a.fill.cells) ∙ ap length q ∙ cells-length K E P f.cells))
         go (inr q) = q
 

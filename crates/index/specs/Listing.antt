@@ -1,10 +1,10 @@
 -- An index of cells: slots that list the cells of a table by their numbers, each met from the slot that its mix gives.
+use Rattle.std.specs.Prelude.{Some}
 use Rattle.std.specs.Prelude.{◌≡◌, ℕ, ◌+◌, ◌<◌, ◌≤◌, Bool, List, [], ◌∷◌, ◌++◌, length, replicate, ◌≢◌, slice_index_or, slice_set}
 use Rattle.model.specs.Cell.{Cell, no_cell, same_cell, tabulate, cells_of}
 use Rattle.cells.specs.Table.{Formed, find_cell, found_by, Once, Ran, Result}
 use Rattle.cells.specs.declared.Fill.{Fill as TableFill}
 use Rattle.cells.specs.declared.Added.{Added as TableAdded}
-use Rattle.cells.specs.declared.Found.{Found}
 use Rattle.index.specs.Mixing.{slot_of}
 use Rattle.index.specs.Slots.{Free, Listed, round_from, comparisons}
 use Rattle.index.specs.declared.Fill.{Fill}
@@ -74,5 +74,5 @@ pub record Filled (x : ℕ) (f : ℕ → Cell) (m : ℕ) (I' : List ℕ) (r : Ta
   pub before : ℕ
   pub built : Built x (tabulate r.listed f) I' before
   pub whole : r.listed ≡ m → r.compared ≡ before
-  pub again : r.listed < m → (j : ℕ) × (find_cell (tabulate r.listed f) (f r.listed) ≡ Found.At j)
+  pub again : r.listed < m → (j : ℕ) × (find_cell (tabulate r.listed f) (f r.listed) ≡ Some j)
   pub cost : r.listed < m → r.compared ≡ before + look_count x I' (tabulate r.listed f) (f r.listed)

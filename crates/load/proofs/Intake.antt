@@ -1,4 +1,5 @@
 -- Laws of the index as loading fills it: the terms that it lists differ, and that of an admitted job has a slot for each term and lists all.
+use Rattle.std.specs.Prelude.{Some}
 use mathlib.Core.Path.{◌≡◌, refl, sym, ap, subst, ◌∙◌}
 use mathlib.Core.Bool.{Bool, true, false, not, ◌||◌, true≢false}
 use mathlib.Core.List.Memᴰ
@@ -19,7 +20,6 @@ use Rattle.model.proofs.Tests.{or_left, not-false}
 use Rattle.model.proofs.Valid.{pass, table-passes}
 use Rattle.model.proofs.Slots.{power-is}
 use Rattle.cells.specs.Table.{find_from}
-use Rattle.cells.specs.declared.Found.{Found}
 use Rattle.cells.proofs.Laws.{get_d_tabulate, cells-length}
 use Rattle.index.specs.Listing.{Lists}
 use Rattle.load.specs.declared.sizes.Sizes.{Sizes as SizesHeld}
@@ -52,18 +52,18 @@ slots-many z words l h w =
     omega (arith, slots-over l w, ltb-false l.kinds z.terms few)
 
 -- a cell that is found is the same as some
-found-any : (xs : List Cell) (c : Cell) (k j : ℕ) → find_from k xs c ≡ Found.At j → any (λ e. same_cell e c) xs ≡ true
+found-any : (xs : List Cell) (c : Cell) (k j : ℕ) → find_from k xs c ≡ Some j → any (λ e. same_cell e c) xs ≡ true
 unfolding find_from
 found-any [] c k j e = let z : ◌≡◌ {A = ℕ} 0 1 = cc in absurd (omega arith)
 found-any (x ∷ xs) c k j e = go (same_cell x c) (found-any xs c (k + 1) j) e
   where
-    go : (t : Bool) → (find_from (k + 1) xs c ≡ Found.At j → any (λ e. same_cell e c) xs ≡ true)
-        → elim t [ true ↦ Found.At k | false ↦ find_from (k + 1) xs c ] ≡ Found.At j → (t || any (λ e. same_cell e c) xs) ≡ true
+    go : (t : Bool) → (find_from (k + 1) xs c ≡ Some j → any (λ e. same_cell e c) xs ≡ true)
+        → elim t [ true ↦ Some k | false ↦ find_from (k + 1) xs c ] ≡ Some j → (t || any (λ e. same_cell e c) xs) ≡ true
     go true r q = refl
     go false r q = r q
 
 -- a cell that equals an earlier one fails 9
-again-fails : (f : ℕ → Cell) (m n j : ℕ) → n < m → find_from 0 (tabulate n f) (f n) ≡ Found.At j → is_first same_cell (tabulate m f) n (get_or (tabulate m f) n no_cell) ≡ false
+again-fails : (f : ℕ → Cell) (m n j : ℕ) → n < m → find_from 0 (tabulate n f) (f n) ≡ Some j → is_first same_cell (tabulate m f) n (get_or (tabulate m f) n no_cell) ≡ false
 again-fails f m n j h e = rw (get_d_tabulate m f n no_cell h, take-tabulate f m n (omega arith), found-any (tabulate n f) (f n) 0 j e)
 
 -- where the terms pass 9 all of them are listed

@@ -1,4 +1,5 @@
 -- Laws of a job's tables: their cells among all cells, and the test of each.
+use Rattle.std.specs.Prelude.{Some, None}
 use mathlib.Core.Path.{◌≡◌, refl, sym, ap, subst, ◌∙◌}
 use mathlib.Core.Logic.{◌⊎◌, inl, inr}
 use mathlib.Core.Bool.{Bool, true, false, not, ◌&&◌, ◌||◌}
@@ -18,7 +19,6 @@ use Rattle.model.specs.Load.{any, fails_from, marks, is_first, same_head, counts
 use Rattle.model.proofs.Tests.{or_cases, eq_of, and-true}
 use Rattle.cells.proofs.Laws.{cell-at, cells-length, cells-fewer, same-cell-eq}
 use Rattle.cells.specs.declared.Fill.{Fill}
-use Rattle.cells.specs.declared.Found.{Found}
 use Rattle.chains.specs.Chains.{words_from, same_key, Differ}
 use Rattle.load.specs.declared.sizes.Sizes.{Sizes as SizesHeld}
 use Rattle.load.specs.Held.{sizes_in, fill_of, Limits, Distinct, counts_of, cell_number, fixed_counts, alike_by, first_among, tables_for, cell_held, Passing, Sound, tests_for, first_found}
@@ -317,7 +317,7 @@ module _ (f : ℕ → Cell → Bool) (t : List Cell) (first i : ℕ) where
   fails_step : i < length t → fails_from i f (drop i t) ≡ not (f i (get_or t i no_cell)) ∷ fails_from (i + 1) f (drop (i + 1) t)
   fails_step h = rw (drop-cons t i no_cell h, add-one)
 
-  pub found-yes : i < length t → f i (get_or t i no_cell) ≡ false → Found.At (first + i) ≡ first_found (first + i) (fails_from i f (drop i t))
+  pub found-yes : i < length t → f i (get_or t i no_cell) ≡ false → Some (first + i) ≡ first_found (first + i) (fails_from i f (drop i t))
   unfolding first_found
   found-yes h e = rw (fails_step h, e)
 
@@ -325,7 +325,7 @@ module _ (f : ℕ → Cell → Bool) (t : List Cell) (first i : ℕ) where
   unfolding first_found
   found-no h e = let s : suc (first + i) ≡ first + (i + 1) = omega arith in rw (fails_step h, e) (ap (λ (j : ℕ). first_found j (fails_from (i + 1) f (drop (i + 1) t))) s)
 
-  pub found-end : length t ≤ i → Found.Nothing ≡ first_found (first + i) (fails_from i f (drop i t))
+  pub found-end : length t ≤ i → None ≡ first_found (first + i) (fails_from i f (drop i t))
   unfolding first_found
   found-end h = rw (drop_of_length-le t h)
 
@@ -365,13 +365,13 @@ fails-length f i [] = refl
 fails-length f i (c ∷ cs) = ap suc (fails-length f (suc i) cs)
 
 -- the first mark of two lists
-pub found_left : (ms ns : List Bool) (i j : ℕ) → first_found i ms ≡ Found.At j → first_found i (ms ++ ns) ≡ Found.At j
+pub found_left : (ms ns : List Bool) (i j : ℕ) → first_found i ms ≡ Some j → first_found i (ms ++ ns) ≡ Some j
 unfolding first_found
 found_left [] ns i j e = let z : ◌≡◌ {A = ℕ} 0 1 = cc in absurd (omega arith)
 found_left (true ∷ ms) ns i j e = e
 found_left (false ∷ ms) ns i j e = found_left ms ns (suc i) j e
 
-pub found_right : (ms ns : List Bool) (i : ℕ) → first_found i ms ≡ Found.Nothing → first_found i (ms ++ ns) ≡ first_found (i + length ms) ns
+pub found_right : (ms ns : List Bool) (i : ℕ) → first_found i ms ≡ None → first_found i (ms ++ ns) ≡ first_found (i + length ms) ns
 unfolding first_found
 found_right [] ns i e = ap (λ (j : ℕ). first_found j ns) (plus-zero i)
 found_right (true ∷ ms) ns i e = let z : ◌≡◌ {A = ℕ} 0 1 = cc in absurd (omega arith)
@@ -386,10 +386,10 @@ marks-step : (fs : List (ℕ → Cell → Bool)) (ts : List (List Cell)) (k : �
 marks-step fs ts k h l = rw (drop-cons fs k passed h, drop-cons ts k [] l, add-one)
 
 module _ (fs : List (ℕ → Cell → Bool)) (ts : List (List Cell)) (k first : ℕ) (h : k < length fs) (l : k < length ts) where
-  pub tables-yes : (j : ℕ) → first_found first (fails_from 0 (get_or fs k passed) (get_or ts k [])) ≡ Found.At j → first_found first (marks (drop k fs) (drop k ts)) ≡ Found.At j
+  pub tables-yes : (j : ℕ) → first_found first (fails_from 0 (get_or fs k passed) (get_or ts k [])) ≡ Some j → first_found first (marks (drop k fs) (drop k ts)) ≡ Some j
   tables-yes j e = ap (first_found first) (marks-step fs ts k h l) ∙ found_left _ _ first j e
 
-  pub tables-no : first_found first (fails_from 0 (get_or fs k passed) (get_or ts k [])) ≡ Found.Nothing
+  pub tables-no : first_found first (fails_from 0 (get_or fs k passed) (get_or ts k [])) ≡ None
       → first_found first (marks (drop k fs) (drop k ts)) ≡ first_found (first + length (get_or ts k [])) (marks (drop (k + 1) fs) (drop (k + 1) ts))
   tables-no e = ap (first_found first) (marks-step fs ts k h l) ∙ found_right _ _ first e
       ∙ ap (λ (n : ℕ). first_found (first + n) (marks (drop (k + 1) fs) (drop (k + 1) ts))) (fails-length (get_or fs k passed) 0 (get_or ts k []))
@@ -400,7 +400,7 @@ tests-ten (suc zero) z t = refl
 tests-ten (suc (suc zero)) z t = refl
 tests-ten (suc (suc (suc k))) z t = refl
 
-pub tables_end : (round : ℕ) (z : Sizes) (t : Tables) (first : ℕ) → Found.Nothing ≡ first_found first (marks (drop 10 (tests_for round z t)) (drop 10 (table_list t)))
+pub tables_end : (round : ℕ) (z : Sizes) (t : Tables) (first : ℕ) → None ≡ first_found first (marks (drop 10 (tests_for round z t)) (drop 10 (table_list t)))
 unfolding first_found
 tables_end round z t first = rw (drop_of_length-le (tests_for round z t) {i = 10} (omega (arith, tests-ten round z t)))
 

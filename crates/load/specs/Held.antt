@@ -1,4 +1,6 @@
 -- A job's sizes and arrays as the code holds them.
+use Rattle.std.specs.Prelude as prelude
+use Rattle.std.specs.Prelude.{Some, None}
 use Rattle.std.specs.Prelude.{◌≡◌, Bool, true, false, not, ◌||◌, List, [], ◌∷◌, map, ℕ, zero, suc, ◌+◌, ◌*◌, ◌≤◌, ◌<◌, ◌^◌, eqb, ltb, length, get_or, take, drop}
 use Rattle.std.proofs.Math.Option.{Option, none, some}
 use Rattle.model.specs.Cell.{Cell, no_cell, same_cell, cell_at, cells_of}
@@ -10,7 +12,6 @@ use Rattle.load.specs.declared.sizes.Sizes.{Sizes as SizesHeld}
 use Rattle.load.specs.declared.Loaded.{Loaded}
 use Rattle.cells.specs.Table.{Formed, Once}
 use Rattle.cells.specs.declared.Fill.{Fill}
-use Rattle.cells.specs.declared.Found.{Found}
 use Rattle.index.specs.Listing.{Filled}
 
 -- The definitions' sizes.
@@ -111,9 +112,9 @@ abbrev pub first_among : (Cell → Cell → Bool) → List Cell → ℕ → ℕ 
 first_among same cells first i = not (any (λ e. same e (get_or cells (first + i) no_cell)) (take i (drop first cells)))
 
 -- The number of the first mark that is set, where the list's first has the number i.
-unfoldable pub first_found : ℕ → List Bool → Found
-first_found i [] = Found.Nothing
-first_found i (true ∷ ms) = Found.At i
+unfoldable pub first_found : ℕ → List Bool → prelude.Option ℕ
+first_found i [] = None
+first_found i (true ∷ ms) = Some i
 first_found i (false ∷ ms) = first_found (suc i) ms
 
 -- The tests of the tables for 6, 7, 8 and 9.

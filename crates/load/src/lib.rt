@@ -15,7 +15,7 @@ ghost use Rattle.load.specs.Held.{sizes_in, Limits, Held, Distinct, Fills, table
 
 use crate::sizes::{Sizes, cell_count, read_sizes, too_large, wrong_length};
 use crate::tables::{fill, first_marked, passing_terms};
-use cells::{Found, start, wide};
+use cells::{start, wide};
 use index::fill_once;
 
 // What loading answers: the job is admitted, the host is at fault, or the job's writer, with the least cell.
@@ -69,7 +69,7 @@ pub fn writer_refusal(
             multiplier,
             wide(round),
         );
-        if let Found::At(cell) = f {
+        if let Some(cell) = f {
             return Loaded::Writer(6 + round, cell);
         }
         round += 1;

@@ -11,7 +11,7 @@ ghost use Rattle.load.specs.Held.{sizes_in, fill_of, Limits, Held, Distinct, Sou
 use crate::sizes::{Sizes, cell_count, counts};
 use cell_tests::words::{all_below, at, rest};
 use cell_tests::{fit, once, refer};
-use cells::{Fill, Found, same_words, wide, words};
+use cells::{Fill, same_words, wide, words};
 use chains::{chain, differing};
 
 // How much the job's arrays hold.
@@ -410,7 +410,7 @@ pub fn first_failing(
     table: usize,
     first: usize,
     count: usize,
-) -> Found
+) -> Option<usize>
     requires held { Held kinds.now ends.now pool.now z }
     requires table_bound { table < 10 }
     requires first_value { first ≡ cell_number (sizes_in z) table }
@@ -424,11 +424,11 @@ pub fn first_failing(
     );
     while i < count {
         if !passes(kinds, ends, pool, z, round, table, first, i) {
-            return Found::At(first + i);
+            return Some(first + i);
         }
         i += 1;
     }
-    Found::Nothing
+    None
 }
 
 // The first cell of all tables that fails its table's test.
@@ -441,7 +441,7 @@ pub fn first_marked(
     sound: usize,
     multiplier: u32,
     round: usize,
-) -> Found
+) -> Option<usize>
     requires held { Held kinds.now ends.now pool.now z }
     requires distinct { Distinct kinds.now ends.now pool.now z distinct }
     requires sound { Sound kinds.now ends.now pool.now z sound }
@@ -455,11 +455,11 @@ pub fn first_marked(
         let f = first_failing(
             kinds, ends, pool, z, distinct, sound, multiplier, round, table, first, n,
         );
-        if let Found::At(_) = f {
+        if let Some(_) = f {
             return f;
         }
         first += n;
         table += 1;
     }
-    Found::Nothing
+    None
 }

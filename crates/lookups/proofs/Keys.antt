@@ -1,4 +1,6 @@
 -- Laws of look-ups by the chains of a table.
+use Rattle.std.specs.Prelude as prelude
+use Rattle.std.specs.Prelude.{Some, None}
 use mathlib.Core.Path.{◌≡◌, refl, sym, ap, ap₂, subst, ◌∙◌}
 use mathlib.Core.Logic.{◌⊎◌, inl, inr}
 use mathlib.Core.Bool.{Bool, true, false, ◌&&◌}
@@ -17,7 +19,6 @@ use Rattle.model.specs.Decode.{word, read_rule}
 use Rattle.model.specs.Walk.{duplicate_rule_name}
 use Rattle.model.proofs.Tests.{and-true}
 use Rattle.cells.specs.declared.Fill.{Fill}
-use Rattle.cells.specs.declared.Found.{Found}
 use Rattle.load.specs.Held.{cell_number, first_found}
 use Rattle.chains.specs.Chains.{has_key, same_key, slot_at, Chained, Next, Within, FirstHit, Differ}
 use Rattle.program.specs.Ready.{fill_for, table_for, count_for, first_named}
@@ -32,11 +33,11 @@ module _ (test : Cell → Bool) (t : List Cell) where
   past zero l h = refl
   past (suc i) l h = past i (omega arith) (λ j k. h j (omega arith)) ∙ rw add-one at (mark-no test t i (omega arith) (h i (omega arith)))
 
-  pub first-mark : {hit : ℕ → Bool} {n : ℕ} (r : Found) → length t ≡ n → ((i : ℕ) → i < n → hit i ≡ test (get_or t i no_cell)) → FirstHit hit n r → r ≡ first_found 0 (map test t)
-  first-mark (Found.At i) l e x =
+  pub first-mark : {hit : ℕ → Bool} {n : ℕ} (r : prelude.Option ℕ) → length t ≡ n → ((i : ℕ) → i < n → hit i ≡ test (get_or t i no_cell)) → FirstHit hit n r → r ≡ first_found 0 (map test t)
+  first-mark (Some i) l e x =
       let h = x.there i refl in
       mark-yes test t i (omega (arith, h.0)) (sym (e i h.0) ∙ h.1) ∙ sym (past i (omega (arith, h.0)) (λ j k. sym (e j (omega (arith, h.0))) ∙ x.before i j refl k))
-  first-mark {n = n} Found.Nothing l e x =
+  first-mark {n = n} None l e x =
       mark-end test t (length t) (omega arith) ∙ sym (past (length t) (omega arith) (λ j k. sym (e j (omega arith)) ∙ x.none refl j (omega arith)))
 
 -- the words of a cell of a table
@@ -48,11 +49,11 @@ module _ (J : List ℕ) (k : ℕ) (h : k < 10) (x : ℕ) where
   named-key : (i : ℕ) → i < count_for J k → has_key false (words_in J k i) x [] ≡ eqb (word (get_or (table_for J k) i no_cell) 0) x
   named-key i l = and-true (eqb (get_or (words_in J k i) 0 0) x) ∙ ap (λ (us : List ℕ). eqb (get_or us 0 0) x) (words-at J k h i l)
 
-  pub named-first : {r : Found} → FirstHit (λ i. has_key false (words_in J k i) x []) (count_for J k) r → r ≡ first_named (table_for J k) x
+  pub named-first : {r : prelude.Option ℕ} → FirstHit (λ i. has_key false (words_in J k i) x []) (count_for J k) r → r ≡ first_named (table_for J k) x
   named-first {r} f = first-mark (λ c. eqb (word c 0) x) (table_for J k) r (table-long J k h) named-key f
 
 -- rows by primitive and arguments
-pub row_first : (J : List ℕ) (p : ℕ) (xs : List ℕ) {r : Found} → FirstHit (λ i. has_key true (words_in J 6 i) p xs) (count_for J 6) r
+pub row_first : (J : List ℕ) (p : ℕ) (xs : List ℕ) {r : prelude.Option ℕ} → FirstHit (λ i. has_key true (words_in J 6 i) p xs) (count_for J 6) r
     → r ≡ first_found 0 (map (λ c. eqb (word c 0) p && same_words (drop 2 c.words) xs) (table_for J 6))
 row_first J p xs {r} f =
     first-mark (λ c. eqb (word c 0) p && same_words (drop 2 c.words) xs) (table_for J 6) r (table-long J 6 (lit< tt)) (λ i l. ap (λ (us : List ℕ). has_key true us p xs) (words-at J 6 (lit< tt) i l)) f
@@ -112,7 +113,7 @@ module _ (J : List ℕ) {r : ℕ} (d : Differ (same_key false (words_in J 8)) (c
   key_of j i h l = and-true _ ∙ ap₂ eqb (name_of j h) (name_of i l)
 
   -- among the first i
-  front : (i : ℕ) → i ≤ count_for J 8 → (f : Found) → FirstHit (λ j. same_key false (words_in J 8) j i) i f → i < count_for J 8 → f ≡ first_named (take i (table_for J 8)) (word (get_or (table_for J 8) i no_cell) 0)
+  front : (i : ℕ) → i ≤ count_for J 8 → (f : prelude.Option ℕ) → FirstHit (λ j. same_key false (words_in J 8) j i) i f → i < count_for J 8 → f ≡ first_named (take i (table_for J 8)) (word (get_or (table_for J 8) i no_cell) 0)
   front i l f x h = first-mark (λ c. eqb (word c 0) (word (get_or (table_for J 8) i no_cell) 0)) (take i (table_for J 8)) f (front_long J 8 (lit< tt) i l)
       (λ j m. key_of j i (omega arith) h ∙ ap (λ (c : Cell). eqb (word c 0) (word (get_or (table_for J 8) i no_cell) 0)) (sym (get_or-take i (table_for J 8) j no_cell m))) x
 
@@ -122,12 +123,12 @@ module _ (J : List ℕ) {r : ℕ} (d : Differ (same_key false (words_in J 8)) (c
     differing-past zero h = refl
     differing-past (suc i) h =
         let l : i < count_for J 8 = omega (arith, d.low) in
-        let n : FirstHit (λ j. same_key false (words_in J 8) j i) i Found.Nothing = record {
+        let n : FirstHit (λ j. same_key false (words_in J 8) j i) i None = record {
           there = λ j e. let z : ◌≡◌ {A = ℕ} 0 1 = cc in absurd (omega arith);
           before = λ j m e q. let z : ◌≡◌ {A = ℕ} 0 1 = cc in absurd (omega arith);
           none = λ _ j q. d.differ i j (omega arith) q;
         } in
-        differing-past i (omega arith) ∙ rw add-one at (duplicate-no fact action (table_for J 8) i (omega (arith, table-long J 8 (lit< tt))) (front i (omega arith) Found.Nothing n l))
+        differing-past i (omega arith) ∙ rw add-one at (duplicate-no fact action (table_for J 8) i (omega (arith, table-long J 8 (lit< tt))) (front i (omega arith) None n l))
 
     pub differing-none : count_for J 8 ≤ r → none ≡ duplicate_rule_name [] (map (read_rule fact action) (table_for J 8))
     differing-none h = duplicate-end fact action (table_for J 8) r (omega (arith, table-long J 8 (lit< tt))) ∙ sym (differing-past r (omega arith))
@@ -135,9 +136,9 @@ module _ (J : List ℕ) {r : ℕ} (d : Differ (same_key false (words_in J 8)) (c
     pub differing-again : (l : r < count_for J 8) → some (word (get_or (table_for J 8) r no_cell) 0) ≡ duplicate_rule_name [] (map (read_rule fact action) (table_for J 8))
     differing-again l =
         let a = d.again l in
-        let f : FirstHit (λ j. same_key false (words_in J 8) j r) r (Found.At a.0) = record {
+        let f : FirstHit (λ j. same_key false (words_in J 8) j r) r (Some a.0) = record {
           there = λ i e. let q : a.0 ≡ i = cc in (omega (arith, a.1), (a.2.there i e).1);
           before = a.2.before;
           none = λ e. let z : ◌≡◌ {A = ℕ} 0 1 = cc in absurd (omega arith);
         } in
-        duplicate-yes fact action (table_for J 8) r (omega (arith, table-long J 8 (lit< tt))) a.0 (front r (omega arith) (Found.At a.0) f l) ∙ sym (differing-past r (omega arith))
+        duplicate-yes fact action (table_for J 8) r (omega (arith, table-long J 8 (lit< tt))) a.0 (front r (omega arith) (Some a.0) f l) ∙ sym (differing-past r (omega arith))

@@ -1,4 +1,6 @@
 -- Laws of look-ups in the cells of a table, and in the tables of an admitted job's program.
+use Rattle.std.specs.Prelude as prelude
+use Rattle.std.specs.Prelude.{Some, None}
 use mathlib.Core.Path.{◌≡◌, refl, sym, ap, ◌∙◌}
 use mathlib.Core.Bool.{Bool, true, false, ◌&&◌, ◌||◌}
 use mathlib.Core.List.{List, [], ◌∷◌, ◌++◌, map}
@@ -21,7 +23,6 @@ use Rattle.model.specs.Action.{merge_of}
 use Rattle.model.specs.Normalize.{as_app, normaliser_of, unwrap_or, normalize_by, normalize_app, normalize_container}
 use Rattle.model.specs.Load.{any}
 use Rattle.model.specs.Walk.{member, rule_of, duplicate_rule_name}
-use Rattle.cells.specs.declared.Found.{Found}
 use Rattle.decode.specs.View.{cell, term_of, row_of}
 use Rattle.decode.specs.declared.Row.{Row as RowView}
 use Rattle.decode.specs.declared.Term.{Term as TermView}
@@ -32,7 +33,7 @@ use Rattle.program.specs.Ready.{Ready, program_for, tables_for, first_named, rul
 
 -- the marks of cells, one after another
 module _ (test : Cell → Bool) (t : List Cell) (i : ℕ) where
-  pub mark-yes : i < length t → test (get_or t i no_cell) ≡ true → Found.At i ≡ first_found i (map test (drop i t))
+  pub mark-yes : i < length t → test (get_or t i no_cell) ≡ true → Some i ≡ first_found i (map test (drop i t))
   unfolding first_found
   mark-yes h e = rw (drop-cons t i no_cell h, e)
 
@@ -40,15 +41,15 @@ module _ (test : Cell → Bool) (t : List Cell) (i : ℕ) where
   unfolding first_found
   mark-no h e = rw (drop-cons t i no_cell h, e, add-one)
 
-  pub mark-end : length t ≤ i → Found.Nothing ≡ first_found i (map test (drop i t))
+  pub mark-end : length t ≤ i → None ≡ first_found i (map test (drop i t))
   unfolding first_found
   mark-end h = rw (drop_of_length-le t h)
 
 -- a place given, or none, is inside
-pub at-within : {i j n : ℕ} → i < n → Found.At i ≡ Found.At j → j < n
+pub at-within : {i j n : ℕ} → i < n → Some i ≡ Some j → j < n
 at-within {i} {j} h e = let s : i ≡ j = cc in omega arith
 
-pub none_within : {j n : ℕ} → Found.Nothing ≡ Found.At j → j < n
+pub none_within : {j n : ℕ} → None ≡ Some j → j < n
 none_within e = let z : ◌≡◌ {A = ℕ} 0 1 = cc in absurd (omega arith)
 
 -- a look-up gives the value of the first cell that passes a test
@@ -67,13 +68,13 @@ module _ {B : Type 0} {test : Cell → Bool} {value : Cell → Option B} {look :
   look-end t i h = rw (drop_of_length-le t h) (sym L.end)
 
   -- the cell found is the one that it takes
-  found_from : (cs : List Cell) (k i : ℕ) → first_found k (map test cs) ≡ Found.At i → (k ≤ i) × (look cs ≡ value (get_or cs (i - k) no_cell))
+  found_from : (cs : List Cell) (k i : ℕ) → first_found k (map test cs) ≡ Some i → (k ≤ i) × (look cs ≡ value (get_or cs (i - k) no_cell))
   unfolding first_found
   found_from [] k i e = let z : ◌≡◌ {A = ℕ} 0 1 = cc in absurd (omega arith)
   found_from (c ∷ cs) k i e = go (test c) refl (found_from cs (suc k) i) e
     where
-      go : (b : Bool) → test c ≡ b → (first_found (suc k) (map test cs) ≡ Found.At i → (suc k ≤ i) × (look cs ≡ value (get_or cs (i - suc k) no_cell)))
-          → first_found k (b ∷ map test cs) ≡ Found.At i → (k ≤ i) × (look (c ∷ cs) ≡ value (get_or (c ∷ cs) (i - k) no_cell))
+      go : (b : Bool) → test c ≡ b → (first_found (suc k) (map test cs) ≡ Some i → (suc k ≤ i) × (look cs ≡ value (get_or cs (i - suc k) no_cell)))
+          → first_found k (b ∷ map test cs) ≡ Some i → (k ≤ i) × (look (c ∷ cs) ≡ value (get_or (c ∷ cs) (i - k) no_cell))
       go true s ih q =
           let r : k ≡ i = cc in
           let d : i - k ≡ 0 = omega arith in
@@ -83,19 +84,19 @@ module _ {B : Type 0} {test : Cell → Bool} {value : Cell → Option B} {look :
           let d : i - k ≡ suc (i - suc k) = omega arith in
           (omega arith, rw (d, L.step c cs, s) h.1)
 
-  none_from : (cs : List Cell) (k : ℕ) → first_found k (map test cs) ≡ Found.Nothing → look cs ≡ none
+  none_from : (cs : List Cell) (k : ℕ) → first_found k (map test cs) ≡ None → look cs ≡ none
   unfolding first_found
   none_from [] k e = L.end
   none_from (c ∷ cs) k e = go (test c) refl (none_from cs (suc k)) e
     where
-      go : (b : Bool) → test c ≡ b → (first_found (suc k) (map test cs) ≡ Found.Nothing → look cs ≡ none) → first_found k (b ∷ map test cs) ≡ Found.Nothing → look (c ∷ cs) ≡ none
+      go : (b : Bool) → test c ≡ b → (first_found (suc k) (map test cs) ≡ None → look cs ≡ none) → first_found k (b ∷ map test cs) ≡ None → look (c ∷ cs) ≡ none
       go true s ih q = let z : ◌≡◌ {A = ℕ} 0 1 = cc in absurd (omega arith)
       go false s ih q = rw (L.step c cs, s) (ih q)
 
-  pub look-found : (t : List Cell) (i : ℕ) → first_found 0 (map test t) ≡ Found.At i → look t ≡ value (get_or t i no_cell)
+  pub look-found : (t : List Cell) (i : ℕ) → first_found 0 (map test t) ≡ Some i → look t ≡ value (get_or t i no_cell)
   look-found t i e = let d : i - 0 ≡ i = omega arith in rw d at (found_from t 0 i e).1
 
-  pub look-nothing : (t : List Cell) → first_found 0 (map test t) ≡ Found.Nothing → look t ≡ none
+  pub look-nothing : (t : List Cell) → first_found 0 (map test t) ≡ None → look t ≡ none
   look-nothing t e = none_from t 0 e
 
 -- the look-ups of a program
@@ -118,9 +119,9 @@ pub row-test : (c : Cell) (r : RowView) (p : ℕ) (xs : List ℕ) {ws us : List 
 row-test c r p xs w e u s = rw (s, u, ap (λ (x : Row). x.primitive) e, w)
 
 -- the rule found
-pub rule_found : (fact : ℕ → Fact) (action : ℕ → Action) (t : List Cell) (x : ℕ) (r : Found) → r ≡ first_named t x → rule_at (map (read_rule fact action) t) r ≡ rule_of (map (read_rule fact action) t) x
-rule_found fact action t x (Found.At i) e = ap some (get_or-map (read_rule fact action) t i no_cell) ∙ sym (look-found (rule-looks fact action x) t i (sym e))
-rule_found fact action t x Found.Nothing e = sym (look-nothing (rule-looks fact action x) t (sym e))
+pub rule_found : (fact : ℕ → Fact) (action : ℕ → Action) (t : List Cell) (x : ℕ) (r : prelude.Option ℕ) → r ≡ first_named t x → rule_at (map (read_rule fact action) t) r ≡ rule_of (map (read_rule fact action) t) x
+rule_found fact action t x (Some i) e = ap some (get_or-map (read_rule fact action) t i no_cell) ∙ sym (look-found (rule-looks fact action x) t i (sym e))
+rule_found fact action t x None e = sym (look-nothing (rule-looks fact action x) t (sym e))
 
 -- names seen before
 module _ (t : List Cell) where
@@ -150,29 +151,29 @@ unfolding seen
 member_seen t x zero h = refl
 member_seen t x (suc i) h = rw (take-suc t i no_cell h, any_last (λ c. eqb (word c 0) x) (take i t) (get_or t i no_cell), eqb-sym x (word (get_or t i no_cell) 0), member_seen t x i (omega arith))
 
-any_found : (test : Cell → Bool) (cs : List Cell) (k : ℕ) → any test cs ≡ elim (first_found k (map test cs)) [ Found.At i ↦ true | Found.Nothing ↦ false ]
+any_found : (test : Cell → Bool) (cs : List Cell) (k : ℕ) → any test cs ≡ elim (first_found k (map test cs)) [ Some i ↦ true | None ↦ false ]
 unfolding first_found
 any_found test [] k = refl
 any_found test (c ∷ cs) k = go (test c) (any_found test cs (suc k))
   where
-    go : (b : Bool) → any test cs ≡ elim (first_found (suc k) (map test cs)) [ Found.At i ↦ true | Found.Nothing ↦ false ]
-        → (b || any test cs) ≡ elim (first_found k (b ∷ map test cs)) [ Found.At i ↦ true | Found.Nothing ↦ false ]
+    go : (b : Bool) → any test cs ≡ elim (first_found (suc k) (map test cs)) [ Some i ↦ true | None ↦ false ]
+        → (b || any test cs) ≡ elim (first_found k (b ∷ map test cs)) [ Some i ↦ true | None ↦ false ]
     go true h = refl
     go false h = h
 
 -- one rule after another
 module _ (fact : ℕ → Fact) (action : ℕ → Action) (t : List Cell) (i : ℕ) where
-  before : i < length t → (r : Found) → r ≡ first_named (take i t) (word (get_or t i no_cell) 0) → member (word (get_or t i no_cell) 0) (seen t i) ≡ elim r [ Found.At j ↦ true | Found.Nothing ↦ false ]
+  before : i < length t → (r : prelude.Option ℕ) → r ≡ first_named (take i t) (word (get_or t i no_cell) 0) → member (word (get_or t i no_cell) 0) (seen t i) ≡ elim r [ Some j ↦ true | None ↦ false ]
   before h r e = member_seen t (word (get_or t i no_cell) 0) i (omega arith) ∙ any_found (λ c. eqb (word c 0) (word (get_or t i no_cell) 0)) (take i t) 0
-      ∙ ap (λ (f : Found). elim f [ Found.At j ↦ true | Found.Nothing ↦ false ]) (sym e)
+      ∙ ap (λ (f : prelude.Option ℕ). elim f [ Some j ↦ true | None ↦ false ]) (sym e)
 
-  pub duplicate-yes : i < length t → (j : ℕ) → Found.At j ≡ first_named (take i t) (word (get_or t i no_cell) 0) → some (word (get_or t i no_cell) 0) ≡ duplicate_rule_name (seen t i) (map (read_rule fact action) (drop i t))
-  duplicate-yes h j e = let m = before h (Found.At j) e in rw (drop-cons t i no_cell h, duplicate_rule_name, m)
+  pub duplicate-yes : i < length t → (j : ℕ) → Some j ≡ first_named (take i t) (word (get_or t i no_cell) 0) → some (word (get_or t i no_cell) 0) ≡ duplicate_rule_name (seen t i) (map (read_rule fact action) (drop i t))
+  duplicate-yes h j e = let m = before h (Some j) e in rw (drop-cons t i no_cell h, duplicate_rule_name, m)
 
-  pub duplicate-no : i < length t → Found.Nothing ≡ first_named (take i t) (word (get_or t i no_cell) 0)
+  pub duplicate-no : i < length t → None ≡ first_named (take i t) (word (get_or t i no_cell) 0)
       → duplicate_rule_name (seen t i) (map (read_rule fact action) (drop i t)) ≡ duplicate_rule_name (seen t (i + 1)) (map (read_rule fact action) (drop (i + 1) t))
   unfolding seen
-  duplicate-no h e = let m = before h Found.Nothing e in rw (drop-cons t i no_cell h, duplicate_rule_name, m, add-one)
+  duplicate-no h e = let m = before h None e in rw (drop-cons t i no_cell h, duplicate_rule_name, m, add-one)
 
   pub duplicate-end : length t ≤ i → none ≡ duplicate_rule_name (seen t i) (map (read_rule fact action) (drop i t))
   duplicate-end h = rw (drop_of_length-le t h)

@@ -17,10 +17,9 @@ ghost use Rattle.program.specs.Ready.{Held, Ready, tables_for, table_for, count_
 ghost use Rattle.lookups.specs.Keyed.{words_in, ChainedTable, Keyed};
 
 use cell_tests::words::at;
-use cells::{Found, same_words, wide};
-use decode::{Merge, Term, read_function, read_normaliser, read_row, row_arguments, rule_name};
+use cells::{same_words, wide};
+use decode::{Term, read_function, read_normaliser, read_row, row_arguments, rule_name};
 use index::Fill;
-use program::Looked;
 use program::job::{
     FUNCTIONS, NORMALISERS, ROWS, RULES, cell_count, cell_words, ends, fill, first, kind_at, kinds,
     nearest_first, pool, size, words_at,
@@ -41,7 +40,7 @@ const RULE_CHAINS: usize = 20481;
 const FUNCTION_CHAINS: usize = 28673;
 
 // Of the first `count` cells of a table, the place of the first of that name. The end of one cell is the start of the next.
-fn first_named(job: &[u32], table: usize, count: usize, name: u32) -> Found
+fn first_named(job: &[u32], table: usize, count: usize, name: u32) -> Option<usize>
     requires held { Held job.now }
     requires table_bound { table < 10 }
     requires count_bound { count ≤ count_for job.now table }
@@ -56,12 +55,12 @@ fn first_named(job: &[u32], table: usize, count: usize, name: u32) -> Found
     while i < count {
         let to = wide(all_ends[start + i]);
         if at(&all_words[from..to], 0) == name {
-            return Found::At(i);
+            return Some(i);
         }
         from = to;
         i += 1;
     }
-    Found::Nothing
+    None
 }
 
 // Chains the cells of a table by their keys, unless they are few.
@@ -130,7 +129,7 @@ fn find_key(
     rows: bool,
     head: u32,
     args: &[u32],
-) -> Found
+) -> Option<usize>
     requires held { Held job.now }
     requires table_bound { table < 10 }
     requires lt_b { 4096 < b }
@@ -160,7 +159,7 @@ fn find_key(
 }
 
 // The place of the first cell of a table that has the name.
-fn find_named(job: &[u32], found: &[u32], table: usize, b: usize, name: u32) -> Found
+fn find_named(job: &[u32], found: &[u32], table: usize, b: usize, name: u32) -> Option<usize>
     requires held { Held job.now }
     requires table_bound { table < 10 }
     requires lt_b { 4096 < b }
@@ -176,7 +175,7 @@ fn find_named(job: &[u32], found: &[u32], table: usize, b: usize, name: u32) -> 
 }
 
 // The result of the row of a primitive and its arguments, among all rows.
-fn scan_rows(job: &[u32], p: u32, args: &[u32]) -> Looked
+fn scan_rows(job: &[u32], p: u32, args: &[u32]) -> Option<u32>
     requires { Ready job.now }
     ensures { option_of result ≡ row_value (program_for job.now).rows p args.now }
 {
@@ -188,15 +187,15 @@ fn scan_rows(job: &[u32], p: u32, args: &[u32]) -> Looked
         let row = read_row(ws);
         let same = same_words(row_arguments(ws), args);
         if (row.primitive == p) & same {
-            return Looked::Some(row.result);
+            return Some(row.result);
         }
         i += 1;
     }
-    Looked::None
+    None
 }
 
 // The result of the row of a primitive and its arguments.
-pub fn row_value(job: &[u32], found: &[u32], p: u32, args: &[u32]) -> Looked
+pub fn row_value(job: &[u32], found: &[u32], p: u32, args: &[u32]) -> Option<u32>
     requires ready { Ready job.now }
     requires keyed { Keyed job.now found.now }
     ensures { option_of result ≡ row_value (program_for job.now).rows p args.now }
@@ -205,29 +204,29 @@ pub fn row_value(job: &[u32], found: &[u32], p: u32, args: &[u32]) -> Looked
         return scan_rows(job, p, args);
     }
     let place = find_key(job, found, ROWS, ROW_CHAINS, true, p, args);
-    let Found::At(i) = place else {
-        return Looked::None;
+    let Some(i) = place else {
+        return None;
     };
     let row = read_row(words_at(job, ROWS, i));
-    Looked::Some(row.result)
+    Some(row.result)
 }
 
 // The primitive that normalises a head.
-pub fn normaliser_of(job: &[u32], found: &[u32], head: u32) -> Looked
+pub fn normaliser_of(job: &[u32], found: &[u32], head: u32) -> Option<u32>
     requires ready { Ready job.now }
     requires keyed { Keyed job.now found.now }
     ensures { option_of result ≡ normaliser_of (program_for job.now).normalisers head }
 {
     let place = find_named(job, found, NORMALISERS, NORMALISER_CHAINS, head);
-    let Found::At(i) = place else {
-        return Looked::None;
+    let Some(i) = place else {
+        return None;
     };
     let n = read_normaliser(words_at(job, NORMALISERS, i));
-    Looked::Some(n.primitive)
+    Some(n.primitive)
 }
 
 // The number of the first rule of a name.
-pub fn rule_of(job: &[u32], found: &[u32], name: u32) -> Found
+pub fn rule_of(job: &[u32], found: &[u32], name: u32) -> Option<usize>
     requires ready { Ready job.now }
     requires keyed { Keyed job.now found.now }
     ensures { FindsRule (program_for job.now).rules (sizes_of job.now).rules name result }
@@ -236,21 +235,21 @@ pub fn rule_of(job: &[u32], found: &[u32], name: u32) -> Found
 }
 
 // The merge of the first function of a name.
-pub fn merge_of(job: &[u32], found: &[u32], function: u32) -> Merge
+pub fn merge_of(job: &[u32], found: &[u32], function: u32) -> Option<u32>
     requires ready { Ready job.now }
     requires keyed { Keyed job.now found.now }
     ensures { Merges (expr_of (tables_for job.now).expressions) (sizes_of job.now).expressions result (merge_of (program_for job.now).functions function) }
 {
     let place = find_named(job, found, FUNCTIONS, FUNCTION_CHAINS, function);
-    let Found::At(i) = place else {
-        return Merge::Nothing;
+    let Some(i) = place else {
+        return None;
     };
     let f = read_function(kind_at(job, FUNCTIONS, i), words_at(job, FUNCTIONS, i));
     f.merge
 }
 
 // The first rule name that has been seen before, each looked for among those before it.
-fn scan_rule_names(job: &[u32]) -> Looked
+fn scan_rule_names(job: &[u32]) -> Option<u32>
     requires { Ready job.now }
     ensures { option_of result ≡ duplicate_rule_name [] (program_for job.now).rules }
 {
@@ -259,12 +258,12 @@ fn scan_rule_names(job: &[u32]) -> Looked
     while i < count {
         let name = rule_name(words_at(job, RULES, i));
         let seen = first_named(job, RULES, i, name);
-        if let Found::At(_) = seen {
-            return Looked::Some(name);
+        if let Some(_) = seen {
+            return Some(name);
         }
         i += 1;
     }
-    Looked::None
+    None
 }
 
 // How many rules, from the first on, have another name than those before them.
@@ -294,7 +293,7 @@ fn differing_rules(job: &[u32], found: &[u32]) -> usize
 }
 
 // The first rule name that has been seen before.
-pub fn duplicate_rule_name(job: &[u32], found: &[u32]) -> Looked
+pub fn duplicate_rule_name(job: &[u32], found: &[u32]) -> Option<u32>
     requires ready { Ready job.now }
     requires keyed { Keyed job.now found.now }
     ensures { option_of result ≡ duplicate_rule_name [] (program_for job.now).rules }
@@ -305,9 +304,9 @@ pub fn duplicate_rule_name(job: &[u32], found: &[u32]) -> Looked
     }
     let i = differing_rules(job, found);
     if i < count {
-        return Looked::Some(rule_name(words_at(job, RULES, i)));
+        return Some(rule_name(words_at(job, RULES, i)));
     }
-    Looked::None
+    None
 }
 
 // The normal form of an application t; no normaliser, or no value, gives t itself.
@@ -317,11 +316,11 @@ fn normalize_app(job: &[u32], found: &[u32], t: u32, head: u32, args: &[u32]) ->
     ensures { (room : Room) (s : List terms.Term) → normalize_app room (program_for job.now) t (some (record { head = head; args = args.now })) s ≡ ok result s }
 {
     let normaliser = normaliser_of(job, found, head);
-    let Looked::Some(p) = normaliser else {
+    let Some(p) = normaliser else {
         return t;
     };
     let value = row_value(job, found, p, args);
-    let Looked::Some(r) = value else {
+    let Some(r) = value else {
         return t;
     };
     r

@@ -1,4 +1,6 @@
 -- The views of two claims: what is read of them.
+use Rattle.std.specs.Prelude as prelude
+use Rattle.std.specs.Prelude.{Some, None}
 use mathlib.Core.Path.{◌≡◌, refl, sym, ap, ap₂, ◌∙◌}
 use mathlib.Core.Bool.{Bool}
 use mathlib.Core.List.{List, [], ◌∷◌}
@@ -18,7 +20,6 @@ use Rattle.model.specs.Walk.{last, front}
 use Rattle.outcome.specs.Does.{refusal, outcome_by, outcome_of}
 use Rattle.outcome.specs.declared.Refusal.{Refusal}
 use Rattle.program.specs.Ready.{option_of}
-use Rattle.program.specs.declared.Looked.{Looked}
 use Rattle.merges.specs.declared.Views.{Views}
 use Rattle.merges.specs.Merge.{Merging, compare_views, both_views, both_reflexive, read_views}
 use Rattle.merges.specs.Step.{refused_unless, app_with, merging_of}
@@ -106,19 +107,19 @@ module _ (p : ℕ) (a b : Proposition) (s : List Term) (first : Refusal) (B : (u
     unfolding read_views
     after v e d h = plain_then first tt s (B s) v.refusal (merging_of v (front xs)) both n (h ∙ ap₂ (λ (x y : Option App). both_views p a.rhs b.rhs x y s) e d)
 
-    module _ (x y : Looked) (e : app_with (option_of x) xs ≡ as_app (get_term s a.rhs)) (d : app_with (option_of y) ys ≡ as_app (get_term s b.rhs)) where
-      pub old-no-app : {v : Views} → x ≡ Looked.None → v ≡ record { refusal = refusal 37 3 (p ∷ a.rhs ∷ b.rhs ∷ 0 ∷ 0 ∷ 0 ∷ []); head = 0; old = 0; new = 0 }
+    module _ (x y : prelude.Option ℕ) (e : app_with (option_of x) xs ≡ as_app (get_term s a.rhs)) (d : app_with (option_of y) ys ≡ as_app (get_term s b.rhs)) where
+      pub old-no-app : {v : Views} → x ≡ None → v ≡ record { refusal = refusal 37 3 (p ∷ a.rhs ∷ b.rhs ∷ 0 ∷ 0 ∷ 0 ∷ []); head = 0; old = 0; new = 0 }
           → outcome_of v.refusal (merging_of v (front xs)) s ≡ read_views p a b s
-      old-no-app {v} h g = after v (ap (λ (u : Looked). app_with (option_of u) xs) (sym h) ∙ e) refl (refused_as _ (front xs) s g)
+      old-no-app {v} h g = after v (ap (λ (u : prelude.Option ℕ). app_with (option_of u) xs) (sym h) ∙ e) refl (refused_as _ (front xs) s g)
 
-      pub new-no-app : {v : Views} {f : ℕ} → x ≡ Looked.Some f → y ≡ Looked.None → v ≡ record { refusal = refusal 37 3 (p ∷ a.rhs ∷ b.rhs ∷ 0 ∷ 0 ∷ 0 ∷ []); head = 0; old = 0; new = 0 }
+      pub new-no-app : {v : Views} {f : ℕ} → x ≡ Some f → y ≡ None → v ≡ record { refusal = refusal 37 3 (p ∷ a.rhs ∷ b.rhs ∷ 0 ∷ 0 ∷ 0 ∷ []); head = 0; old = 0; new = 0 }
           → outcome_of v.refusal (merging_of v (front xs)) s ≡ read_views p a b s
       new-no-app {v} h k g =
-          after v (ap (λ (u : Looked). app_with (option_of u) xs) (sym h) ∙ e) (ap (λ (u : Looked). app_with (option_of u) ys) (sym k) ∙ d) (refused_as _ (front xs) s g)
+          after v (ap (λ (u : prelude.Option ℕ). app_with (option_of u) xs) (sym h) ∙ e) (ap (λ (u : prelude.Option ℕ). app_with (option_of u) ys) (sym k) ∙ d) (refused_as _ (front xs) s g)
 
-      pub views-read : (v : Views) {f g : ℕ} {us vs : List ℕ} → x ≡ Looked.Some f → y ≡ Looked.Some g → us ≡ xs → vs ≡ ys
+      pub views-read : (v : Views) {f g : ℕ} {us vs : List ℕ} → x ≡ Some f → y ≡ Some g → us ≡ xs → vs ≡ ys
           → ((u : List Term) → outcome_of v.refusal (merging_of v (front us)) u ≡ compare_views p (record { head = f; args = us }) (record { head = g; args = vs }) u)
           → outcome_of v.refusal (merging_of v (front xs)) s ≡ read_views p a b s
-      views-read v {f} {g} {us} {vs} h k q r w = after v (ap (λ (u : Looked). app_with (option_of u) xs) (sym h) ∙ e) (ap (λ (u : Looked). app_with (option_of u) ys) (sym k) ∙ d)
+      views-read v {f} {g} {us} {vs} h k q r w = after v (ap (λ (u : prelude.Option ℕ). app_with (option_of u) xs) (sym h) ∙ e) (ap (λ (u : prelude.Option ℕ). app_with (option_of u) ys) (sym k) ∙ d)
           (ap (λ (l : List ℕ). outcome_of v.refusal (merging_of v (front l)) s) (sym q) ∙ w s
           ∙ ap₂ (λ (l m : List ℕ). compare_views p (record { head = f; args = l }) (record { head = g; args = m }) s) q r)

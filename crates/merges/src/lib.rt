@@ -24,7 +24,6 @@ use decode::{Proposition, Term};
 use heads::{clear_if, is_claimed, run_merge};
 use index::Fill;
 use outcome::{Checked, Refusal, add_app};
-use program::Looked;
 use termdag::children;
 
 // Two views to merge: their function and their values.
@@ -51,16 +50,16 @@ pub fn check_that(test: bool, refusal: Refusal) -> Refusal
 }
 
 // The head of a term, if it is an application.
-pub fn app_head(kinds: &[u32], ends: &[u32], pool: &[u32], fill: Fill, t: u32) -> Looked
+pub fn app_head(kinds: &[u32], ends: &[u32], pool: &[u32], fill: Fill, t: u32) -> Option<u32>
     requires stored { Stored kinds.now ends.now pool.now fill }
     requires t_lt_cells { t < fill.cells }
     ensures { app_with (option_of result) (evaluate.children (terms.get_term (terms_in kinds.now ends.now pool.now fill) t)) ≡ as_app (terms.get_term (terms_in kinds.now ends.now pool.now fill) t) }
 {
     let term = termdag::get(kinds, ends, pool, fill, wide(t));
     match term {
-        Term::Lit(_) => Looked::None,
-        Term::Var(_) => Looked::None,
-        Term::App(f) => Looked::Some(f),
+        Term::Lit(_) => None,
+        Term::Var(_) => None,
+        Term::App(f) => Some(f),
     }
 }
 
@@ -197,10 +196,10 @@ fn read_views(
         count: 3,
         fields: [p, a.rhs, b.rhs, 0, 0, 0],
     };
-    let Looked::Some(f) = x else {
+    let Some(f) = x else {
         return refused_views(none);
     };
-    let Looked::Some(g) = y else {
+    let Some(g) = y else {
         return refused_views(none);
     };
     let xs = children(kinds, ends, pool, fill, wide(a.rhs));

@@ -1,4 +1,5 @@
 -- Laws of the search: what the words of the table say, and the offences of an expression by its arguments.
+use Rattle.std.specs.Prelude as prelude
 use mathlib.Core.Path.{◌≡◌, refl, sym, ap, ap₂, subst, ◌∙◌}
 use mathlib.Core.Bool.{Bool, true, false, ◌&&◌, ◌||◌}
 use mathlib.Core.List.{List}
@@ -235,10 +236,10 @@ module _ (J : List ℕ) where
     }
 
 -- normal form, by the offence that was found
-pub normal-form : (J : List ℕ) (rule : ℕ) (s : List Term) {n i : ℕ} {o g : Offence} → offence_of o ≡ fact_offence (program_for J) (fact_for J n) → n ≡ i → o ≡ g
+pub normal-form : (J : List ℕ) (rule : ℕ) (s : List Term) {n i : ℕ} {o g : prelude.Option Offence} → offence_of o ≡ fact_offence (program_for J) (fact_for J n) → n ≡ i → o ≡ g
     → no_offence rule (offence_of g) s ≡ assert_body_proof_normal_form (program_for J) rule (fact_for J i) s
 unfolding assert_body_proof_normal_form
 normal-form J rule s d q p =
-    ap (λ (x : Offence). no_offence rule (offence_of x) s) (sym p)
+    ap (λ (x : prelude.Option Offence). no_offence rule (offence_of x) s) (sym p)
     ∙ ap (λ (x : Option fact.Offence). no_offence rule x s) d
     ∙ ap (λ (j : ℕ). no_offence rule (fact_offence (program_for J) (fact_for J j)) s) q

@@ -1,4 +1,6 @@
 -- The offences of an admitted job's expressions and which of them call a container's primitive, each by one word of a table.
+use Rattle.std.specs.Prelude as prelude
+use Rattle.std.specs.Prelude.{Some, None}
 use Rattle.std.specs.Prelude.{◌≡◌, Bool, true, false, List, ℕ, ◌-◌, ◌/◌, ◌%◌, ◌≤◌, ◌<◌, eqb, length, get_or}
 use Rattle.std.proofs.Math.Option.{Option, none, some}
 use Rattle.model.specs.Layout.{sizes_of}
@@ -12,10 +14,10 @@ use Rattle.program.specs.Read.{expr_for}
 use Rattle.normal_form.specs.declared.Offence.{Offence}
 
 -- An offence, or none.
-abbrev pub offence_of : Offence → Option fact.Offence
-offence_of Offence.None = none
-offence_of (Offence.PrimitiveNonNormalArg e) = some (primitive_non_normal_arg e)
-offence_of (Offence.ContainerPrimitiveNotSideCondition e) = some (container_primitive_not_side_condition e)
+abbrev pub offence_of : prelude.Option Offence → Option fact.Offence
+offence_of None = none
+offence_of (Some (Offence.PrimitiveNonNormalArg e)) = some (primitive_non_normal_arg e)
+offence_of (Some (Offence.ContainerPrimitiveNotSideCondition e)) = some (container_primitive_not_side_condition e)
 
 -- What the word w says, where it is told whether it is 0, and odd.
 abbrev pub offence_by : Bool → Bool → ℕ → Option fact.Offence

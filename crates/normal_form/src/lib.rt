@@ -18,27 +18,26 @@ use decode::{Fact, Head};
 use outcome::Refusal;
 use program::job::{EXPRESSIONS, size};
 use program::read::{arguments_at, fact_at, head_at};
-use program::{Looked, primitive_at};
+use program::{primitive_at};
 
-// An argument, by its expression number, that is not in proof normal form, or none.
+// An argument, by its expression number, that is not in proof normal form.
 #[derive(Clone, Copy)]
 pub enum Offence {
-    None,
     PrimitiveNonNormalArg(u32),
     ContainerPrimitiveNotSideCondition(u32),
 }
 
 // The offence that half a word of the table says.
-fn read_offence(w: u32) -> Offence
+fn read_offence(w: u32) -> Option<Offence>
     ensures { offence_of result ≡ offence_in w }
 {
     if w == 0 {
-        return Offence::None;
+        return None;
     }
     if w % 2 == 1 {
-        return Offence::PrimitiveNonNormalArg(w / 2);
+        return Some(Offence::PrimitiveNonNormalArg(w / 2));
     }
-    Offence::ContainerPrimitiveNotSideCondition(w / 2 - 1)
+    Some(Offence::ContainerPrimitiveNotSideCondition(w / 2 - 1))
 }
 
 // The first offence of two halves.
@@ -98,18 +97,18 @@ fn is_container_primitive(job: &[u32], e: usize) -> bool
 }
 
 // The variable that expression e is, if it is one.
-pub fn variable_of(job: &[u32], e: u32) -> Looked
+pub fn variable_of(job: &[u32], e: u32) -> Option<u32>
     requires ready { Ready job.now }
     requires e_bound { e < (sizes_of job.now).expressions }
     ensures { option_of result ≡ variable_of (fact.head_of (expr_for job.now e)) }
 {
     let head = head_at(job, wide(e));
     match head {
-        Head::Lit(_) => Looked::None,
-        Head::Var(x) => Looked::Some(x),
-        Head::Constructor(_) => Looked::None,
-        Head::Custom(_) => Looked::None,
-        Head::Primitive(_) => Looked::None,
+        Head::Lit(_) => None,
+        Head::Var(x) => Some(x),
+        Head::Constructor(_) => None,
+        Head::Custom(_) => None,
+        Head::Primitive(_) => None,
     }
 }
 
@@ -190,7 +189,7 @@ pub fn find_offences(job: &[u32], found: &mut [u32])
 }
 
 // The first offence in a fact.
-fn fact_offence(job: &[u32], found: &[u32], i: usize) -> Offence
+fn fact_offence(job: &[u32], found: &[u32], i: usize) -> Option<Offence>
     requires ready { Ready job.now }
     requires searched { Searched job.now found.now }
     requires i_bound { i < (sizes_of job.now).facts }
@@ -210,13 +209,14 @@ pub fn assert_body_proof_normal_form(job: &[u32], found: &[u32], rule: u32, i: u
     requires i_bound { i < (sizes_of job.now).facts }
     ensures { (s : List Term) → outcome_of result tt s ≡ assert_body_proof_normal_form (program_for job.now) rule (fact_for job.now i) s }
 {
-    let offence = fact_offence(job, found, wide(i));
-    match offence {
-        Offence::None => Refusal {
+    let Some(offence) = fact_offence(job, found, wide(i)) else {
+        return Refusal {
             number: 0,
             count: 0,
             fields: [0; 6],
-        },
+        };
+    };
+    match offence {
         Offence::PrimitiveNonNormalArg(e) => Refusal {
             number: 49,
             count: 2,

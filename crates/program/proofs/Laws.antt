@@ -1,4 +1,6 @@
 -- Laws of pairs, of the tables of an admitted job, and of what their cells have.
+use Rattle.std.specs.Prelude as prelude
+use Rattle.std.specs.Prelude.{Some}
 use mathlib.Core.Path.{◌≡◌, refl, sym, ap, ◌∙◌}
 use mathlib.Core.Bool.{Bool, true, ◌&&◌}
 use mathlib.Core.List.{List, [], ◌∷◌, map}
@@ -16,12 +18,10 @@ use Rattle.model.specs.Decode.{word, expr_of, read_fact, read_action, read_funct
 use Rattle.model.specs.Evaluate.{lookup, primitive_at}
 use Rattle.model.specs.Load.{counts, below, row_fits, rule_fits, passed, fit_tests}
 use Rattle.model.proofs.Tests.{eq_of, lt_of, le_of, and_left, and_right}
-use Rattle.cells.specs.declared.Found.{Found}
 use Rattle.cells.proofs.Laws.{cells-length}
 use Rattle.decode.specs.View as view
 use Rattle.decode.specs.View.{function_of}
 use Rattle.decode.specs.declared.Function.{Function as FunctionView}
-use Rattle.decode.specs.declared.Merge.{Merge}
 use Rattle.cell_tests.proofs.Laws.{pair-at, pairs_end}
 use Rattle.load.proofs.TableLaws.{table-length}
 use Rattle.program.specs.Ready.{Ready, cells_for, tables_for, table_for, count_for, first_named}
@@ -96,7 +96,7 @@ module _ (J : List ℕ) (k : ℕ) (h : k < 10) where
   pub front_long : (n : ℕ) → n ≤ count_for J k → length (take n (table_for J k)) ≡ n
   front_long n l = simp length-take (omega (arith, table-long))
 
-  pub front-whole : (x : ℕ) {n : ℕ} {r : Found} → n ≡ count_for J k → r ≡ first_named (take n (table_for J k)) x → r ≡ first_named (table_for J k) x
+  pub front-whole : (x : ℕ) {n : ℕ} {r : prelude.Option ℕ} → n ≡ count_for J k → r ≡ first_named (take n (table_for J k)) x → r ≡ first_named (table_for J k) x
   front-whole x {n} e q = q ∙ ap (λ (t : List Cell). first_named t x) (take_all n (table_for J k) (omega (arith, table-long)))
 
 module _ {J : List ℕ} (R : Ready J) where
@@ -142,7 +142,7 @@ function-words {c} e h = counted-least (1 ∷ 2 ∷ []) (λ k. get_or (1 ∷ [])
 
 -- the merge expression of a function that is admitted
 pub merge-within : (n : ℕ) (c : Cell) (f : FunctionView) → counts (1 ∷ 2 ∷ []) c ≡ true → below n (drop 1 c.words) ≡ true
-    → ((expr : ℕ → Expr) → function_of expr f ≡ read_function expr c) → (e : ℕ) → f.merge ≡ Merge.Expr e → e < n
+    → ((expr : ℕ → Expr) → function_of expr f ≡ read_function expr c) → (e : ℕ) → f.merge ≡ Some e → e < n
 merge-within n c f h b v e q =
     go c.kind c.words (counted (1 ∷ 2 ∷ []) c h) b (ap (view.merge_of leaf) (sym q) ∙ ap (λ (g : Function). g.merge) (v leaf))
   where

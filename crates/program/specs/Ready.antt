@@ -1,4 +1,6 @@
 -- An admitted job, the program that it says, and the answers of look-ups. A job is given by its words.
+use Rattle.std.specs.Prelude as prelude
+use Rattle.std.specs.Prelude.{Some, None}
 use Rattle.std.specs.Prelude.{◌≡◌, List, [], map, ℕ, ◌+◌, ◌<◌, eqb, length, get_or}
 use Rattle.std.proofs.Math.Option.{Option, none, some}
 use Rattle.model.specs.Cell.{Cell, no_cell, cells_of}
@@ -7,13 +9,10 @@ use Rattle.model.specs.Program.{Expr, Rule, Program}
 use Rattle.model.specs.Decode.{word, read_program}
 use Rattle.model.specs.Walk.{rule_of}
 use Rattle.model.specs.Load.{Admitted}
-use Rattle.cells.specs.declared.Found.{Found}
 use Rattle.decode.specs.View as view
-use Rattle.decode.specs.declared.Merge.{Merge}
 use Rattle.cells.specs.Table.{Formed}
 use Rattle.cells.specs.declared.Fill.{Fill}
 use Rattle.load.specs.Held.{Limits, counts_of, first_found}
-use Rattle.program.specs.declared.Looked.{Looked}
 
 -- The cells of a job, cell i, and the tables.
 abbrev pub cells_for : List ℕ → List Cell
@@ -60,30 +59,30 @@ abbrev pub rule_for : List ℕ → ℕ → Rule
 rule_for J r = get_or (program_for J).rules r no_rule
 
 -- What a look-up gives.
-abbrev pub option_of : Looked → Option ℕ
-option_of (Looked.Some x) = some x
-option_of Looked.None = none
+abbrev pub option_of : prelude.Option ℕ → Option ℕ
+option_of (Some x) = some x
+option_of None = none
 
 -- The place of the first cell whose name, its first word, is x.
-abbrev pub first_named : List Cell → ℕ → Found
+abbrev pub first_named : List Cell → ℕ → prelude.Option ℕ
 first_named cs x = first_found 0 (map (λ c. eqb (word c 0) x) cs)
 
 -- r is the place, below n, of the first cell of that name.
-pub record FindsCell (cs : List Cell) (n x : ℕ) (r : Found) : Type 0 where
+pub record FindsCell (cs : List Cell) (n x : ℕ) (r : prelude.Option ℕ) : Type 0 where
   pub is : r ≡ first_named cs x
-  pub within : (i : ℕ) → r ≡ Found.At i → i < n
+  pub within : (i : ℕ) → r ≡ Some i → i < n
 
 -- The rule at a place.
-abbrev pub rule_at : List Rule → Found → Option Rule
-rule_at rs (Found.At i) = some (get_or rs i no_rule)
-rule_at rs Found.Nothing = none
+abbrev pub rule_at : List Rule → prelude.Option ℕ → Option Rule
+rule_at rs (Some i) = some (get_or rs i no_rule)
+rule_at rs None = none
 
 -- r is the place, below n, of the first rule of that name.
-pub record FindsRule (rs : List Rule) (n x : ℕ) (r : Found) : Type 0 where
+pub record FindsRule (rs : List Rule) (n x : ℕ) (r : prelude.Option ℕ) : Type 0 where
   pub is : rule_at rs r ≡ rule_of rs x
-  pub within : (i : ℕ) → r ≡ Found.At i → i < n
+  pub within : (i : ℕ) → r ≡ Some i → i < n
 
 -- r is the merge o, by the number of its expression, below n.
-pub record Merges (expr : ℕ → Expr) (n : ℕ) (r : Merge) (o : Option Expr) : Type 0 where
+pub record Merges (expr : ℕ → Expr) (n : ℕ) (r : prelude.Option ℕ) (o : Option Expr) : Type 0 where
   pub is : view.merge_of expr r ≡ o
-  pub within : (e : ℕ) → r ≡ Merge.Expr e → e < n
+  pub within : (e : ℕ) → r ≡ Some e → e < n

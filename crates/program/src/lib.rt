@@ -14,26 +14,19 @@ ghost use Rattle.program.specs.Ready.{Ready, program_for, option_of};
 use crate::job::{PRIMITIVES, kind_at, words_at};
 use decode::{Primitive, read_primitive};
 
-// What a look-up gives.
-#[derive(Clone, Copy)]
-pub enum Looked {
-    Some(u32),
-    None,
-}
-
 // The term bound to a name in pairs of name and term: the first pair counts.
-pub fn lookup_pairs(ws: &[u32], name: u32) -> Looked
+pub fn lookup_pairs(ws: &[u32], name: u32) -> Option<u32>
     ensures { option_of result ≡ lookup (read_bindings ws.now) name }
 {
     let len = ws.len();
     let mut k = 1;
     while k < len {
         if ws[k - 1] == name {
-            return Looked::Some(ws[k]);
+            return Some(ws[k]);
         }
         k += 2;
     }
-    Looked::None
+    None
 }
 
 // The primitive of a number.

@@ -1,4 +1,6 @@
 -- A congruence: the application read, its child compared, and the application with the other child added.
+use Rattle.std.specs.Prelude as prelude
+use Rattle.std.specs.Prelude.{Some, None}
 use mathlib.Core.Path.{◌≡◌, sym, ap, subst, subst⁻¹, ◌∙◌}
 use mathlib.Core.List.{List, [], ◌∷◌}
 use mathlib.Core.Option.{Option}
@@ -16,7 +18,6 @@ use Rattle.outcome.specs.declared.Refusal.{Refusal}
 use Rattle.outcome.specs.declared.Checked.{Checked}
 use Rattle.outcome.proofs.Laws.{does-here, does-then, does-stop}
 use Rattle.program.specs.Ready.{option_of}
-use Rattle.program.specs.declared.Looked.{Looked}
 use Rattle.merges.specs.Step.{app_with}
 use Rattle.merges.proofs.AddLaws.{replaced}
 use Rattle.steps.specs.Concluding.{child_matches, congr_claims, congr_app, congr_step}
@@ -32,18 +33,18 @@ module _ (p : ℕ) (q a : Proposition) (i : ℕ) (b : Proposition) {K E P I : Li
   unfolding congr_step
   by-app e = ap (λ (o : Option App). and_then (or_refuse o 22 (p ∷ []) s) (congr_app (room_of K P) p q a i b)) e
 
-  pub congr-none : {u : Looked} {c : Checked} → app_with (option_of u) xs ≡ as_app (get_term s a.rhs) → u ≡ Looked.None
+  pub congr-none : {u : prelude.Option ℕ} {c : Checked} → app_with (option_of u) xs ≡ as_app (get_term s a.rhs) → u ≡ None
       → c ≡ record { refusal = refusal 22 1 (p ∷ 0 ∷ 0 ∷ 0 ∷ 0 ∷ 0 ∷ []); value = 0; fill = f }
       → Does K E P I f K E P I c.fill c.refusal tt (congr_step (room_of K P) p q a i b s)
   unfolding or_refuse
   congr-none e d g =
       subst⁻¹ (λ (x : Checked). Does K E P I f K E P I x.fill x.refusal tt (congr_step (room_of K P) p q a i b s)) g
-      (does-here S (by-app (ap (λ (v : Looked). app_with (option_of v) xs) (sym d) ∙ e)))
+      (does-here S (by-app (ap (λ (v : prelude.Option ℕ). app_with (option_of v) xs) (sym d) ∙ e)))
 
-  module _ {u : Looked} {head : ℕ} (e : app_with (option_of u) xs ≡ as_app (get_term s a.rhs)) (d : u ≡ Looked.Some head) where
+  module _ {u : prelude.Option ℕ} {head : ℕ} (e : app_with (option_of u) xs ≡ as_app (get_term s a.rhs)) (d : u ≡ Some head) where
     is-app : congr_app (room_of K P) p q a i b (record { head = head; args = xs }) s ≡ congr_step (room_of K P) p q a i b s
     unfolding or_refuse
-    is-app = by-app (ap (λ (v : Looked). app_with (option_of v) xs) (sym d) ∙ e)
+    is-app = by-app (ap (λ (v : prelude.Option ℕ). app_with (option_of v) xs) (sym d) ∙ e)
 
     abbrev after : Room → Unit {0} → Check (Unit {0})
     after room _ = add_node room (app head (set xs i b.rhs)) >>= congr_claims p q a.lhs

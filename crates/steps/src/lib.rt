@@ -28,7 +28,6 @@ use lookups::normalize_container;
 use marks::words_for;
 use merges::{app_head, check_that, merge_step, replace_child};
 use outcome::{Checked, Refusal, refuse1};
-use program::Looked;
 use program::read::{claim_at, justification_at};
 use termdag::children;
 
@@ -222,7 +221,7 @@ fn congr_step(
 {
     let t = a.rhs;
     let head = app_head(kinds, ends, pool, fill, t);
-    let Looked::Some(f) = head else {
+    let Some(f) = head else {
         return refuse1(22, p, fill);
     };
     let args = children(kinds, ends, pool, fill, wide(t));

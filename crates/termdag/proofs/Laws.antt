@@ -1,4 +1,6 @@
 -- Terms and their cells: a cell read is its term, and adding a term's cell to the table is adding the term to the store.
+use Rattle.std.specs.Prelude as prelude
+use Rattle.std.specs.Prelude.{Some, None}
 use mathlib.Core.Path.{◌≡◌, refl, sym, ap, ap₂, subst, subst⁻¹, ◌∙◌}
 use mathlib.Core.Bool.{Bool, true, false, ◌&&◌}
 use mathlib.Core.List.{List, [], ◌∷◌, ◌++◌, map, map-append}
@@ -18,7 +20,6 @@ use Rattle.model.specs.Evaluate.{children}
 use Rattle.model.proofs.Represent.{Distinct}
 use Rattle.model.specs.Decode.{read_arguments}
 use Rattle.cells.specs.Table.{find_from, find_cell, found_by, Once, put, total, Table, table_of, Result, append_if, append_cell, add_found, add_cell}
-use Rattle.cells.specs.declared.Found.{Found}
 use Rattle.index.specs.declared.Fill.{Fill}
 use Rattle.index.specs.declared.Added.{Added}
 use Rattle.index.specs.Listing.{table_fill, Kept, Ready}
@@ -57,18 +58,18 @@ unfolding total
 total-cells [] = refl
 total-cells (t ∷ s) = ap (λ (n : ℕ). width t + n) (total-cells s)
 
-found_of : Option ℕ → Found
-found_of none = Found.Nothing
-found_of (some i) = Found.At i
+found_of : Option ℕ → prelude.Option ℕ
+found_of none = None
+found_of (some i) = Some i
 
 find-cell : (s : List Term) (t : Term) (k : ℕ) → find_from k (map cell_of s) (cell_of t) ≡ found_of (find_term s t k)
 unfolding find_from find_term found_of
 find-cell [] t k = refl
 find-cell (u ∷ s) t k =
-    ap (λ (b : Bool). elim b [ true ↦ Found.At k | false ↦ find_from (k + 1) (map cell_of s) (cell_of t) ]) (same-cell u t) ∙ go (same_term u t) (find-cell s t (suc k))
+    ap (λ (b : Bool). elim b [ true ↦ Some k | false ↦ find_from (k + 1) (map cell_of s) (cell_of t) ]) (same-cell u t) ∙ go (same_term u t) (find-cell s t (suc k))
   where
     go : (b : Bool) → find_from (suc k) (map cell_of s) (cell_of t) ≡ found_of (find_term s t (suc k))
-        → elim b [ true ↦ Found.At k | false ↦ find_from (k + 1) (map cell_of s) (cell_of t) ] ≡ found_of (elim b [ true ↦ some k | false ↦ find_term s t (suc k) ])
+        → elim b [ true ↦ Some k | false ↦ find_from (k + 1) (map cell_of s) (cell_of t) ] ≡ found_of (elim b [ true ↦ some k | false ↦ find_term s t (suc k) ])
     go true h = refl
     go false h = rw (add-one k) h
 
@@ -114,7 +115,7 @@ module _ (C W : ℕ) (t : Term) (s : List Term) where
   add_term : Same (add_cell (cell_of t) (table (map cell_of s))) (add_node (record { cells = C; words = W }) t s)
   unfolding add_cell add_node
   add_term =
-      subst⁻¹ (λ (o : Found). Same (add_found o (cell_of t) (table (map cell_of s))) (add_node (record { cells = C; words = W }) t s)) (find-cell s t 0)
+      subst⁻¹ (λ (o : prelude.Option ℕ). Same (add_found o (cell_of t) (table (map cell_of s))) (add_node (record { cells = C; words = W }) t s)) (find-cell s t 0)
       (by-find (find_term s t 0))
 
 -- a store that its index lists is ready for look-ups
@@ -158,7 +159,7 @@ module _ {K E P I : List ℕ} {f : Fill} {K' E' P' I' : List ℕ} {a : Added} wh
       X.room
 
 -- a cell that is found is a term that needs no adding
-by-found : (o : Option ℕ) (v : ℕ) → found_of o ≡ Found.At v → o ≡ some v
+by-found : (o : Option ℕ) (v : ℕ) → found_of o ≡ Some v → o ≡ some v
 unfolding found_of
 by-found none v e = let y : ◌≡◌ {A = ℕ} 0 1 = cc in absurd (omega arith)
 by-found (some i) v e = cc

@@ -1,4 +1,6 @@
 -- How a step is taken: the laws of plans, of turns by their number, and of a fact before its premise.
+use Rattle.std.specs.Prelude as prelude
+use Rattle.std.specs.Prelude.{Some, None}
 use mathlib.Core.Path.{◌≡◌, refl, sym, ap, subst, ◌∙◌}
 use mathlib.Core.Bool.{Bool, true, false, true≢false}
 use mathlib.Core.List.{List, [], ◌∷◌, ◌++◌, map}
@@ -21,7 +23,6 @@ use Rattle.model.specs.Height.{follow_unless, followed_premises, followed_by, fo
 use Rattle.outcome.specs.Does.{passed, refusal, outcome_of}
 use Rattle.outcome.specs.declared.Refusal.{Refusal}
 use Rattle.outcome.proofs.Laws.{ok_of, refused-of}
-use Rattle.cells.specs.declared.Found.{Found}
 use Rattle.program.specs.Ready.{program_for, rule_for, rule_at, FindsRule}
 use Rattle.program.specs.Read.{proofs_for, premises_for, pairs_for}
 use Rattle.steps.specs.Concluding.{is_rule}
@@ -207,10 +208,10 @@ module _ {J : List ℕ} {p : ℕ} {rule : Bool} {r first second count : ℕ} whe
       ∙ ap (λ (b : Bool). proof_of (get_or (turns_by J p b r first second count) i no_turn)) (sym e)
 
 -- the plans of the code
-pub rule-none : {rs : List Rule} {n x : ℕ} {r : Found} → FindsRule rs n x r → r ≡ Found.Nothing → none ≡ rule_of rs x
+pub rule-none : {rs : List Rule} {n x : ℕ} {r : prelude.Option ℕ} → FindsRule rs n x r → r ≡ None → none ≡ rule_of rs x
 rule-none {rs} F e = ap (rule_at rs) (sym e) ∙ F.is
 
-pub rule-some : (J : List ℕ) {x i : ℕ} {r : Found} → FindsRule (program_for J).rules (sizes_of J).rules x r → r ≡ Found.At i → some (rule_for J i) ≡ rule_of (program_for J).rules x
+pub rule-some : (J : List ℕ) {x i : ℕ} {r : prelude.Option ℕ} → FindsRule (program_for J).rules (sizes_of J).rules x r → r ≡ Some i → some (rule_for J i) ≡ rule_of (program_for J).rules x
 rule-some J F e = ap (rule_at (program_for J).rules) (sym e) ∙ F.is
 
 module _ {J : List ℕ} {p name : ℕ} (R : RuleStep J p name) where

@@ -1,4 +1,5 @@
 -- The stages of a step: before a proof, after it, the head or what a step of its kind does, and nothing.
+use Rattle.std.specs.Prelude.{None}
 use mathlib.Core.Path.{◌≡◌, refl, sym, ap, subst, subst⁻¹, ◌∙◌}
 use mathlib.Core.Bool.{Bool, true, false, ◌&&◌, true≢false}
 use mathlib.Core.List.{List, [], ◌∷◌, map, nil≢cons}
@@ -31,7 +32,7 @@ use Rattle.program.specs.Read.{proofs_for, fact_for, premises_for, pairs_for}
 use Rattle.evaluate.specs.Value.{bindings_in}
 use Rattle.evaluate.specs.Evaluation.{Sane, Checks}
 use Rattle.conditions.specs.Bound.{bound_over}
-use Rattle.conditions.specs.declared.Binds.{Binds}
+use Rattle.conditions.specs.declared.Bound as code
 use Rattle.facts.proofs.Keeping.{fact-sane}
 use Rattle.context.specs.Contexts.{GlobalPairs}
 use Rattle.heads.specs.Heading.{Produces}
@@ -87,7 +88,7 @@ module _ (J : List ℕ) (strict : Bool) (F G U : List ℕ) (p r name second coun
   module _ (i : ℕ) {t : Fact} {y : ℕ} (left : drop i turns ≡ of_fact t y ∷ drop (suc i) turns) {k₁ e₁ p₁ ix₁ : List ℕ} where
     stage-before-at : (c : Stage) {memo₁ : List ℕ} → Checks k e q ix f k₁ e₁ p₁ ix₁ c.fill c.refusal (bound_over c.binds σ) memo₁ (before_proof (room_of k q) prog proofs strict name (of_fact t 0) σ (terms_in k e q f))
         → (c.refusal.number ≡ 0 → c.settled ≡ is_container_side_condition prog t) → (c.refusal.number ≡ 0 → Extends (terms_in k e q f) (terms_in k₁ e₁ p₁ c.fill) × Sane prog (bound_over c.binds σ) (terms_in k₁ e₁ p₁ c.fill))
-        → (c.settled ≡ false → c.binds ≡ Binds.Nothing) → length memo₁ ≡ length memo → Advances J strict F G U p true r name second count X k e q ix f W i 0 k₁ e₁ p₁ ix₁ c memo₁ W
+        → (c.settled ≡ false → c.binds ≡ None) → length memo₁ ≡ length memo → Advances J strict F G U p true r name second count X k e q ix f W i 0 k₁ e₁ p₁ ix₁ c memo₁ W
     stage-before-at c {memo₁} d o s q' l_memo = record {
       walks = subst⁻¹ (λ (ts : List Turn). Walks {A = List Binding × List ℕ} J F G U k e q ix f W k₁ e₁ p₁ ix₁ c.fill c.refusal memo₁ W (λ x. (bound_over c.binds σ, x)) (λ room ps done u. and_then (stage ts 0 room ps u) (λ τ. pure (τ, done)))) left
           (walks-stage (stage (of_fact t y ∷ drop (suc i) turns) 0) g d.does.grown (λ ps x. d.does) (λ n. ((s n).0, sane-fewer g.sane (s n).0 (s n).1, d.past n)) l_memo refl refl (λ j. refl));
@@ -102,7 +103,7 @@ module _ (J : List ℕ) (strict : Bool) (F G U : List ℕ) (p r name second coun
         → Checks k e q ix f k₁ e₁ p₁ ix₁ c.fill c.refusal (bound_over c.binds (bindings_in X R G)) memo₁ (before_proof (room_of k q) prog proofs strict name (of_fact t 0) (bindings_in X R G) (terms_in k e q f))
         × (c.refusal.number ≡ 0 → c.settled ≡ is_container_side_condition prog t)
         × (c.refusal.number ≡ 0 → Extends (terms_in k e q f) (terms_in k₁ e₁ p₁ c.fill) × Sane prog (bound_over c.binds (bindings_in X R G)) (terms_in k₁ e₁ p₁ c.fill))
-        → (c.settled ≡ false → c.binds ≡ Binds.Nothing) → length memo₁ ≡ length memo → Advances J strict F G U p true r name second count X k e q ix f W i v k₁ e₁ p₁ ix₁ c memo₁ W
+        → (c.settled ≡ false → c.binds ≡ None) → length memo₁ ≡ length memo → Advances J strict F G U p true r name second count X k e q ix f W i v k₁ e₁ p₁ ix₁ c memo₁ W
     stage-before u c {memo₁} h x q' l_memo =
         let y = subst (λ (R : List ℕ). Checks k e q ix f k₁ e₁ p₁ ix₁ c.fill c.refusal (bound_over c.binds (bindings_in X R G)) memo₁ (before_proof (room_of k q) prog proofs strict name (of_fact t 0) (bindings_in X R G) (terms_in k e q f))
         × (c.refusal.number ≡ 0 → c.settled ≡ is_container_side_condition prog t)
@@ -142,7 +143,7 @@ module _ (J : List ℕ) (strict : Bool) (F G U : List ℕ) (p r name second coun
         go (of_proof y ∷ ts) u = post-result {Q = λ _ x. Extends (terms_in k e q f) x × Sane prog σ x} (post-ok (extends-same, w)) (result (of_proof y ∷ ts) u)
         go (of_fact t y ∷ ts) u = post-result (fact-sane (room_of k q) prog name σ t (claim_at proofs y) w) (result (of_fact t y ∷ ts) u)
 
-    pub stage-stops : (c.refusal.number ≡ 0 → ⊥) → length memo₁ ≡ length memo → {x : Stage} → x ≡ record { refusal = c.refusal; settled = true; binds = Binds.Nothing; fill = c.fill } → Advances J strict F G U p true r name second count X k e q ix f W i v k₁ e₁ p₁ ix₁ x memo₁ W
+    pub stage-stops : (c.refusal.number ≡ 0 → ⊥) → length memo₁ ≡ length memo → {x : Stage} → x ≡ record { refusal = c.refusal; settled = true; binds = None; fill = c.fill } → Advances J strict F G U p true r name second count X k e q ix f W i v k₁ e₁ p₁ ix₁ x memo₁ W
     stage-stops n l_memo x = subst⁻¹ (λ (y : Stage). Advances J strict F G U p true r name second count X k e q ix f W i v k₁ e₁ p₁ ix₁ y memo₁ W) x (record {
       walks = walks-stage (stage left v) g d.does.grown (λ ps y. subst (Does k e q ix f k₁ e₁ p₁ ix₁ c.fill c.refusal σ) (after_then left v none_left (room_of k q) ps (terms_in k e q f)) (does-stop σ (λ _. ends (drop 1 left) (room_of k q) ps) d.does n)) (λ u. absurd (n u)) l_memo refl refl (λ j. refl);
       over = λ u. absurd (n u);
@@ -151,7 +152,7 @@ module _ (J : List ℕ) (strict : Bool) (F G U : List ℕ) (p r name second coun
       waits = λ u. absurd (true≢false u);
     })
 
-    pub stage-after : c.refusal.number ≡ 0 → i + 1 < count → length memo₁ ≡ length memo → {x : Stage} → x ≡ record { refusal = c.refusal; settled = true; binds = Binds.Nothing; fill = c.fill } → Advances J strict F G U p true r name second count X k e q ix f W i v k₁ e₁ p₁ ix₁ x memo₁ W
+    pub stage-after : c.refusal.number ≡ 0 → i + 1 < count → length memo₁ ≡ length memo → {x : Stage} → x ≡ record { refusal = c.refusal; settled = true; binds = None; fill = c.fill } → Advances J strict F G U p true r name second count X k e q ix f W i v k₁ e₁ p₁ ix₁ x memo₁ W
     stage-after n l l_memo x = subst⁻¹ (λ (y : Stage). Advances J strict F G U p true r name second count X k e q ix f W i v k₁ e₁ p₁ ix₁ y memo₁ W) x (record {
       walks = walks-stage (stage left v) g d.does.grown (λ ps y. subst (Does k e q ix f k₁ e₁ p₁ ix₁ c.fill c.refusal σ)
           (ap (λ (y : Check (List Binding)). and_then (after_turn (room_of k q) prog proofs name left σ (terms_in k e q f)) (λ _. y)) (sym (going ps)) ∙ after_then left v none_left (room_of k q) ps (terms_in k e q f)) (does-map (λ _. σ) σ d.does (λ _. refl)))
@@ -170,7 +171,7 @@ module _ (J : List ℕ) (strict : Bool) (F G U : List ℕ) (p r name second coun
 
     pub stage-ends : c.refusal.number ≡ 0 → count ≤ i + 1 → {k₂ e₂ p₂ ix₂ : List ℕ} (c₂ : Checked) {memo₂ W₂ : List ℕ} → Produces prog (rule_for J r) σ (claim_at proofs p) k₁ e₁ p₁ ix₁ c.fill k₂ e₂ p₂ ix₂ c₂ memo₂ → length memo₂ ≡ length memo → length W₂ ≡ length W
         → take (length k) W₂ ≡ take (length k) W → ((j : ℕ) → get_or W₂ (length k + length k + j) 0 ≡ get_or W (length k + length k + j) 0)
-        → {x : Stage} → x ≡ record { refusal = c₂.refusal; settled = true; binds = Binds.Nothing; fill = c₂.fill } → Advances J strict F G U p true r name second count X k e q ix f W i v k₂ e₂ p₂ ix₂ x memo₂ W₂
+        → {x : Stage} → x ≡ record { refusal = c₂.refusal; settled = true; binds = None; fill = c₂.fill } → Advances J strict F G U p true r name second count X k e q ix f W i v k₂ e₂ p₂ ix₂ x memo₂ W₂
     stage-ends n l {k₂} {e₂} {p₂} {ix₂} c₂ {memo₂} {W₂} P l_memo l_w front back x = subst⁻¹ (λ (y : Stage). Advances J strict F G U p true r name second count X k e q ix f W i v k₂ e₂ p₂ ix₂ y memo₂ W₂) x (record {
       walks = walks-stage (stage left v) g (grown-then d.does.grown P.checks.does.grown) (λ ps y. subst (Does k e q ix f k₂ e₂ p₂ ix₂ c₂.fill c₂.refusal σ)
           (ap (λ (ts : List Turn). and_then (after_turn (room_of k q) prog proofs name left σ (terms_in k e q f)) (λ _. ends ts (room_of k q) ps)) (sym last) ∙ after_then left v none_left (room_of k q) ps (terms_in k e q f))
@@ -194,7 +195,7 @@ module _ (J : List ℕ) (strict : Bool) (F G U : List ℕ) (p r first second cou
   plain_stage ts v room ps = stage_of room (program_for J) (proofs_for J) strict first ps p (claim_at (proofs_for J) p) (get_or (proofs_for J) p no_proof).justification none ts v (read_bindings G)
 
   pub stage-end : {i v : ℕ} → count ≤ i → {k₁ e₁ p₁ ix₁ : List ℕ} (c : Checked) {memo₁ W₁ : List ℕ} → Concludes J U k e q ix f W p k₁ e₁ p₁ ix₁ c memo₁ W₁ → length memo₁ ≡ length memo → length W₁ ≡ length W
-      → {t : Stage} → t ≡ record { refusal = c.refusal; settled = true; binds = Binds.Nothing; fill = c.fill } → Advances J strict F G U p false r first second count X k e q ix f W i v k₁ e₁ p₁ ix₁ t memo₁ W₁
+      → {t : Stage} → t ≡ record { refusal = c.refusal; settled = true; binds = None; fill = c.fill } → Advances J strict F G U p false r first second count X k e q ix f W i v k₁ e₁ p₁ ix₁ t memo₁ W₁
   stage-end {i} {v} h {k₁} {e₁} {p₁} {ix₁} c {memo₁} {W₁} d l_memo l_w t =
       let l : drop i plain ≡ [] = drop_of_length-le plain {i = i} (let m = S.long in omega arith) in
       subst⁻¹ (λ (x : Stage). Advances J strict F G U p false r first second count X k e q ix f W i v k₁ e₁ p₁ ix₁ x memo₁ W₁) t (record {

@@ -1,4 +1,5 @@
 -- The step of a proof, turn by turn: each proof that it needs, between what is done before it and after it; then what the step does itself.
+use Rattle.std.specs.Prelude.{None}
 use Rattle.std.specs.Prelude.{ℕ, zero, suc, ◌<◌, ◌≤◌, ◌≡◌, Bool, true, false, List, [], ◌∷◌, map, length, get_or, take, drop}
 use Rattle.std.proofs.Math.Option.{Option, none, some}
 use Rattle.model.specs.Layout.{sizes_of}
@@ -18,7 +19,7 @@ use Rattle.program.specs.Read.{proofs_for, proof_cell, premises_for, pairs_for}
 use Rattle.evaluate.specs.Value.{bindings_in}
 use Rattle.evaluate.specs.Evaluation.{Sane}
 use Rattle.conditions.specs.Bound.{bound_over}
-use Rattle.conditions.specs.declared.Binds.{Binds}
+use Rattle.conditions.specs.declared.Bound as code
 use Rattle.steps.specs.Concluding.{concludes}
 use Rattle.turns.specs.declared.Plan.{Plan}
 use Rattle.turns.specs.declared.Stage.{Stage}
@@ -153,5 +154,5 @@ pub record Advances (J : List ℕ) (strict : Bool) (F G U : List ℕ) (p : ℕ) 
       (drop i (turns_by J p rule r first second count)) walked (bindings_by J p rule X G) >>= λ τ. pure (τ, done))
   pub over : c.refusal.number ≡ 0 → c.settled ≡ is_over (program_for J) (drop i (turns_by J p rule r first second count)) walked
   pub sane : rule ≡ true → c.refusal.number ≡ 0 → Sane (program_for J) (bound_over c.binds (bindings_by J p rule X G)) (terms_in k' e' q' c.fill)
-  pub plain : rule ≡ false → c.binds ≡ Binds.Nothing
-  pub waits : c.settled ≡ false → c.binds ≡ Binds.Nothing
+  pub plain : rule ≡ false → c.binds ≡ None
+  pub waits : c.settled ≡ false → c.binds ≡ None

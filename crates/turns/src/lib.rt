@@ -9,7 +9,6 @@ ghost use Rattle.model.specs.Term.{Extends};
 ghost use Rattle.memo.specs.Memo.{Past};
 ghost use Rattle.outcome.specs.Does.{passed};
 ghost use Rattle.normal_form.specs.Search.{Searched};
-ghost use Rattle.conditions.specs.declared.Binds as binds;
 ghost use Rattle.program.specs.Ready.{Ready, program_for};
 ghost use Rattle.lookups.specs.Keyed.{Keyed};
 ghost use Rattle.program.specs.Read.{fact_for, proofs_for};
@@ -19,8 +18,8 @@ ghost use Rattle.conditions.specs.Bound.{bound_over};
 ghost use Rattle.turns.specs.Walking.{Ground, Operates};
 ghost use Rattle.turns.specs.Turning.{of_fact, proof_of, no_turn, turns_by, bindings_by, after_turn, before_proof, RuleStep, Planned, Plans, Advances};
 
-use cells::{Found, wide};
-use conditions::{Binds, check_side_condition};
+use cells::{wide};
+use conditions::{Bound, check_side_condition};
 use decode::Justification;
 use facts::check_fact_matches_proposition;
 use heads::check_rule_produces_equality;
@@ -125,7 +124,7 @@ pub struct Plan {
 pub struct Stage {
     pub refusal: Refusal,
     pub settled: bool,
-    pub binds: Binds,
+    pub binds: Option<Bound>,
     pub fill: Fill,
 }
 
@@ -156,7 +155,7 @@ fn rule_plan(job: &[u32], found: &[u32], p: u32, name: u32) -> Plan
     ensures { Plans job.now p result }
 {
     let rule = rule_of(job, found, name);
-    let Found::At(r) = rule else {
+    let Some(r) = rule else {
         return Plan {
             refusal: Refusal {
                 number: 32,
@@ -267,14 +266,14 @@ fn before_premise(
     ensures does { Checks skinds.old sends.old spool.old index.old fill skinds.new sends.new spool.new index.new result.fill result.refusal (bound_over result.binds (bindings_in bound.now pairs.now globals.now)) memo.new (before_proof (room_of skinds.old spool.old) (program_for job.now) (proofs_for job.now) strict name (of_fact (fact_for job.now i) 0) (bindings_in bound.now pairs.now globals.now) (terms_in skinds.old sends.old spool.old fill)) }
     ensures over { result.refusal.number ≡ 0 → result.settled ≡ is_container_side_condition (program_for job.now) (fact_for job.now i) }
     ensures kept { result.refusal.number ≡ 0 → Extends (terms_in skinds.old sends.old spool.old fill) (terms_in skinds.new sends.new spool.new result.fill) × Sane (program_for job.now) (bound_over result.binds (bindings_in bound.now pairs.now globals.now)) (terms_in skinds.new sends.new spool.new result.fill) }
-    ensures waits { result.settled ≡ false → result.binds ≡ binds.Binds.Nothing }
+    ensures waits { result.settled ≡ false → result.binds ≡ None }
 {
     let offence = assert_body_proof_normal_form(job, found, name, i);
     if offence.number != 0 {
         return Stage {
             refusal: offence,
             settled: true,
-            binds: Binds::Nothing,
+            binds: None,
             fill,
         };
     }
@@ -282,7 +281,7 @@ fn before_premise(
         return Stage {
             refusal: offence,
             settled: false,
-            binds: Binds::Nothing,
+            binds: None,
             fill,
         };
     }
@@ -302,14 +301,14 @@ fn before_premise(
 
 // A stage that is over, with nothing bound.
 fn over(c: Checked) -> Stage
-    ensures { result ≡ record { refusal = c.refusal; settled = true; binds = binds.Binds.Nothing; fill = c.fill } }
+    ensures { result ≡ record { refusal = c.refusal; settled = true; binds = None; fill = c.fill } }
 {
     let refusal = c.refusal;
     let fill = c.fill;
     Stage {
         refusal,
         settled: true,
-        binds: Binds::Nothing,
+        binds: None,
         fill,
     }
 }

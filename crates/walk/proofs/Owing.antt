@@ -1,4 +1,5 @@
 -- What a step still owes, turn by turn.
+use Rattle.std.specs.Prelude as prelude
 use mathlib.Core.Path.{◌≡◌, refl, sym, ap, subst, subst⁻¹, ◌∙◌}
 use mathlib.Core.Bool.{Bool, true, false, true≢false}
 use mathlib.Core.List.{List, [], ◌∷◌, map, nil≢cons, head-eq_of_cons-eq}
@@ -27,7 +28,7 @@ use Rattle.evaluate.specs.Evaluation.{Sane}
 use Rattle.actions.specs.Acting.{effect_bindings, Pushed}
 use Rattle.actions.specs.declared.Effect.{Effect}
 use Rattle.conditions.specs.Bound.{bound_over}
-use Rattle.conditions.specs.declared.Binds.{Binds}
+use Rattle.conditions.specs.declared.Bound as code
 use Rattle.heads.proofs.Heading.{pushed-bindings, sane-fewer}
 use Rattle.outcome.specs.declared.Checked.{Checked}
 use Rattle.program.proofs.Proving.{substitution-read}
@@ -432,7 +433,7 @@ module _ (J : List ℕ) (strict : Bool) (F G U : List ℕ) (p : ℕ) (rule : Boo
             where
               go : (m : Bool) → rule ≡ m → bound_over c.binds (bindings_by J p m (drop at T) G) ≡ bindings_by J p m (drop at₁ T₁) G
               go true e = sym (b _) ∙ pushed-bindings (pairs_for J p) G ps
-              go false e = ap (λ (w : Binds). bound_over w (bindings_by J p false (drop at T) G)) (here.plain e)
+              go false e = ap (λ (w : prelude.Option code.Bound). bound_over w (bindings_by J p false (drop at T) G)) (here.plain e)
 
           task-settles : c.refusal.number ≡ 0 → c.settled ≡ true → ((v ≡ 0 → ⊥) → suc i ≡ count → ⊥) → length T₁ ≡ length T → length memo₁ ≡ length memo → length W₁ ≡ length W → Grown k₀ e₀ p₀ ix₀ f₀ k₁ e₁ p₁ ix₁ c.fill
               → Task k₀ e₀ p₀ ix₀ f₀ memo₀ W₀ k₁ e₁ p₁ ix₁ c.fill memo₁ W₁ T₁ at₁ most (i + 1) 0
@@ -520,7 +521,7 @@ module _ (J : List ℕ) (strict : Bool) (F G U : List ℕ) (p : ℕ) (rule : Boo
                   left m (no l) q = let x = S.long in let y : drop m turns ≡ [] = drop_of_length-le turns {i = m} (omega arith) in absurd (nil≢cons (sym y ∙ q))
 
           quiet : bound_over c.binds σ ≡ σ
-          quiet = ap (λ (b : Binds). bound_over b σ) (here.waits s)
+          quiet = ap (λ (b : prelude.Option code.Bound). bound_over b σ) (here.waits s)
 
           pub task-fresh : v ≡ 0
           task-fresh = waits.1

@@ -16,7 +16,7 @@ ghost use Rattle.walk.specs.Start.{Starts, Follows, fact_numbers, StartsFact};
 
 use actions::{Effect, push_binding};
 use cells::wide;
-use conditions::Binds;
+use conditions::Bound;
 use index::Fill;
 use normal_form::is_ordinary;
 use outcome::{Checked, pass};
@@ -50,12 +50,12 @@ fn greater(a: u32, b: u32) -> u32
 }
 
 // What a condition bound, as an action would.
-fn effect_of(binds: Binds) -> Effect
+fn effect_of(binds: Option<Bound>) -> Effect
     ensures { (σ : List Binding) → effect_bindings result σ ≡ bound_over binds σ }
 {
     match binds {
-        Binds::Pair(x, t) => Effect::Bind(x, t),
-        Binds::Nothing => Effect::Nothing,
+        Some(b) => Effect::Bind(b.name, b.term),
+        None => Effect::Nothing,
     }
 }
 

@@ -1,15 +1,15 @@
+use Rattle.std.specs.Prelude.{Some, None}
 use Rattle.evaluate.specs.Evaluation.{noted, bound, unknown}
 use Rattle.memo.specs.Memo.{value_at, is_noted, note_at}
 use Rattle.decode.specs.View.{head_of}
 use Rattle.program.specs.Ready.{option_of}
 use Rattle.program.specs.Read.{head_for}
-use Rattle.program.specs.declared.Looked.{Looked}
 use mathlib.Core.Path.{refl, sym, ap, ◌∙◌}
 use Prim.Native.Nat.{ℕ}
 use Rattle.evaluate.proofs.known_value.Goals as goal
 
 pub returns-then-is_noted : goal.returns-then-is_noted
-returns-then-is_noted c = let m = c.args.memo.now in noted (ap (is_noted m) (sym c.wide-at.ensures) ∙ sym c.is_noted.ensures ∙ c.if-is_noted.true) (ap Looked.Some (c.value_of.ensures ∙ ap (value_at m) c.wide-at.ensures)) refl
+returns-then-is_noted c = let m = c.args.memo.now in noted (ap (is_noted m) (sym c.wide-at.ensures) ∙ sym c.is_noted.ensures ∙ c.if-is_noted.true) (ap Some (c.value_of.ensures ∙ ap (value_at m) c.wide-at.ensures)) refl
 
 pub returns-in_default : goal.returns-in_default
 returns-in_default c = unknown (ap (is_noted c.args.memo.now) (sym c.wide-at.ensures) ∙ sym c.is_noted.ensures ∙ c.if-is_noted.false) refl refl

@@ -13,13 +13,13 @@ loop-round-init c = (omega arith, refl)
 pub first_marked-f-requires : goal.first_marked-f-requires
 first_marked-f-requires c = let h = c.requires in record { held = h.held; distinct = h.distinct; sound = c.passing_terms-sound.ensures }
 
-pub returns-in-At : goal.returns-in-At
-returns-in-At c = let a = c.args in
+pub returns-in-Some : goal.returns-in-Some
+returns-in-Some c = let a = c.args in
     let z = sizes_in a.z in
     let t = tables_for a.kinds.now a.ends.now a.pool.now a.z in
     let l = c.loop-round in
     let e = ap (λ (k : ℕ). first_found 0 (marks (tests_for k z t) (table_list t))) c.wide.ensures in
-    sym (l.invariant.1 ∙ round-yes z t l.round c.in-At.cell (omega arith) (sym e ∙ sym c.first_marked-f.ensures ∙ c.in-At.is))
+    sym (l.invariant.1 ∙ round-yes z t l.round c.in-Some.cell (omega arith) (sym e ∙ sym c.first_marked-f.ensures ∙ c.in-Some.is))
 
 pub loop-round-preserved : goal.loop-round-preserved
 loop-round-preserved c = let a = c.args in

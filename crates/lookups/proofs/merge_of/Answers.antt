@@ -28,25 +28,25 @@ returns-in_default c = let a = c.args in
     }
 
 pub kind_at-requires : goal.kind_at-requires
-kind_at-requires c = record { held = c.requires.ready.held; table_bound = lit< tt; i_bound = c.find_named-place.ensures.within c.in-At.i c.in-At.is }
+kind_at-requires c = record { held = c.requires.ready.held; table_bound = lit< tt; i_bound = c.find_named-place.ensures.within c.in-Some.i c.in-Some.is }
 
 pub words_at-requires : goal.words_at-requires
-words_at-requires c = record { held = c.requires.ready.held; table_bound = lit< tt; i_bound = c.find_named-place.ensures.within c.in-At.i c.in-At.is }
+words_at-requires c = record { held = c.requires.ready.held; table_bound = lit< tt; i_bound = c.find_named-place.ensures.within c.in-Some.i c.in-Some.is }
 
 pub read_function-f-requires : goal.read_function-f-requires
-read_function-f-requires c = let i = c.in-At.i in
-    function-words (cell-read _ c.kind_at.ensures c.words_at.ensures) (function-counts c.requires.ready i (c.find_named-place.ensures.within i c.in-At.is))
+read_function-f-requires c = let i = c.in-Some.i in
+    function-words (cell-read _ c.kind_at.ensures c.words_at.ensures) (function-counts c.requires.ready i (c.find_named-place.ensures.within i c.in-Some.is))
 
 pub returns : goal.returns
 returns c = let a = c.args in
     let J = a.job.now in
     let T = tables_for J in
-    let i = c.in-At.i in
-    let h = c.find_named-place.ensures.within i c.in-At.is in
+    let i = c.in-Some.i in
+    let h = c.find_named-place.ensures.within i c.in-Some.is in
     let expr = expr_of T.expressions in
     let reads : (expr : ℕ → Expr) → function_of expr c.read_function-f.result ≡ read_function expr (get_or T.functions i no_cell) = λ expr. c.read_function-f.ensures expr ∙ ap (read_function expr) (cell-read _ c.kind_at.ensures c.words_at.ensures) in
     record {
       is = ap (λ (g : Function). g.merge) (reads expr)
-          ∙ sym (ap (λ fs. merge_of fs a.function) (functions-read (sizes_of J).globals T) ∙ look-found (merge-looks expr a.function) T.functions i (sym c.find_named-place.ensures.is ∙ c.in-At.is));
+          ∙ sym (ap (λ fs. merge_of fs a.function) (functions-read (sizes_of J).globals T) ∙ look-found (merge-looks expr a.function) T.functions i (sym c.find_named-place.ensures.is ∙ c.in-Some.is));
       within = merge-within (sizes_of J).expressions (get_or T.functions i no_cell) c.read_function-f.result (function-counts c.requires.ready i h) (function-refers c.requires.ready i h) reads;
     }

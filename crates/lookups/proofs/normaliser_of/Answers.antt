@@ -20,13 +20,13 @@ returns-in_default c = let a = c.args in
     sym (ap (λ ns. normaliser_of ns a.head) (normalisers-read (sizes_of J).globals (tables_for J)) ∙ look-nothing (normaliser-looks a.head) (tables_for J).normalisers (sym c.find_named-place.ensures.is ∙ c.in_default.is))
 
 pub words_at-requires : goal.words_at-requires
-words_at-requires c = record { held = c.requires.ready.held; table_bound = lit< tt; i_bound = c.find_named-place.ensures.within c.in-At.i c.in-At.is }
+words_at-requires c = record { held = c.requires.ready.held; table_bound = lit< tt; i_bound = c.find_named-place.ensures.within c.in-Some.i c.in-Some.is }
 
 pub read_normaliser-n-requires : goal.read_normaliser-n-requires
-read_normaliser-n-requires c = let i = c.in-At.i in normaliser-words c.requires.ready i c.words_at.ensures (c.find_named-place.ensures.within i c.in-At.is)
+read_normaliser-n-requires c = let i = c.in-Some.i in normaliser-words c.requires.ready i c.words_at.ensures (c.find_named-place.ensures.within i c.in-Some.is)
 
 pub returns : goal.returns
 returns c = let a = c.args in
     let J = a.job.now in
     ap (λ (n : Normaliser). some n.primitive) c.read_normaliser-n.ensures ∙ ap (λ us. some (get_or us 1 0)) c.words_at.ensures
-    ∙ sym (ap (λ ns. normaliser_of ns a.head) (normalisers-read (sizes_of J).globals (tables_for J)) ∙ look-found (normaliser-looks a.head) (tables_for J).normalisers c.in-At.i (sym c.find_named-place.ensures.is ∙ c.in-At.is))
+    ∙ sym (ap (λ ns. normaliser_of ns a.head) (normalisers-read (sizes_of J).globals (tables_for J)) ∙ look-found (normaliser-looks a.head) (tables_for J).normalisers c.in-Some.i (sym c.find_named-place.ensures.is ∙ c.in-Some.is))

@@ -24,13 +24,13 @@ returns-in_default c = let a = c.args in
     sym (ap (λ rs. row_value rs a.p a.args.now) (rows-read (sizes_of J).globals (tables_for J)) ∙ look-nothing (row-looks a.p a.args.now) (tables_for J).rows (sym (row_first J a.p a.args.now c.find_key-place.ensures) ∙ c.in_default.is))
 
 pub words_at-requires : goal.words_at-requires
-words_at-requires c = record { held = c.requires.ready.held; table_bound = lit< tt; i_bound = (c.find_key-place.ensures.there c.in-At.i c.in-At.is).0 }
+words_at-requires c = record { held = c.requires.ready.held; table_bound = lit< tt; i_bound = (c.find_key-place.ensures.there c.in-Some.i c.in-Some.is).0 }
 
 pub read_row-row-requires : goal.read_row-row-requires
-read_row-row-requires c = let i = c.in-At.i in row_words c.requires.ready i c.words_at.ensures (c.find_key-place.ensures.there i c.in-At.is).0
+read_row-row-requires c = let i = c.in-Some.i in row_words c.requires.ready i c.words_at.ensures (c.find_key-place.ensures.there i c.in-Some.is).0
 
 pub returns : goal.returns
 returns c = let a = c.args in
     let J = a.job.now in
     ap (λ (r : Row). some r.result) c.read_row-row.ensures ∙ ap (λ us. some (get_or us 1 0)) c.words_at.ensures
-    ∙ sym (ap (λ rs. row_value rs a.p a.args.now) (rows-read (sizes_of J).globals (tables_for J)) ∙ look-found (row-looks a.p a.args.now) (tables_for J).rows c.in-At.i (sym (row_first J a.p a.args.now c.find_key-place.ensures) ∙ c.in-At.is))
+    ∙ sym (ap (λ rs. row_value rs a.p a.args.now) (rows-read (sizes_of J).globals (tables_for J)) ∙ look-found (row-looks a.p a.args.now) (tables_for J).rows c.in-Some.i (sym (row_first J a.p a.args.now c.find_key-place.ensures) ∙ c.in-Some.is))

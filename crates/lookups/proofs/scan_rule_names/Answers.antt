@@ -22,14 +22,14 @@ loop-i-init c = let J = c.args.job.now in
 pub rule_name-name-requires : goal.rule_name-name-requires
 rule_name-name-requires c = rule-words c.requires c.loop-i.i c.words_at.ensures (omega (arith, c.size-count.ensures))
 
-pub returns-in-At : goal.returns-in-At
-returns-in-At c = let J = c.args.job.now in
+pub returns-in-Some : goal.returns-in-Some
+returns-in-Some c = let J = c.args.job.now in
     let t = (tables_for J).rules in
     let long = table-long J 8 (lit< tt) in
     let l = c.loop-i in
     let name : c.rule_name-name.result ≡ word (get_or t l.i no_cell) 0 = c.rule_name-name.ensures (λ i. bare i (expr_of [] 0)) (λ i. idle) ∙ ap (λ us. get_or us 0 0) c.words_at.ensures in
     let named = c.first_named-seen.ensures.is ∙ ap (first_named (take l.i t)) name in
-    ap some name ∙ duplicate-yes _ _ t l.i (omega (arith, c.size-count.ensures)) c.in-At.field-0 (sym c.in-At.is ∙ named) ∙ sym l.invariant.1
+    ap some name ∙ duplicate-yes _ _ t l.i (omega (arith, c.size-count.ensures)) c.in-Some.field-0 (sym c.in-Some.is ∙ named) ∙ sym l.invariant.1
 
 pub loop-i-preserved : goal.loop-i-preserved
 loop-i-preserved c = let J = c.args.job.now in

@@ -1,8 +1,8 @@
 use Rattle.walk.proofs.Effects.{effect-pair, effect-none}
 use Rattle.walk.proofs.effect_of.Goals as goal
 
-pub returns-in-Pair : goal.returns-in-Pair
-returns-in-Pair c = effect-pair c.in-Pair.is
+pub returns-in-Some : goal.returns-in-Some
+returns-in-Some c = effect-pair c.in-Some.is
 
-pub returns-in-Nothing : goal.returns-in-Nothing
-returns-in-Nothing c = effect-none c.in-Nothing.is
+pub returns-in-None : goal.returns-in-None
+returns-in-None c = effect-none c.in-None.is

@@ -29,8 +29,8 @@ first_failing-f-requires c = let s = c in
     let ten : length fs ≡ 10 = tests-ten a.round z t in
     record { held = s.requires.held; table_bound = omega arith; first_value = l.invariant.1; count_value = ns; distinct = s.requires.distinct; sound = s.requires.sound }
 
-pub returns-in-At : goal.returns-in-At
-returns-in-At c = let s = c in
+pub returns-in-Some : goal.returns-in-Some
+returns-in-Some c = let s = c in
     let a = s.args in
     let z = sizes_in a.z in
     let t = tables_for a.kinds.now a.ends.now a.pool.now a.z in
@@ -39,7 +39,7 @@ returns-in-At c = let s = c in
     let k = l.table in
     let ns : get_or c.counts-ns.result k 0 ≡ get_or (counts_of z) k 0 = ap (λ (xs : List ℕ). get_or xs k 0) c.counts-ns.ensures in
     let ten : length fs ≡ 10 = tests-ten a.round z t in
-    c.in-At.is ∙ sym (l.invariant.2 ∙ tables-yes fs (table_list t) k l.first (omega arith) (omega arith) c.in-At.field-0 (sym c.first_failing-f.ensures ∙ c.in-At.is))
+    c.in-Some.is ∙ sym (l.invariant.2 ∙ tables-yes fs (table_list t) k l.first (omega arith) (omega arith) c.in-Some.field-0 (sym c.first_failing-f.ensures ∙ c.in-Some.is))
 
 pub overflow_add-first : goal.overflow_add-first
 overflow_add-first c = let s = c in
