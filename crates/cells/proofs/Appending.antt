@@ -144,10 +144,9 @@ module _ {K E P : List ℕ} {f : Fill} (F : Formed K E P f) where
 -- the contracts of `append` and `add`, case by case
 module _ {K E P : List ℕ} {f : Fill} (F : Formed K E P f) where
   -- nothing done
-  pub ran-none : {a : Added} {x : Result} → a.fill ≡ f → a.number ≡ x.number → a.full ≡ x.full → x.cells ≡ cells_of K E P f.cells → Ran K E P f K E P a x
-  ran-none {a} {x} e n b h = record {
+  pub ran-none : {a : Added} {x : Result} → a.fill ≡ f → a.number ≡ x.number → x.cells ≡ cells_of K E P f.cells → Ran K E P f K E P a x
+  ran-none {a} {x} e n h = record {
     number = n;
-    full = b;
     formed = rw e F;
     cells = rw e (sym h);
     len_k = refl;
@@ -161,26 +160,25 @@ module _ {K E P : List ℕ} {f : Fill} (F : Formed K E P f) where
   }
 
   module _ (c : Cell) where
-    pub no_cell_lem : length K ≤ f.cells → Ran K E P f K E P (record { number = 0; full = true; fill = f }) (append_cell c (table_of K E P f))
+    pub no_cell_lem : length K ≤ f.cells → Ran K E P f K E P (record { number = None; fill = f }) (append_cell c (table_of K E P f))
     unfolding append_cell
-    no_cell_lem h = let e : has_room (table_of K E P f) c ≡ false = rw (cells-length K E P f.cells, le-ltb f.cells (length K) h) in rw (e, append_cell) (ran-none refl refl refl refl)
+    no_cell_lem h = let e : has_room (table_of K E P f) c ≡ false = rw (cells-length K E P f.cells, le-ltb f.cells (length K) h) in rw (e, append_cell) (ran-none refl refl refl)
 
-    pub no_words : f.cells < length K → length P < f.words + length c.words → Ran K E P f K E P (record { number = 0; full = true; fill = f }) (append_cell c (table_of K E P f))
+    pub no_words : f.cells < length K → length P < f.words + length c.words → Ran K E P f K E P (record { number = None; fill = f }) (append_cell c (table_of K E P f))
     unfolding append_cell
     no_words h l =
         let e : has_room (table_of K E P f) c ≡ false = rw (cells-length K E P f.cells, held-total F, lt-ltb f.cells (length K) h, lt-leb (f.words + length c.words) (length P) l) in
-        rw (e, append_cell) (ran-none refl refl refl refl)
+        rw (e, append_cell) (ran-none refl refl refl)
 
     pub appended : f.cells < length K → f.words + length c.words ≤ length P
         → Ran K E P f (set K f.cells c.kind) (set E f.cells (f.words + length c.words)) (put P f.words c.words)
-        (record { number = f.cells; full = false; fill = record { cells = f.cells + 1; words = f.words + length c.words } })
+        (record { number = Some f.cells; fill = record { cells = f.cells + 1; words = f.words + length c.words } })
         (append_cell c (table_of K E P f))
     unfolding append_cell
     appended h l =
         let e : has_room (table_of K E P f) c ≡ true = rw (cells-length K E P f.cells, held-total F, lt-ltb f.cells (length K) h, le-leb (f.words + length c.words) (length P) l) in
         rw (e, append_cell) (record {
-          number = sym (cells-length K E P f.cells);
-          full = refl;
+          number = ap Some (sym (cells-length K E P f.cells));
           formed = push-formed F c.kind c.words h l;
           cells = push-cells F c.kind c.words h l;
           len_k = length-set K f.cells c.kind;
@@ -193,9 +191,9 @@ module _ {K E P : List ℕ} {f : Fill} (F : Formed K E P f) where
           pool = put-after P f.words c.words l;
         })
 
-    pub add-old : (i : ℕ) → find_cell (cells_of K E P f.cells) c ≡ Some i → Ran K E P f K E P (record { number = i; full = false; fill = f }) (add_cell c (table_of K E P f))
+    pub add-old : (i : ℕ) → find_cell (cells_of K E P f.cells) c ≡ Some i → Ran K E P f K E P (record { number = Some i; fill = f }) (add_cell c (table_of K E P f))
     unfolding add_cell
-    add-old i e = rw (e, add_cell) (ran-none refl refl refl refl)
+    add-old i e = rw (e, add_cell) (ran-none refl refl refl)
 
     pub add-new : {K' E' P' : List ℕ} {a : Added} → find_cell (cells_of K E P f.cells) c ≡ None
         → Ran K E P f K' E' P' a (append_cell c (table_of K E P f)) → Ran K E P f K' E' P' a (add_cell c (table_of K E P f))

@@ -16,7 +16,7 @@ use lib.Seq.{drop-cons, get_or_at, take-length}
 use Rattle.model.specs.Cell.{Cell, no_cell, same_words, same_cell, tabulate, start_of, words_at, cell_at, cells_of}
 use Rattle.model.proofs.Tests.{and-false, and_left, and_right, words-eq}
 use Rattle.model.proofs.Valid.{length-tabulate, cell_same}
-use Rattle.cells.specs.Table.{Formed, find_from, find_cell, found_by, Once}
+use Rattle.cells.specs.Table.{Formed, find_from, find_cell, Once}
 use Rattle.cells.specs.declared.Fill.{Fill}
 
 -- a part up to the end
@@ -92,14 +92,6 @@ module _ (a b : List ℕ) (k : ℕ) (h : k < length a) (l : k < length b) where
 
   pub same-yes : get_or a k 0 ≡ get_or b k 0 → same_words (drop k a) (drop k b) ≡ same_words (drop (k + 1) a) (drop (k + 1) b)
   same-yes e = rw (same_step a b k h l, eq-eqb (get_or a k 0) (get_or b k 0) e)
-
--- what a look-up found, by a word
-pub found_some : (n : ℕ) → (n ≡ 0 → ⊥) → found_by n ≡ Some (n - 1)
-found_some zero h = absurd (h refl)
-found_some (suc n) h = ap Some (omega arith)
-
-pub found_none : (n : ℕ) → n ≡ 0 → found_by n ≡ None
-found_none n e = ap found_by e
 
 -- a cell of the table against a kind and words
 module _ (K E P : List ℕ) (n i : ℕ) (h : i < n) (k : ℕ) (ws : List ℕ) where

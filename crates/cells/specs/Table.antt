@@ -1,7 +1,5 @@
 -- A table of cells in three word arrays: when it is well formed, and what looking a cell up and adding one do to its list of cells.
-use Rattle.std.specs.Prelude as prelude
-use Rattle.std.specs.Prelude.{Some, None}
-use Rattle.std.specs.Prelude.{◌≡◌, Bool, true, false, ◌&&◌, List, [], ◌∷◌, ◌++◌, ℕ, zero, suc, ◌+◌, ◌≤◌, ◌<◌, ◌^◌, ltb, leb, length, get_or, take, drop}
+use Rattle.std.specs.Prelude.{◌≡◌, Option, Some, None, Bool, true, false, ◌&&◌, List, [], ◌∷◌, ◌++◌, ℕ, ◌+◌, ◌≤◌, ◌<◌, ◌^◌, ltb, leb, length, get_or, take, drop}
 use Rattle.model.specs.Cell.{Cell, no_cell, same_cell, start_of, cells_of}
 use Rattle.cells.specs.declared.Fill.{Fill}
 use Rattle.cells.specs.declared.Added.{Added}
@@ -18,17 +16,12 @@ pub record Formed (K E P : List ℕ) (f : Fill) : Type 0 where
   pub below : (i : ℕ) → i < f.cells → get_or E i 0 ≤ f.words
 
 -- The first cell that equals c, where the list's first has the number k.
-unfoldable pub find_from : ℕ → List Cell → Cell → prelude.Option ℕ
+unfoldable pub find_from : ℕ → List Cell → Cell → Option ℕ
 find_from k [] c = None
 find_from k (x ∷ cs) c = elim (same_cell x c) [ true ↦ Some k | false ↦ find_from (k + 1) cs c ]
 
-abbrev pub find_cell : List Cell → Cell → prelude.Option ℕ
+abbrev pub find_cell : List Cell → Cell → Option ℕ
 find_cell cs c = find_from 0 cs c
-
--- What a look-up found, by a word: the number of the equal cell plus one, or 0 for none.
-abbrev pub found_by : ℕ → prelude.Option ℕ
-found_by zero = None
-found_by (suc i) = Some i
 
 -- No two cells are equal.
 pub record Once (cs : List Cell) : Type 0 where
@@ -52,25 +45,24 @@ pub record Table : Type 0 where
 abbrev pub table_of : List ℕ → List ℕ → List ℕ → Fill → Table
 table_of kinds ends pool f = record { cells = cells_of kinds ends pool f.cells; cell_room = length kinds; word_room = length pool }
 
--- What adding a cell gives: its number, or that there was no room; and the cells after.
+-- What adding a cell gives: its number, or none where there was no room; and the cells after.
 pub record Result : Type 0 where
-  pub number : ℕ
-  pub full : Bool
+  pub number : Option ℕ
   pub cells : List Cell
 
 abbrev pub has_room : Table → Cell → Bool
 has_room t c = ltb (length t.cells) t.cell_room && leb (total t.cells + length c.words) t.word_room
 
 abbrev pub append_if : Bool → Cell → Table → Result
-append_if true c t = record { number = length t.cells; full = false; cells = t.cells ++ (c ∷ []) }
-append_if false c t = record { number = 0; full = true; cells = t.cells }
+append_if true c t = record { number = Some (length t.cells); cells = t.cells ++ (c ∷ []) }
+append_if false c t = record { number = None; cells = t.cells }
 
 -- The cell behind the others, if there is room.
 unfoldable pub append_cell : Cell → Table → Result
 append_cell c t = append_if (has_room t c) c t
 
-abbrev pub add_found : prelude.Option ℕ → Cell → Table → Result
-add_found (Some i) c t = record { number = i; full = false; cells = t.cells }
+abbrev pub add_found : Option ℕ → Cell → Table → Result
+add_found (Some i) c t = record { number = Some i; cells = t.cells }
 add_found None c t = append_cell c t
 
 -- The number of an equal cell, else of the cell appended.
@@ -80,7 +72,6 @@ add_cell c t = add_found (find_cell t.cells c) c t
 -- The contract of every function that adds cells: the answer a is what the definition says, and past the fill the arrays are as they were.
 pub record Ran (K E P : List ℕ) (f : Fill) (K' E' P' : List ℕ) (a : Added) (x : Result) : Type 0 where
   pub number : a.number ≡ x.number
-  pub full : a.full ≡ x.full
   pub formed : Formed K' E' P' a.fill
   pub cells : cells_of K' E' P' a.fill.cells ≡ x.cells
   pub len_k : length K' ≡ length K

@@ -3,7 +3,7 @@
 
 ghost use Rattle.std.specs.Prelude.{◌≡◌, true, false, ◌+◌, ◌-◌, ◌≤◌, ◌<◌, length, get_or};
 ghost use Rattle.model.specs.Cell.{Cell, no_cell, same_words, same_cell, start_of, cells_of};
-ghost use Rattle.cells.specs.Table.{Formed, find_cell, found_by, put, Ran, add_cell, append_cell, table_of};
+ghost use Rattle.cells.specs.Table.{Formed, find_cell, put, Ran, add_cell, append_cell, table_of};
 
 // How much of a table is in use: the number of cells, and of pool words.
 #[derive(Clone, Copy)]
@@ -12,19 +12,11 @@ pub struct Fill {
     pub words: usize,
 }
 
-// The number of a cell and the fill after. Where the table was full the number means nothing and the fill is as before.
+// The number of a cell, or none where the table was full, and the fill after.
 #[derive(Clone, Copy)]
 pub struct Added {
-    pub number: u32,
-    pub full: bool,
+    pub number: Option<u32>,
     pub fill: Fill,
-}
-
-// What entering a cell gives beside the fill, which is lent: its number, and whether the table was full.
-#[derive(Clone, Copy)]
-pub struct Entered {
-    pub number: u32,
-    pub full: bool,
 }
 
 pub fn wide(x: u32) -> usize
@@ -59,17 +51,7 @@ pub fn words<'a>(kinds: &[u32], ends: &[u32], pool: &'a [u32], fill: Fill, i: us
 pub fn same_words(a: &[u32], b: &[u32]) -> bool
     ensures { result ≡ same_words a.now b.now }
 {
-    if a.len() != b.len() {
-        return false;
-    }
-    let mut k = 0;
-    while k < a.len() {
-        if a[k] != b[k] {
-            return false;
-        }
-        k += 1;
-    }
-    true
+    a == b
 }
 
 // Cell i has this kind and these words.
@@ -86,10 +68,7 @@ pub fn same(
     requires i_lt_cells { i < fill.cells }
     ensures { result ≡ same_cell (get_or (cells_of kinds.now ends.now pool.now fill.cells) i no_cell) (record { kind = kind; words = ws.now }) }
 {
-    if kinds[i] != kind {
-        return false;
-    }
-    same_words(words(kinds, ends, pool, fill, i), ws)
+    kinds[i] == kind && same_words(words(kinds, ends, pool, fill, i), ws)
 }
 
 // Writes src over dst from the index at.
@@ -97,11 +76,7 @@ pub fn copy(dst: &mut [u32], at: usize, src: &[u32])
     requires { at + length src.now ≤ length dst.old }
     ensures { dst.new ≡ put dst.old at src.now }
 {
-    let mut j = 0;
-    while j < src.len() {
-        dst[at + j] = src[j];
-        j += 1;
-    }
+    dst[at..at + src.len()].copy_from_slice(src);
 }
 
 // Appends a cell, if there is room.
@@ -119,26 +94,17 @@ pub fn append(
     let n = fill.cells;
     let m = fill.words;
     if kinds.len() <= n {
-        return Added {
-            number: 0,
-            full: true,
-            fill,
-        };
+        return Added { number: None, fill };
     }
     if pool.len() - m < ws.len() {
-        return Added {
-            number: 0,
-            full: true,
-            fill,
-        };
+        return Added { number: None, fill };
     }
     let e = m + ws.len();
     copy(pool, m, ws);
     kinds[n] = kind;
     ends[n] = e as u32;
     Added {
-        number: n as u32,
-        full: false,
+        number: Some(n as u32),
         fill: Fill {
             cells: n + 1,
             words: e,
@@ -152,18 +118,17 @@ fn add_by_value(
     ends: &mut [u32],
     pool: &mut [u32],
     fill: Fill,
-    found: u32,
+    found: Option<u32>,
     kind: u32,
     ws: &[u32],
 ) -> Added
     requires formed { Formed kinds.old ends.old pool.old fill }
-    requires found_value { found_by found ≡ find_cell (cells_of kinds.old ends.old pool.old fill.cells) (record { kind = kind; words = ws.now }) }
+    requires found_value { found ≡ find_cell (cells_of kinds.old ends.old pool.old fill.cells) (record { kind = kind; words = ws.now }) }
     ensures { Ran kinds.old ends.old pool.old fill kinds.new ends.new pool.new result (add_cell (record { kind = kind; words = ws.now }) (table_of kinds.old ends.old pool.old fill)) }
 {
-    if found != 0 {
+    if let Some(i) = found {
         return Added {
-            number: found - 1,
-            full: false,
+            number: Some(i),
             fill,
         };
     }
@@ -176,23 +141,18 @@ pub fn enter(
     ends: &mut [u32],
     pool: &mut [u32],
     fill: &mut Fill,
-    found: u32,
+    found: Option<u32>,
     kind: u32,
     ws: &[u32],
-) -> Entered
+) -> Option<u32>
     requires formed { Formed kinds.old ends.old pool.old fill.old }
-    requires found_value { found_by found ≡ find_cell (cells_of kinds.old ends.old pool.old fill.old.cells) (record { kind = kind; words = ws.now }) }
-    ensures { Ran kinds.old ends.old pool.old fill.old kinds.new ends.new pool.new (record { number = result.number; full = result.full; fill = fill.new }) (add_cell (record { kind = kind; words = ws.now }) (table_of kinds.old ends.old pool.old fill.old)) }
+    requires found_value { found ≡ find_cell (cells_of kinds.old ends.old pool.old fill.old.cells) (record { kind = kind; words = ws.now }) }
+    ensures { Ran kinds.old ends.old pool.old fill.old kinds.new ends.new pool.new (record { number = result; fill = fill.new }) (add_cell (record { kind = kind; words = ws.now }) (table_of kinds.old ends.old pool.old fill.old)) }
 {
-    let cells = fill.cells;
-    let words = fill.words;
-    let a = add_by_value(kinds, ends, pool, Fill { cells, words }, found, kind, ws);
+    let a = add_by_value(kinds, ends, pool, *fill, found, kind, ws);
     fill.cells = a.fill.cells;
     fill.words = a.fill.words;
-    Entered {
-        number: a.number,
-        full: a.full,
-    }
+    a.number
 }
 
 // The same with the fill by value, for callers with plain parameters: a copy is lent.
@@ -201,19 +161,15 @@ pub fn add(
     ends: &mut [u32],
     pool: &mut [u32],
     fill: Fill,
-    found: u32,
+    found: Option<u32>,
     kind: u32,
     ws: &[u32],
 ) -> Added
     requires formed { Formed kinds.old ends.old pool.old fill }
-    requires found_value { found_by found ≡ find_cell (cells_of kinds.old ends.old pool.old fill.cells) (record { kind = kind; words = ws.now }) }
+    requires found_value { found ≡ find_cell (cells_of kinds.old ends.old pool.old fill.cells) (record { kind = kind; words = ws.now }) }
     ensures { Ran kinds.old ends.old pool.old fill kinds.new ends.new pool.new result (add_cell (record { kind = kind; words = ws.now }) (table_of kinds.old ends.old pool.old fill)) }
 {
-    let mut f = fill;
-    let e = enter(kinds, ends, pool, &mut f, found, kind, ws);
-    Added {
-        number: e.number,
-        full: e.full,
-        fill: f,
-    }
+    let mut fill = fill;
+    let number = enter(kinds, ends, pool, &mut fill, found, kind, ws);
+    Added { number, fill }
 }

@@ -25,7 +25,6 @@ use Rattle.outcome.specs.declared.Refusal.{Refusal}
 use native.Mathlib.Omega.{arith}
 use Rattle.outcome.proofs.Laws.{refused-of, does-here}
 use Rattle.evaluate.specs.Value.{bindings_in, custom_term, head_term}
-use Rattle.evaluate.specs.Evaluation.{Finds}
 
 -- look-ups
 lookup-append : (as' bs : List Binding) (x : ℕ) → lookup (as' ++ bs) x ≡ first_of (lookup as' x) (lookup bs x)
@@ -65,16 +64,7 @@ unfolding or_refuse
 given-none c a b f e q = (ap (λ (x : Checked). x.fill) e, λ s. ap (λ (x : Checked). outcome_of x.refusal x.value s) e ∙ ap (λ (o : Option ℕ). or_refuse o 45 (a ∷ b ∷ []) s) q)
 
 -- a value that needs no new term
-pub number-some : {r : prelude.Option ℕ} {w : ℕ} → (w ≡ 0 → ⊥) → r ≡ Some (w - 1) → (v : ℕ) → r ≡ Some v → w ≡ suc v
-number-some {r} {w} h e v q = let y : w - 1 ≡ v = cc in omega arith
-
-pub number-none : {r : prelude.Option ℕ} {w : ℕ} → r ≡ None → (v : ℕ) → r ≡ Some v → w ≡ suc v
-number-none e v q = let y : ◌≡◌ {A = ℕ} 0 1 = cc in absurd (omega arith)
-
-pub finds-known : {r : prelude.Option ℕ} {w : ℕ} {o : Outcome ℕ} {s : List Term} → Known w o s → ((v : ℕ) → r ≡ Some v → w ≡ suc v) → Finds r o s
-finds-known k h = record { value = λ v e. k.value v (h v e) }
-
-pub finds-none : {r : prelude.Option ℕ} {o : Outcome ℕ} {s : List Term} → r ≡ None → Finds r o s
+pub finds-none : {r : prelude.Option ℕ} {o : Outcome ℕ} {s : List Term} → r ≡ None → Known r o s
 finds-none e = record { value = λ v q. let y : ◌≡◌ {A = ℕ} 0 1 = cc in absurd (omega arith) }
 
 -- primitives
@@ -110,10 +100,10 @@ module _ (prog : Program) (n p : ℕ) (xs : List ℕ) (q : Primitive) (is : q �
       ∙ by_kind room true s e (lt-ltb 3 q.kind k)
 
   pub computes-found : (room : Room) (s : List Term) {r : prelude.Option ℕ} → q.validator ≡ true → 3 < q.kind
-      → Finds r (and_then (add_count room (count_value q.kind (counts_in s xs)) s) (λ o. or_refuse o 46 (q.name ∷ []))) s → Finds r (validated room prog n p xs s) s
-  computes-found room s {r} e k F = subst (λ (o : Outcome ℕ). Finds r o s) (computes-is room s e k) F
+      → Known r (and_then (add_count room (count_value q.kind (counts_in s xs)) s) (λ o. or_refuse o 46 (q.name ∷ []))) s → Known r (validated room prog n p xs s) s
+  computes-found room s {r} e k F = subst (λ (o : Outcome ℕ). Known r o s) (computes-is room s e k) F
 
-  pub row-found : (room : Room) (s : List Term) {r : prelude.Option ℕ} → q.validator ≡ true → q.kind ≤ 3 → option_of r ≡ row_value prog.rows p xs → Finds r (validated room prog n p xs s) s
+  pub row-found : (room : Room) (s : List Term) {r : prelude.Option ℕ} → q.validator ≡ true → q.kind ≤ 3 → option_of r ≡ row_value prog.rows p xs → Known r (validated room prog n p xs s) s
   unfolding or_refuse
   row-found room s {r} v k w = record {
     value = λ t e. sym (ap (λ (a : Option ℕ). or_refuse a 46 (q.name ∷ []) s) (sym (ap option_of e) ∙ w) ∙ by_kind room false s v (le-ltb 3 q.kind k));
@@ -157,8 +147,8 @@ module _ {K E P I : List ℕ} {f : Fill} (room : Room) (g : ℕ) (ts : List ℕ)
       → Does K E P I f K₁ E₁ P₁ I₁ f₁ r a (add_node room (app g ts) (terms_in K E P f)) → Does K E P I f K₁ E₁ P₁ I₁ f₁ r a (custom_term b room g ts (terms_in K E P f))
   custom-elsewhere e {K₁} {E₁} {P₁} {I₁} {f₁} {r} {a} d = subst (λ (x : Bool). Does K E P I f K₁ E₁ P₁ I₁ f₁ r a (custom_term x room g ts (terms_in K E P f))) (sym e) d
 
-pub custom-found : {r : prelude.Option ℕ} (b : Bool) (room : Room) (g : ℕ) (ts : List ℕ) (s : List Term) → b ≡ false → Finds r (add_node room (app g ts) s) s → Finds r (custom_term b room g ts s) s
-custom-found {r} b room g ts s e F = subst (λ (x : Bool). Finds r (custom_term x room g ts s) s) (sym e) F
+pub custom-found : {r : prelude.Option ℕ} (b : Bool) (room : Room) (g : ℕ) (ts : List ℕ) (s : List Term) → b ≡ false → Known r (add_node room (app g ts) s) s → Known r (custom_term b room g ts s) s
+custom-found {r} b room g ts s e F = subst (λ (x : Bool). Known r (custom_term x room g ts s) s) (sym e) F
 
 -- heads, by case
 module _ (fact : Bool) (room : Room) (prog : Program) (rule : ℕ) (σ : List Binding) (ts : List ℕ) (s : List Term) where
@@ -181,8 +171,8 @@ module _ (fact : Bool) (room : Room) (prog : Program) (rule : ℕ) (σ : List Bi
       → Does K E P I f K₁ E₁ P₁ I₁ f₁ r a (outcome_at h') → Does K E P I f K₁ E₁ P₁ I₁ f₁ r a (head_term fact room prog rule σ (head_of h) ts s)
   head-does h h' e {K} {E} {P} {I} {f} {K₁} {E₁} {P₁} {I₁} {f₁} {r} {a} d = subst (Does K E P I f K₁ E₁ P₁ I₁ f₁ r a) (ap outcome_at (sym e) ∙ head-is h) d
 
-  pub head-finds : (h h' : view.Head) → h ≡ h' → {r : prelude.Option ℕ} → Finds r (outcome_at h') s → Finds r (head_term fact room prog rule σ (head_of h) ts s) s
-  head-finds h h' e {r} F = subst (λ (o : Outcome ℕ). Finds r o s) (ap outcome_at (sym e) ∙ head-is h) F
+  pub head-finds : (h h' : view.Head) → h ≡ h' → {r : prelude.Option ℕ} → Known r (outcome_at h') s → Known r (head_term fact room prog rule σ (head_of h) ts s) s
+  head-finds h h' e {r} F = subst (λ (o : Outcome ℕ). Known r o s) (ap outcome_at (sym e) ∙ head-is h) F
 
 -- a variable, with the store as it is
 pub variable-does : {K E P I : List ℕ} {f : Fill} {c : Checked} {o : Check ℕ} → Indexed K E P I f → (c.fill ≡ f) × ((s : List Term) → outcome_of c.refusal c.value s ≡ o s)

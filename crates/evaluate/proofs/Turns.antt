@@ -22,7 +22,7 @@ use Rattle.model.specs.Check.{Outcome, ok, Check, and_then, Room}
 use Rattle.model.proofs.Post.{post-result}
 use Rattle.model.proofs.Store.{extends-same}
 use Rattle.index.specs.declared.Fill.{Fill}
-use Rattle.termdag.specs.Store.{terms_in, Indexed, room_of}
+use Rattle.termdag.specs.Store.{terms_in, Indexed, room_of, Known}
 use Rattle.memo.specs.Memo.{value_at, is_noted, note_at, Started}
 use Rattle.memo.proofs.Laws.{note-length, note-other, note-value-other, note-here, note-value, note-past}
 use Rattle.outcome.specs.Does.{passed, Does}
@@ -36,7 +36,7 @@ use Rattle.decode.specs.declared.Head as view
 use Rattle.program.specs.Ready.{tables_for, Ready, program_for}
 use Rattle.program.specs.Read.{expr_for, arguments_for, head_for}
 use Rattle.evaluate.specs.Value.{eval_for, value_for, head_term, eval_term, eval_terms, Reaches, here, down}
-use Rattle.evaluate.specs.Evaluation.{Finds, Memo, Knows, noted, bound, unknown, Noted, Evaluates, EvaluatesMore, EvaluatesRoot}
+use Rattle.evaluate.specs.Evaluation.{Memo, Knows, noted, bound, unknown, Noted, Evaluates, EvaluatesMore, EvaluatesRoot}
 use Rattle.evaluate.proofs.HeadValues.{given-some, head-does, variable-does}
 use Rattle.evaluate.proofs.Collecting.{each, each-is, rest, Run, run-start, run-turn, run-done}
 use Rattle.evaluate.proofs.Settling.{value-term, same-value, head-settled, term-settled, term-again}
@@ -63,7 +63,7 @@ at_head fact room prog rule σ ts s {K = K} {E = E} {P = P} {I = I} {f = f} {K' 
     subst (λ (x : Head). Does K E P I f K' E' P' I' f' r a (head_term fact room prog rule σ x ts s)) e d
 
 -- a value that needs no new term
-pub found-does : (K E P I : List ℕ) (f : Fill) {r : prelude.Option ℕ} {t : ℕ} {o : Outcome ℕ} → Indexed K E P I f → Finds r o (terms_in K E P f) → r ≡ Some t → Does K E P I f K E P I f passed t o
+pub found-does : (K E P I : List ℕ) (f : Fill) {r : prelude.Option ℕ} {t : ℕ} {o : Outcome ℕ} → Indexed K E P I f → Known r o (terms_in K E P f) → r ≡ Some t → Does K E P I f K E P I f passed t o
 found-does K E P I f {t = t} S F q = does-here S (sym (F.value t q))
 
 module _ (fact : Bool) (prog : Program) (rule : ℕ) (σ : List Binding) (n : ℕ) (args : ℕ → List ℕ) (head : ℕ → Head) (expr : ℕ → Expr) where

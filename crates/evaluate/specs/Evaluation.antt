@@ -41,10 +41,6 @@ pub data KnowsFirst (head : ℕ → Head) (σ : List Binding) (xs m₀ vals₀ :
   more : {i t : ℕ} {m m' vals : List ℕ} → KnowsFirst head σ xs m₀ vals₀ i m vals → i < length xs → Knows head σ (get_or xs i 0) m (Some t) m'
       → KnowsFirst head σ xs m₀ vals₀ (i + 1) m' (set vals i t)
 
--- The value r, if there is one, of a check with the outcome o in the store s: then the check leaves the store.
-pub record Finds (r : prelude.Option ℕ) (o : Outcome ℕ) (s : List Term) : Type 0 where
-  pub value : (v : ℕ) → r ≡ Some v → o ≡ ok v s
-
 -- What is noted after the evaluation of e: what was, and e with all below it.
 pub record Noted (args : ℕ → List ℕ) (n e : ℕ) (m m' : List ℕ) : Type 0 where
   pub root : is_noted m' e ≡ true

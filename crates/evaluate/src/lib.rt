@@ -9,7 +9,7 @@ ghost use Rattle.model.specs.Program.{Binding};
 ghost use Rattle.model.specs.Program as Program;
 ghost use Rattle.model.specs.Check.{or_refuse, add_node};
 ghost use Rattle.model.specs.Evaluate.{lookup, validated};
-ghost use Rattle.termdag.specs.Store.{terms_in, Indexed, room_of};
+ghost use Rattle.termdag.specs.Store.{terms_in, Indexed, room_of, Known};
 ghost use Rattle.program.specs.Ready.{Ready, program_for, option_of};
 ghost use Rattle.lookups.specs.Keyed.{Keyed};
 ghost use Rattle.decode.specs.View.{head_of};
@@ -18,7 +18,7 @@ ghost use Rattle.memo.specs.Memo.{is_noted, Past};
 ghost use Rattle.outcome.specs.Does.{outcome_of, Does};
 ghost use Rattle.program.specs.Read.{head_for, arguments_for};
 ghost use Rattle.evaluate.specs.Value.{custom_term, head_term, bindings_in, eval_for, value_for};
-ghost use Rattle.evaluate.specs.Evaluation.{Memo, Knows, KnowsFirst, Finds, Evaluates, EvaluatesRoot};
+ghost use Rattle.evaluate.specs.Evaluation.{Memo, Knows, KnowsFirst, Evaluates, EvaluatesRoot};
 
 use cells::wide;
 use computing::{computed, find_computed};
@@ -250,16 +250,6 @@ fn known_values(
     i
 }
 
-// What a look-up's word says: a number plus one, or 0.
-fn number_found(w: u32) -> Option<u32>
-    ensures { (v : ℕ) → result ≡ Some v → w ≡ suc v }
-{
-    if w == 0 {
-        return None;
-    }
-    Some(w - 1)
-}
-
 // The value of a call whose term is in the store already.
 fn find_call(
     skinds: &[u32],
@@ -272,13 +262,13 @@ fn find_call(
 ) -> Option<u32>
     requires indexed { Indexed skinds.now sends.now spool.now index.now fill }
     requires args_len_bound { length args.now ≤ 16 }
-    ensures { Finds result (add_node (room_of skinds.now spool.now) (app f args.now) (terms_in skinds.now sends.now spool.now fill)) (terms_in skinds.now sends.now spool.now fill) }
+    ensures { Known result (add_node (room_of skinds.now spool.now) (app f args.now) (terms_in skinds.now sends.now spool.now fill)) (terms_in skinds.now sends.now spool.now fill) }
 {
     let mut ws = [0u32; 17];
     ws[0] = f;
     cells::copy(&mut ws, 1, args);
     let n = args.len() + 1;
-    number_found(find_app(skinds, sends, spool, index, fill, &ws[..n]))
+    find_app(skinds, sends, spool, index, fill, &ws[..n])
 }
 
 // The value of a custom call whose term is in the store already: none in an ordinary fact.
@@ -294,7 +284,7 @@ fn find_custom(
 ) -> Option<u32>
     requires indexed { Indexed skinds.now sends.now spool.now index.now fill }
     requires args_len_bound { length args.now ≤ 16 }
-    ensures { Finds result (custom_term fact (room_of skinds.now spool.now) f args.now (terms_in skinds.now sends.now spool.now fill)) (terms_in skinds.now sends.now spool.now fill) }
+    ensures { Known result (custom_term fact (room_of skinds.now spool.now) f args.now (terms_in skinds.now sends.now spool.now fill)) (terms_in skinds.now sends.now spool.now fill) }
 {
     if fact {
         return None;
@@ -318,15 +308,14 @@ fn find_validated(
     requires keyed { Keyed job.now found.now }
     requires indexed { Indexed skinds.now sends.now spool.now index.now fill }
     requires p_bound { p < (sizes_of job.now).primitives }
-    ensures { (n : ℕ) → Finds result (validated (room_of skinds.now spool.now) (program_for job.now) n p args.now (terms_in skinds.now sends.now spool.now fill)) (terms_in skinds.now sends.now spool.now fill) }
+    ensures { (n : ℕ) → Known result (validated (room_of skinds.now spool.now) (program_for job.now) n p args.now (terms_in skinds.now sends.now spool.now fill)) (terms_in skinds.now sends.now spool.now fill) }
 {
     let primitive = primitive_at(job, wide(p));
     if !primitive.validator {
         return None;
     }
     if 3 < primitive.kind {
-        let w = find_computed(skinds, sends, spool, index, fill, primitive.kind, args);
-        return number_found(w);
+        return find_computed(skinds, sends, spool, index, fill, primitive.kind, args);
     }
     row_value(job, found, p, args)
 }
@@ -349,10 +338,10 @@ fn find_value(
     requires indexed { Indexed skinds.now sends.now spool.now index.now fill }
     requires args_len_bound { length args.now ≤ 16 }
     requires by_index { (p : ℕ) → head ≡ heads.Head.Primitive p → p < (sizes_of job.now).primitives }
-    ensures { (rule : ℕ) (σ : List Binding) → Finds result (head_term fact (room_of skinds.now spool.now) (program_for job.now) rule σ (head_of head) args.now (terms_in skinds.now sends.now spool.now fill)) (terms_in skinds.now sends.now spool.now fill) }
+    ensures { (rule : ℕ) (σ : List Binding) → Known result (head_term fact (room_of skinds.now spool.now) (program_for job.now) rule σ (head_of head) args.now (terms_in skinds.now sends.now spool.now fill)) (terms_in skinds.now sends.now spool.now fill) }
 {
     match head {
-        Head::Lit(l) => number_found(find_lit(skinds, sends, spool, index, fill, l)),
+        Head::Lit(l) => find_lit(skinds, sends, spool, index, fill, l),
         Head::Var(_) => None,
         Head::Constructor(f) => find_call(skinds, sends, spool, index, fill, f, args),
         Head::Custom(f) => find_custom(fact, skinds, sends, spool, index, fill, f, args),

@@ -1,5 +1,5 @@
 -- Laws of listing the cells of a table one by one.
-use Rattle.std.proofs.Common.{◌≡◌, ℕ, ◌+◌, ◌-◌, ◌*◌, ◌^◌, ◌<◌, ◌≤◌, List, [], length, get_or, replicate, sym, refl, ap, ◌∙◌, subst, not-suc-le-zero, arith}
+use Rattle.std.proofs.Common.{◌≡◌, None, ℕ, ◌+◌, ◌-◌, ◌*◌, ◌^◌, ◌<◌, ◌≤◌, List, [], length, get_or, replicate, sym, refl, ap, ◌∙◌, subst, not-suc-le-zero, arith}
 use Rattle.model.specs.Cell.{Cell, no_cell, tabulate, cell_at, cells_of}
 use Rattle.cells.specs.Table.{Formed, Once}
 use Rattle.cells.specs.declared.Fill.{Fill}
@@ -10,7 +10,7 @@ use Rattle.index.specs.Mixing.{slot_of}
 use Rattle.index.specs.Listing.{Lists, hits, Looked, Built, no_cells, one_more, Enlisted, Filled}
 use Rattle.index.specs.declared.Probe.{Probe}
 use Rattle.index.proofs.Probing.{comparisons-few}
-use Rattle.index.proofs.Indexing.{built-lists, entry-none, entry-some}
+use Rattle.index.proofs.Indexing.{built-lists, number-found}
 
 tabulate-none : (f : ℕ → Cell) → tabulate 0 f ≡ []
 unfolding tabulate
@@ -52,15 +52,15 @@ module _ {x : ℕ} {f : ℕ → Cell} {I : List ℕ} {m i t : ℕ} (g : Going x 
       omega (arith, l.compared, a, going-lists.full, length-tabulate i f)
 
   module _ {I' : List ℕ} {p : Probe} (e : Enlisted x f i I I' p) where
-    pub going_more : p.entry ≡ 0 → i < m → m < 2 ^ 32 → Going x f m I' (i + 1) (t + p.compared)
+    pub going_more : p.found ≡ None → i < m → m < 2 ^ 32 → Going x f m I' (i + 1) (t + p.compared)
     going_more n h b = record {
       low = omega arith;
-      once = rw (tabulate-more i f) (once-append (tabulate i f) (f i) (entry-none n e.looked.found) g.once);
+      once = rw (tabulate-more i f) (once-append (tabulate i f) (f i) (sym e.looked.found ∙ n) g.once);
       built = rw (tabulate-more i f, e.more n, e.looked.compared) (rw (length-tabulate i f) at (one_more (f i) g.built (e.looked.free n)));
       small = omega (arith, g.small, few-compared e.looked);
     }
 
-    pub going-found : (p.entry ≡ 0 → ⊥) → i < m → Filled x f m I' (record { listed = i; compared = t + p.compared })
+    pub going-found : (p.found ≡ None → ⊥) → i < m → Filled x f m I' (record { listed = i; compared = t + p.compared })
     going-found y h = record {
       low = omega arith;
       once = g.once;
@@ -68,7 +68,7 @@ module _ {x : ℕ} {f : ℕ → Cell} {I : List ℕ} {m i t : ℕ} (g : Going x 
       before = t;
       built = rw (e.same y) g.built;
       whole = λ q. absurd (omega arith);
-      again = λ q. (p.entry - 1, entry-some y e.looked.found);
+      again = λ q. let j = number-found p.found y in (j.0, sym e.looked.found ∙ j.1);
       cost = λ q. rw (e.same y) (ap (λ (n : ℕ). t + n) e.looked.compared);
     }
 

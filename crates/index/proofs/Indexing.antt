@@ -6,8 +6,8 @@ use lib.ListN.{get_or-append}
 use lib.Seq.{get_or-append_seam}
 use Rattle.model.specs.Cell.{Cell, no_cell, same_cell, cells_of}
 use Rattle.model.proofs.Valid.{cell_same}
-use Rattle.cells.specs.Table.{find_cell, found_by, Once, Table, table_of, has_room, append_if, append_cell, add_found, add_cell, Ran, Result}
-use Rattle.cells.proofs.Laws.{found_at, found_some, found_none, once-found, cells-length}
+use Rattle.cells.specs.Table.{find_cell, Once, Table, table_of, has_room, append_if, append_cell, add_found, add_cell, Ran, Result}
+use Rattle.cells.proofs.Laws.{found_at, once-found, cells-length}
 use Rattle.index.specs.Mixing.{slot_of}
 use Rattle.index.specs.Slots.{onward, Free, round_from, comparisons}
 use Rattle.index.specs.Listing.{home_of, Lists, hits, Looked, table_fill, table_added, Ready, Kept, Built, no_cells, one_more}
@@ -16,6 +16,9 @@ use Rattle.index.specs.declared.Added.{Added}
 use Rattle.index.specs.declared.Probe.{Probe}
 use Rattle.index.proofs.Arithmetic.{slot-within}
 use Rattle.index.proofs.Probing.{Passed, passed-more, hit-count, empty-count, empty-free, none-hits, passed-all, listed-none, listed-named, listed_more}
+
+pub no-none : {r : prelude.Option ℕ} {i : ℕ} → r ≡ Some i → r ≡ None → ⊥
+no-none {r} {i} q e = let d : ◌≡◌ {A = prelude.Option ℕ} (Some i) None = sym q ∙ e in let w : ◌≡◌ {A = ℕ} 0 1 = cc in absurd (omega arith)
 
 -- a look-up of c that has taken k steps from c's own slot s
 module _ (m : ℕ) (I : List ℕ) (cs : List Cell) (c : Cell) (s : ℕ) (own : s ≡ slot_of m (length I) c) (some : 0 < length I) where
@@ -37,9 +40,9 @@ module _ (m : ℕ) (I : List ℕ) (cs : List Cell) (c : Cell) (s : ℕ) (own : s
         let g = found_at cs c i q in
         none-hits I (hits cs c) s start-within p more lists (is ∙ e) i g.0 (ap (slot_of m (length I)) g.1 ∙ sym own) (ap (λ (y : Cell). same_cell y c) g.1 ∙ cell_same c)
 
-    pub looked-none : x ≡ 0 → Looked m I cs c (record { entry = x; slot = a; compared = k })
+    pub looked-none : x ≡ 0 → Looked m I cs c (record { found = None; slot = a; compared = k })
     looked-none e = record {
-      found = found_none x e ∙ go (find_cell cs c) refl;
+      found = go (find_cell cs c) refl;
       compared = empty-count I (hits cs c) s start-within p more (is ∙ e) ∙ ap (λ (y : ℕ). comparisons (hits cs c) (round_from I y)) own;
       free = λ _. rw (there, ← own) (empty-free I (hits cs c) s start-within p more (is ∙ e));
     }
@@ -51,11 +54,11 @@ module _ (m : ℕ) (I : List ℕ) (cs : List Cell) (c : Cell) (s : ℕ) (own : s
     pub looked-more : (x ≡ 0 → ⊥) → hits cs c (x - 1) ≡ false → Passed I (hits cs c) s (k + 1)
     looked-more d e = passed-more I (hits cs c) s start-within p more (λ z. d (sym is ∙ z)) (ap (λ (y : ℕ). hits cs c (y - 1)) is ∙ e)
 
-    pub looked-hit : Once cs → (x ≡ 0 → ⊥) → hits cs c (x - 1) ≡ true → Looked m I cs c (record { entry = x; slot = a; compared = k + 1 })
+    pub looked-hit : Once cs → (x ≡ 0 → ⊥) → hits cs c (x - 1) ≡ true → Looked m I cs c (record { found = Some (x - 1); slot = a; compared = k + 1 })
     looked-hit once d e = record {
-      found = let l : x - 1 < length cs = omega (arith, entry-low, pos) in found_some x d ∙ sym (once-found cs c (x - 1) once l e);
+      found = let l : x - 1 < length cs = omega (arith, entry-low, pos) in sym (once-found cs c (x - 1) once l e);
       compared = hit-count I (hits cs c) s start-within p more (λ z. d (sym is ∙ z)) (ap (λ (y : ℕ). hits cs c (y - 1)) is ∙ e) ∙ ap (λ (y : ℕ). comparisons (hits cs c) (round_from I y)) own;
-      free = λ z. absurd (d z);
+      free = λ z. absurd (no-none refl z);
     }
       where
         pos : 0 < x
@@ -80,16 +83,10 @@ built-lists (one_more {x} {cs} {I} {t} {a} c b q) = lists-more x I cs c a (built
 pub free-within : {I : List ℕ} {s a : ℕ} → Free I s a → a < length I
 free-within {I} {s} {a} q = rw q.there (mod-lt (s + q.steps) (omega (arith, q.few)))
 
--- a look-up that found nothing, and one that did
-pub entry-none : {n : ℕ} {f : prelude.Option ℕ} → n ≡ 0 → found_by n ≡ f → f ≡ None
-entry-none e q = sym q ∙ found_none _ e
-
-pub entry-some : {n : ℕ} {f : prelude.Option ℕ} → (n ≡ 0 → ⊥) → found_by n ≡ f → f ≡ Some (n - 1)
-entry-some {n} d q = sym q ∙ found_some n d
-
-nothing-entry : (n : ℕ) → found_by n ≡ None → n ≡ 0
-nothing-entry zero e = refl
-nothing-entry (suc n) e = let w : ◌≡◌ {A = ℕ} 0 1 = cc in absurd (omega arith)
+-- the number that a look-up found
+pub number-found : (r : prelude.Option ℕ) → (r ≡ None → ⊥) → (j : ℕ) × (r ≡ Some j)
+number-found None d = absurd (d refl)
+number-found (Some j) d = (j, refl)
 
 -- adding a cell: it is there, or there is no room, or it is appended
 abbrev AddCases : Cell → Table → Result → Type 0
@@ -144,7 +141,7 @@ module _ {K E P I : List ℕ} {f : Fill} (r : Ready K E P I f) (c : Cell) (p : P
 
     free : Free I (slot_of f.multiplier (length I) c) p.slot
     unfolding cs
-    free = look.free (nothing-entry p.entry (look.found ∙ new.0))
+    free = look.free (look.found ∙ new.0)
 
     pub slot-free : p.slot < length I
     slot-free = free-within free

@@ -1,8 +1,7 @@
 -- An index of cells: slots that list the cells of a table by their numbers, each met from the slot that its mix gives.
-use Rattle.std.specs.Prelude.{Some}
-use Rattle.std.specs.Prelude.{◌≡◌, ℕ, ◌+◌, ◌<◌, ◌≤◌, Bool, List, [], ◌∷◌, ◌++◌, length, replicate, ◌≢◌, slice_index_or, slice_set}
+use Rattle.std.specs.Prelude.{◌≡◌, Some, None, ℕ, ◌+◌, ◌<◌, ◌≤◌, Bool, List, [], ◌∷◌, ◌++◌, length, replicate, ◌≢◌, slice_index_or, slice_set}
 use Rattle.model.specs.Cell.{Cell, no_cell, same_cell, tabulate, cells_of}
-use Rattle.cells.specs.Table.{Formed, find_cell, found_by, Once, Ran, Result}
+use Rattle.cells.specs.Table.{Formed, find_cell, Once, Ran, Result}
 use Rattle.cells.specs.declared.Fill.{Fill as TableFill}
 use Rattle.cells.specs.declared.Added.{Added as TableAdded}
 use Rattle.index.specs.Mixing.{slot_of}
@@ -30,16 +29,16 @@ look_count x I cs c = comparisons (hits cs c) (round_from I (slot_of x (length I
 
 -- The contract of a look-up: it finds what comparing with every cell would, else the slot at which the cell is to be listed.
 pub record Looked (x : ℕ) (I : List ℕ) (cs : List Cell) (c : Cell) (p : Probe) : Type 0 where
-  pub found : found_by p.entry ≡ find_cell cs c
+  pub found : p.found ≡ find_cell cs c
   pub compared : p.compared ≡ look_count x I cs c
-  pub free : p.entry ≡ 0 → Free I (slot_of x (length I) c) p.slot
+  pub free : p.found ≡ None → Free I (slot_of x (length I) c) p.slot
 
 -- How much of the table is in use.
 abbrev pub table_fill : Fill → TableFill
 table_fill f = record { cells = f.cells; words = f.words }
 
 abbrev pub table_added : Added → TableAdded
-table_added a = record { number = a.number; full = a.full; fill = table_fill a.fill }
+table_added a = record { number = a.number; fill = table_fill a.fill }
 
 -- A table with its index, which has more slots than there can be cells.
 pub record Ready (K E P I : List ℕ) (f : Fill) : Type 0 where
@@ -62,8 +61,8 @@ pub data Built : ℕ → List Cell → List ℕ → ℕ → Type 0 where
 -- The contract of listing cell i behind those before it, unless one of them is equal: the look-up, and the index after. The cells are f 0, f 1, ..
 pub record Enlisted (x : ℕ) (f : ℕ → Cell) (i : ℕ) (I I' : List ℕ) (p : Probe) : Type 0 where
   pub looked : Looked x I (tabulate i f) (f i) p
-  pub same : (p.entry ≢ 0) → I' ≡ I
-  pub more : p.entry ≡ 0 → I' ≡ slice_set I p.slot (i + 1)
+  pub same : (p.found ≢ None) → I' ≡ I
+  pub more : p.found ≡ None → I' ≡ slice_set I p.slot (i + 1)
 
 -- The contract of listing the first m cells up to one that equals an earlier one.
 pub record Filled (x : ℕ) (f : ℕ → Cell) (m : ℕ) (I' : List ℕ) (r : Tally) : Type 0 where

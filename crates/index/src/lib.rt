@@ -18,18 +18,17 @@ pub struct Fill {
     pub multiplier: u32,
 }
 
-// The number of a cell and the fill after. Where the table was full the number is 0 and the fill is as before.
+// The number of a cell, or none where the table was full, and the fill after.
 #[derive(Clone, Copy)]
 pub struct Added {
-    pub number: u32,
-    pub full: bool,
+    pub number: Option<u32>,
     pub fill: Fill,
 }
 
-// What a look-up finds: the number of an equal cell plus one, else 0 and the slot at which the cell is to be listed; and how many cells it compared.
+// What a look-up finds: the number of an equal cell; where there is none, the slot at which the cell is to be listed; and how many cells it compared.
 #[derive(Clone, Copy)]
 pub struct Probe {
-    pub entry: u32,
+    pub found: Option<u32>,
     pub slot: usize,
     pub compared: usize,
 }
@@ -175,14 +174,14 @@ pub fn find(
         let entry = index[slot];
         if entry == 0 {
             return Probe {
-                entry,
+                found: None,
                 slot,
                 compared,
             };
         }
         if same(kinds, ends, pool, fill, wide(entry) - 1, kind, ws) {
             return Probe {
-                entry,
+                found: Some(entry - 1),
                 slot,
                 compared: compared + 1,
             };
@@ -190,7 +189,7 @@ pub fn find(
         compared += 1;
     }
     Probe {
-        entry: 0,
+        found: None,
         slot: 0,
         compared,
     }
@@ -207,11 +206,10 @@ pub fn insert(index: &mut [u32], slot: usize, number: usize)
 
 // What adding a cell to the table gave, with the multiplier.
 fn with_multiplier(a: cells::Added, multiplier: u32) -> Added
-    ensures { result ≡ record { number = a.number; full = a.full; fill = record { cells = a.fill.cells; words = a.fill.words; multiplier = multiplier } } }
+    ensures { result ≡ record { number = a.number; fill = record { cells = a.fill.cells; words = a.fill.words; multiplier = multiplier } } }
 {
     Added {
         number: a.number,
-        full: a.full,
         fill: Fill {
             cells: a.fill.cells,
             words: a.fill.words,
@@ -240,7 +238,7 @@ pub fn add(
         words: fill.words,
     };
     let p = find(index, x, kinds, ends, pool, have, n, kind, ws);
-    let a = cells::add(kinds, ends, pool, have, p.entry, kind, ws);
+    let a = cells::add(kinds, ends, pool, have, p.found, kind, ws);
     if a.fill.cells == n {
         return with_multiplier(a, x);
     }
@@ -267,7 +265,7 @@ fn enlist(
 {
     let ws = words(kinds, ends, pool, fill, i);
     let p = find(index, x, kinds, ends, pool, fill, i, kinds[i], ws);
-    if p.entry != 0 {
+    if let Some(_) = p.found {
         return p;
     }
     insert(index, p.slot, i);
@@ -295,7 +293,7 @@ pub fn fill_once(
     while listed < m {
         let p = enlist(index, x, kinds, ends, pool, fill, listed);
         compared += p.compared;
-        if p.entry != 0 {
+        if let Some(_) = p.found {
             return Tally { listed, compared };
         }
         listed += 1;

@@ -23,8 +23,7 @@ use Rattle.cells.specs.Table.{find_from}
 use Rattle.cells.proofs.Laws.{get_d_tabulate, cells-length}
 use Rattle.index.specs.Listing.{Lists}
 use Rattle.load.specs.declared.sizes.Sizes.{Sizes as SizesHeld}
-use Rattle.load.specs.declared.Loaded.{Loaded}
-use Rattle.load.specs.Held.{sizes_in, Distinct, Fills, tables_for, refusal_of, writer_tests, room_lacks}
+use Rattle.load.specs.Held.{sizes_in, Distinct, Fills, tables_for, writer_tests, room_lacks}
 use Rattle.load.proofs.Loading.{take-tabulate, terms-are, or_no}
 
 -- the terms that are known to differ: none, or those that are listed
@@ -34,10 +33,6 @@ none-distinct K E P z = record { few = omega arith; once = record { one = λ i j
 pub fills-distinct : {x : ℕ} {K E P I : List ℕ} {z : SizesHeld} {n : ℕ} → Fills x K E P z I n → Distinct K E P z n
 unfolding cells_of
 fills-distinct F = record { few = F.filled.low; once = F.filled.once }
-
--- an answer that refuses does not admit
-pub not-admitted : {A : Type 0} (r : Loaded) (x : Refusal) → refusal_of r ≡ some x → r ≡ Loaded.Admitted → A
-not-admitted r x e q = absurd (none-ne-some x (sym (ap refusal_of q) ∙ e))
 
 -- with two slots for each cell and at least one, there are more slots than cells, and than terms where these have room
 pub slots-over : (l : Lent) → wrong_slots l ≡ false → l.kinds < l.index

@@ -1,4 +1,5 @@
 -- A job's sizes and arrays as the code holds them.
+use Rattle.std.specs.Prelude.{Result, Ok, Err, ⊤}
 use Rattle.std.specs.Prelude as prelude
 use Rattle.std.specs.Prelude.{Some, None}
 use Rattle.std.specs.Prelude.{◌≡◌, Bool, true, false, not, ◌||◌, List, [], ◌∷◌, map, ℕ, zero, suc, ◌+◌, ◌*◌, ◌≤◌, ◌<◌, ◌^◌, eqb, ltb, length, get_or, take, drop}
@@ -9,7 +10,7 @@ use Rattle.model.specs.Check.{Refusal}
 use Rattle.model.specs.Layout.{Sizes, cell_count, Tables, tables_in}
 use Rattle.model.specs.Load.{Lent, any, ends_rise, no_room, wrong_slots, refused_if, first_refusal, first_failing, same_row, same_head, passed, fit_tests, refer_tests, valid_tests, once_tests}
 use Rattle.load.specs.declared.sizes.Sizes.{Sizes as SizesHeld}
-use Rattle.load.specs.declared.Loaded.{Loaded}
+use Rattle.load.specs.declared.Rejection.{Rejection}
 use Rattle.cells.specs.Table.{Formed, Once}
 use Rattle.cells.specs.declared.Fill.{Fill}
 use Rattle.index.specs.Listing.{Filled}
@@ -142,10 +143,13 @@ pub record Sound (K E P : List ℕ) (z : SizesHeld) (n : ℕ) : Type 0 where
   pub refer : Passing K E P z 1 0 n
 
 -- The refusal that an answer stands for.
-abbrev pub refusal_of : Loaded → Option Refusal
-refusal_of Loaded.Admitted = none
-refusal_of (Loaded.Host n) = some (record { number = n; fields = [] })
-refusal_of (Loaded.Writer n cell) = some (record { number = n; fields = cell ∷ [] })
+abbrev pub rejection_of : Rejection → Refusal
+rejection_of (Rejection.Host n) = record { number = n; fields = [] }
+rejection_of (Rejection.Writer n cell) = record { number = n; fields = cell ∷ [] }
+
+abbrev pub refusal_of : Result ⊤ Rejection → Option Refusal
+refusal_of (Ok u) = none
+refusal_of (Err e) = some (rejection_of e)
 
 -- The tests for 6 to 9, in their order.
 abbrev pub writer_tests : Sizes → Tables → List (Unit {0} → Option Refusal)

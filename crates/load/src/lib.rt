@@ -5,12 +5,11 @@ pub mod bytes;
 pub mod sizes;
 pub mod tables;
 
-ghost use Rattle.std.specs.Prelude.{◌≡◌, true, false, ℕ, ◌+◌, ◌≤◌, ◌<◌, length};
+ghost use Rattle.std.specs.Prelude.{◌≡◌, OnOk, true, false, ℕ, ◌+◌, ◌≤◌, ◌<◌, length};
 ghost use Rattle.model.specs.Cell.{cells_of};
 ghost use Rattle.model.specs.Layout.{sizes_of, kinds_of, ends_of, pool_of};
 ghost use Rattle.model.specs.Load.{ends_rise, is_power, wrong_slots, first_refusal, load_refusal};
 ghost use Rattle.index.specs.Listing.{Lists};
-ghost use Rattle.load.specs.declared.Loaded.{Loaded};
 ghost use Rattle.load.specs.Held.{sizes_in, Limits, Held, Distinct, Fills, tables_for, refusal_of, writer_tests, room_lacks, Cut, cell_refusal};
 
 use crate::sizes::{Sizes, cell_count, read_sizes, too_large, wrong_length};
@@ -18,10 +17,9 @@ use crate::tables::{fill, first_marked, passing_terms};
 use cells::{start, wide};
 use index::fill_once;
 
-// What loading answers: the job is admitted, the host is at fault, or the job's writer, with the least cell.
+// Why a job is not admitted: the host is at fault, or the job's writer, with the least cell.
 #[derive(Clone, Copy)]
-pub enum Loaded {
-    Admitted,
+pub enum Rejection {
     Host(u32),
     Writer(u32, usize),
 }
@@ -51,7 +49,7 @@ pub fn writer_refusal(
     z: Sizes,
     distinct: usize,
     multiplier: u32,
-) -> Loaded
+) -> Result<(), Rejection>
     requires held { Held kinds.now ends.now pool.now z }
     requires distinct { Distinct kinds.now ends.now pool.now z distinct }
     ensures { refusal_of result ≡ first_refusal (writer_tests (sizes_in z) (tables_for kinds.now ends.now pool.now z)) }
@@ -70,11 +68,11 @@ pub fn writer_refusal(
             wide(round),
         );
         if let Some(cell) = f {
-            return Loaded::Writer(6 + round, cell);
+            return Err(Rejection::Writer(6 + round, cell));
         }
         round += 1;
     }
-    Loaded::Admitted
+    Ok(())
 }
 
 // 10: too little room, too much, unequal arrays, or scratch short.
@@ -158,32 +156,25 @@ pub fn load_cells(
     index: &mut [u32],
     multiplier: u32,
     scratch: usize,
-) -> Loaded
+) -> Result<(), Rejection>
     requires { Cut kinds.now ends.now pool.now z }
     ensures refusal { refusal_of result ≡ cell_refusal ends.now (sizes_in z) (tables_for kinds.now ends.now pool.now z) (record { kinds = lent_kinds; ends = lent_ends; pool = lent_pool; index = length index.old; scratch = scratch }) }
-    ensures lists { result ≡ Loaded.Admitted → Lists multiplier index.new (cells_of kinds.now ends.now pool.now z.terms) }
+    ensures lists { OnOk result (Lists multiplier index.new (cells_of kinds.now ends.now pool.now z.terms)) }
 {
     if !ends_rise(ends, z.pool) {
-        return Loaded::Host(5);
+        return Err(Rejection::Host(5));
     }
     let slots = index.len();
     let distinct = known_terms(kinds, ends, pool, z, index, multiplier);
-    let w = writer_refusal(kinds, ends, pool, z, distinct, multiplier);
-    match w {
-        Loaded::Admitted => {
-            let words = start(ends, z.terms);
-            if no_room(z, words, lent_kinds, lent_ends, lent_pool, scratch) {
-                return Loaded::Host(10);
-            }
-            if wrong_slots(slots, lent_kinds) {
-                Loaded::Host(12)
-            } else {
-                Loaded::Admitted
-            }
-        }
-        Loaded::Host(_) => w,
-        Loaded::Writer(_, _) => w,
+    writer_refusal(kinds, ends, pool, z, distinct, multiplier)?;
+    let words = start(ends, z.terms);
+    if no_room(z, words, lent_kinds, lent_ends, lent_pool, scratch) {
+        return Err(Rejection::Host(10));
     }
+    if wrong_slots(slots, lent_kinds) {
+        return Err(Rejection::Host(12));
+    }
+    Ok(())
 }
 
 // The refusal below 20 of a job's words, for an asked proof in a mode and the lengths that are lent; after an admitted job the index lists its terms.
@@ -197,22 +188,22 @@ pub fn load(
     index: &mut [u32],
     multiplier: u32,
     scratch: usize,
-) -> Loaded
+) -> Result<(), Rejection>
     ensures refusal { refusal_of result ≡ load_refusal job.now asked mode (record { kinds = kinds; ends = ends; pool = pool; index = length index.old; scratch = scratch }) }
-    ensures lists { result ≡ Loaded.Admitted → Lists multiplier index.new (cells_of (kinds_of job.now) (ends_of job.now) (pool_of job.now) (sizes_of job.now).terms) }
+    ensures lists { OnOk result (Lists multiplier index.new (cells_of (kinds_of job.now) (ends_of job.now) (pool_of job.now) (sizes_of job.now).terms)) }
 {
     if wrong_length(job) {
-        return Loaded::Host(1);
+        return Err(Rejection::Host(1));
     }
     let z = read_sizes(job);
     if too_large(z) {
-        return Loaded::Host(2);
+        return Err(Rejection::Host(2));
     }
     if z.proofs <= wide(asked) {
-        return Loaded::Host(3);
+        return Err(Rejection::Host(3));
     }
     if 1 < mode {
-        return Loaded::Host(11);
+        return Err(Rejection::Host(11));
     }
     let n = cell_count(z);
     let a = 12 + n;

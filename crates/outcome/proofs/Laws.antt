@@ -1,6 +1,6 @@
 -- One check after another: the store's growth, and the outcome.
 use mathlib.Core.Path.{◌≡◌, refl, sym, ap, subst, ◌∙◌}
-use mathlib.Core.Bool.{Bool, true, false}
+use Rattle.std.specs.Prelude.{Option, Some, None}
 use mathlib.Core.List.{List, [], ◌∷◌}
 use Prim.Native.Nat.{ℕ, zero, suc}
 use native.Mathlib.Omega.{arith}
@@ -8,7 +8,7 @@ use Rattle.model.specs.Term.{Term}
 use Rattle.model.specs.Check.{Outcome, ok, refused, Check, and_then, pure, Room}
 use Rattle.index.specs.declared.Fill.{Fill}
 use Rattle.index.specs.declared.Added.{Added}
-use Rattle.termdag.specs.Store.{terms_in, Indexed, room_of, Adds}
+use Rattle.termdag.specs.Store.{terms_in, Indexed, room_of, outcome_by as added_by, Adds}
 use Rattle.termdag.proofs.Loading.{drop-later}
 use Rattle.outcome.specs.declared.Refusal.{Refusal}
 use Rattle.outcome.specs.declared.Checked.{Checked}
@@ -72,7 +72,7 @@ module _ {A B : Type 0} {K E P I : List ℕ} {f : Fill} {K₁ E₁ P₁ I₁ : L
 -- adding a term
 module _ {K E P I : List ℕ} {f : Fill} {K₁ E₁ P₁ I₁ : List ℕ} {o : Outcome ℕ} where
   pub added-does : (a : Added) (c : Checked) → Adds K E P I f K₁ E₁ P₁ I₁ a o → c ≡ checked_of a → Does K E P I f K₁ E₁ P₁ I₁ c.fill c.refusal c.value o
-  added-does a c d e = subst (λ (x : Checked). Does K E P I f K₁ E₁ P₁ I₁ x.fill x.refusal x.value o) (sym e) (go a.full d.outcome)
+  added-does a c d e = subst (λ (x : Checked). Does K E P I f K₁ E₁ P₁ I₁ x.fill x.refusal x.value o) (sym e) (go a.number d.outcome)
     where
       s : List Term
       s = terms_in K₁ E₁ P₁ a.fill
@@ -91,10 +91,10 @@ module _ {K E P I : List ℕ} {f : Fill} {K₁ E₁ P₁ I₁ : List ℕ} {o : O
         pool = d.pool;
       }
 
-      go : (b : Bool) → elim b [ true ↦ refused (record { number = 53; fields = a.fill.words ∷ [] }) s | false ↦ ok a.number s ] ≡ o
-          → Does K E P I f K₁ E₁ P₁ I₁ (checked_by b a).fill (checked_by b a).refusal (checked_by b a).value o
-      go true q = record { outcome = q; grown = g }
-      go false q = record { outcome = q; grown = g }
+      go : (n : Option ℕ) → added_by n a s ≡ o
+          → Does K E P I f K₁ E₁ P₁ I₁ (checked_by n a).fill (checked_by n a).refusal (checked_by n a).value o
+      go None q = record { outcome = q; grown = g }
+      go (Some n) q = record { outcome = q; grown = g }
 
 -- a check that leaves the store as it is
 pub does-here : {A : Type 0} {K E P I : List ℕ} {f : Fill} {r : Refusal} {a : A} {o : Outcome A} → Indexed K E P I f → outcome_of r a (terms_in K E P f) ≡ o → Does K E P I f K E P I f r a o

@@ -1,5 +1,5 @@
 -- The outcome of a check, as the code holds it, and the contract of every function that checks and may add terms.
-use Rattle.std.specs.Prelude.{◌≡◌, Bool, true, false, List, [], ◌∷◌, ℕ, zero, suc, ◌≤◌, length, take, drop}
+use Rattle.std.specs.Prelude.{◌≡◌, Option, Some, None, List, [], ◌∷◌, ℕ, zero, suc, ◌≤◌, length, take, drop}
 use Rattle.model.specs.Term.{Term}
 use Rattle.model.specs.Check as model
 use Rattle.termdag.specs.Store.{terms_in, Indexed}
@@ -16,12 +16,12 @@ abbrev pub refusal : ℕ → ℕ → List ℕ → Refusal
 refusal n k fs = record { number = n; count = k; fields = fs }
 
 -- What adding a term gives: 53, with the pool words in use, where the store is full.
-abbrev pub checked_by : Bool → Added → Checked
-checked_by true a = record { refusal = refusal 53 1 (a.fill.words ∷ 0 ∷ 0 ∷ 0 ∷ 0 ∷ 0 ∷ []); value = 0; fill = a.fill }
-checked_by false a = record { refusal = passed; value = a.number; fill = a.fill }
+abbrev pub checked_by : Option ℕ → Added → Checked
+checked_by None a = record { refusal = refusal 53 1 (a.fill.words ∷ 0 ∷ 0 ∷ 0 ∷ 0 ∷ 0 ∷ []); value = 0; fill = a.fill }
+checked_by (Some n) a = record { refusal = passed; value = n; fill = a.fill }
 
 abbrev pub checked_of : Added → Checked
-checked_of a = checked_by a.full a
+checked_of a = checked_by a.number a
 
 -- The definitions' refusal.
 abbrev pub refusal_of : Refusal → model.Refusal

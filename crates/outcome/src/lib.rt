@@ -77,10 +77,9 @@ fn added(a: Added) -> Checked
     requires { a.fill.words < 2 ^ 32 }
     ensures { result ≡ checked_of a }
 {
-    if a.full {
-        refuse1(53, a.fill.words as u32, a.fill)
-    } else {
-        pass(a.number, a.fill)
+    match a.number {
+        Some(number) => pass(number, a.fill),
+        None => refuse1(53, a.fill.words as u32, a.fill),
     }
 }
 

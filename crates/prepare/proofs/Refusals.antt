@@ -13,7 +13,8 @@ use Rattle.model.specs.Layout.{cell_count, sizes_of, kinds_of, ends_of, pool_of,
 use Rattle.model.specs.Check.{Refusal}
 use Rattle.model.specs.Load.{Lent, wrong_length, too_large, unknown_mode, ends_rise, no_room, wrong_slots, refused_if, first_marked, first_refusal, fails_from, marks, first_failing, fit_tests, refer_tests, valid_tests, once_tests, load_tests, load_refusal}
 use Rattle.model.specs.Answer.{lent_by}
-use Rattle.load.specs.declared.Loaded.{Loaded}
+use Rattle.std.specs.Prelude.{Result, Ok, Err, ⊤}
+use Rattle.load.specs.declared.Rejection.{Rejection}
 use Rattle.load.specs.Held.{Limits, refusal_of}
 use Rattle.load.proofs.Loading.{limits_of, refuses-1, refuses-2}
 use Rattle.load.proofs.TableLaws.{fails-length, table-length}
@@ -176,23 +177,23 @@ module _ (ws : List ℕ) (asked mode : ℕ) (K E P I : List ℕ) (scratch : ℕ)
         enough = λ h. absurd (n h);
       }
 
-  module _ {o : Loaded} (e : refusal_of o ≡ load_refusal ws asked mode lent) where
-    pub refuses-host : {I' : List ℕ} (n : ℕ) (p : Prepared) → o ≡ Loaded.Host n → p.refusal ≡ outcome.refusal n 0 (0 ∷ 0 ∷ 0 ∷ 0 ∷ 0 ∷ 0 ∷ []) → Prepares ws asked mode K E P I scratch K E P I' p
+  module _ {o : Result ⊤ Rejection} (e : refusal_of o ≡ load_refusal ws asked mode lent) where
+    pub refuses-host : {I' : List ℕ} (n : ℕ) (p : Prepared) → o ≡ Err (Rejection.Host n) → p.refusal ≡ outcome.refusal n 0 (0 ∷ 0 ∷ 0 ∷ 0 ∷ 0 ∷ 0 ∷ []) → Prepares ws asked mode K E P I scratch K E P I' p
     refuses-host n p h q = refuses _ p q (ap refusal_of (sym h) ∙ e)
 
-    pub refuses-writer : {I' : List ℕ} (n cell : ℕ) (p : Prepared) → o ≡ Loaded.Writer n cell → p.refusal ≡ outcome.refusal n 1 (cell ∷ 0 ∷ 0 ∷ 0 ∷ 0 ∷ 0 ∷ []) → Prepares ws asked mode K E P I scratch K E P I' p
+    pub refuses-writer : {I' : List ℕ} (n cell : ℕ) (p : Prepared) → o ≡ Err (Rejection.Writer n cell) → p.refusal ≡ outcome.refusal n 1 (cell ∷ 0 ∷ 0 ∷ 0 ∷ 0 ∷ 0 ∷ []) → Prepares ws asked mode K E P I scratch K E P I' p
     refuses-writer n cell p h q = refuses _ p q (ap refusal_of (sym h) ∙ e)
 
-    pub cell-word : (n cell : ℕ) → o ≡ Loaded.Writer n cell → cell < 2 ^ 32
+    pub cell-word : (n cell : ℕ) → o ≡ Err (Rejection.Writer n cell) → cell < 2 ^ 32
     cell-word n cell h = (load_word ws asked mode lent (record { number = n; fields = cell ∷ [] }) (sym e ∙ ap refusal_of h)).field cell refl
 
-    loads-none : o ≡ Loaded.Admitted → load_refusal ws asked mode lent ≡ none
+    loads-none : o ≡ Ok tt → load_refusal ws asked mode lent ≡ none
     loads-none h = sym e ∙ ap refusal_of h
 
-    pub loads : o ≡ Loaded.Admitted → Loads ws K E P
+    pub loads : o ≡ Ok tt → Loads ws K E P
     loads h = record { asked = asked; mode = mode; slots = length I; scratch = scratch; passes = loads-none h }
 
-    pub admits : {K' E' P' I' : List ℕ} {x : ℕ} (p : Prepared) → o ≡ Loaded.Admitted → p.refusal ≡ outcome.passed → TermsLoaded (kinds_of ws) (ends_of ws) (pool_of ws) (sizes_of ws).terms x K E P K' E' P' p.fill
+    pub admits : {K' E' P' I' : List ℕ} {x : ℕ} (p : Prepared) → o ≡ Ok tt → p.refusal ≡ outcome.passed → TermsLoaded (kinds_of ws) (ends_of ws) (pool_of ws) (sizes_of ws).terms x K E P K' E' P' p.fill
         → length I' ≡ length I → Lists x I' (cells_of (kinds_of ws) (ends_of ws) (pool_of ws) (sizes_of ws).terms) → Prepares ws asked mode K E P I scratch K' E' P' I' p
     unfolding loads
     admits p h q D m t =

@@ -8,7 +8,7 @@ ghost use Rattle.outcome.specs.Does.{passed, refusal};
 ghost use Rattle.prepare.specs.Prepares.{Loads, Prepares};
 
 use index::{Fill, multiplier};
-use load::{Loaded, load};
+use load::{Rejection, load};
 use outcome::Refusal;
 use program::job::load_terms;
 
@@ -79,9 +79,11 @@ pub fn prepare(
         x,
         scratch,
     );
-    match loaded {
-        Loaded::Admitted => start(job, x, kinds, ends, pool),
-        Loaded::Host(number) => refused(number, 0, 0),
-        Loaded::Writer(number, cell) => refused(number, 1, cell as u32),
+    let Err(rejection) = loaded else {
+        return start(job, x, kinds, ends, pool);
+    };
+    match rejection {
+        Rejection::Host(number) => refused(number, 0, 0),
+        Rejection::Writer(number, cell) => refused(number, 1, cell as u32),
     }
 }

@@ -19,7 +19,7 @@ use Rattle.model.specs.Check.{Outcome, ok, refused, refuse, add_node}
 use Rattle.model.specs.Evaluate.{children}
 use Rattle.model.proofs.Represent.{Distinct}
 use Rattle.model.specs.Decode.{read_arguments}
-use Rattle.cells.specs.Table.{find_from, find_cell, found_by, Once, put, total, Table, table_of, Result, append_if, append_cell, add_found, add_cell}
+use Rattle.cells.specs.Table.{find_from, find_cell, Once, put, total, Table, table_of, Result, append_if, append_cell, add_found, add_cell}
 use Rattle.index.specs.declared.Fill.{Fill}
 use Rattle.index.specs.declared.Added.{Added}
 use Rattle.index.specs.Listing.{table_fill, Kept, Ready}
@@ -28,7 +28,7 @@ use Rattle.cells.proofs.Appending.{held-total, add_once}
 use Rattle.decode.specs.View.{cell, term_of}
 use Rattle.decode.specs.declared.Term as decoded
 use Rattle.decode.proofs.Laws.{arguments-none, arguments-some}
-use Rattle.termdag.specs.Store.{terms_in, Stored, Indexed, room_of, Adds, Known}
+use Rattle.termdag.specs.Store.{terms_in, Stored, Indexed, room_of, outcome_by, Adds, Known}
 
 -- one term
 read_cell : (t : Term) → read_term (cell_of t) ≡ t
@@ -74,12 +74,12 @@ find-cell (u ∷ s) t k =
     go false h = rw (add-one k) h
 
 -- what adding a cell gives, as the outcome of a check
-abbrev answer : Bool → ℕ → ℕ → List Term → Outcome ℕ
-answer b n w s = elim b [ true ↦ refused (record { number = 53; fields = w ∷ [] }) s | false ↦ ok n s ]
+abbrev answer : prelude.Option ℕ → ℕ → List Term → Outcome ℕ
+answer None w s = refused (record { number = 53; fields = w ∷ [] }) s
+answer (Some n) w s = ok n s
 
 record Same (x : Result) (o : Outcome ℕ) : Type 0 where
-  outcome : answer x.full x.number (total x.cells) (map read_term x.cells) ≡ o
-  full : x.full ≡ true → x.number ≡ 0
+  outcome : answer x.number (total x.cells) (map read_term x.cells) ≡ o
   terms : map cell_of (map read_term x.cells) ≡ x.cells
 
 -- a list of terms with room for C cells and W words
@@ -97,10 +97,9 @@ module _ (C W : ℕ) (t : Term) (s : List Term) where
   by-room true =
       let e : map cell_of s ++ (cell_of t ∷ []) ≡ map cell_of (s ++ (t ∷ [])) = sym (map-append cell_of s (t ∷ [])) in
       let r : map read_term (map cell_of s ++ (cell_of t ∷ [])) ≡ s ++ (t ∷ []) = ap (map read_term) e ∙ read-cells (s ++ (t ∷ [])) in
-      record { outcome = λ i. ok (length-map s cell_of i) (r i); full = λ e. cc; terms = ap (map cell_of) r ∙ sym e }
+      record { outcome = λ i. ok (length-map s cell_of i) (r i); terms = ap (map cell_of) r ∙ sym e }
   by-room false = record {
     outcome = λ i. refuse 53 (total-cells s i ∷ []) (read-cells s i);
-    full = λ e. refl;
     terms = ap (map cell_of) (read-cells s);
   }
 
@@ -110,7 +109,7 @@ module _ (C W : ℕ) (t : Term) (s : List Term) where
       subst⁻¹ (λ (b : Bool). Same (append_if b (cell_of t) (table (map cell_of s))) (append_or fits))
       (λ i. ltb (length-map s cell_of i) C && leb (total-cells s i + width t) W)
       (by-room fits)
-  by-find (some i) = record { outcome = ap (ok i) (read-cells s); full = λ e. cc; terms = ap (map cell_of) (read-cells s) }
+  by-find (some i) = record { outcome = ap (ok i) (read-cells s); terms = ap (map cell_of) (read-cells s) }
 
   add_term : Same (add_cell (cell_of t) (table (map cell_of s))) (add_node (record { cells = C; words = W }) t s)
   unfolding add_cell add_node
@@ -122,6 +121,10 @@ module _ (C W : ℕ) (t : Term) (s : List Term) where
 pub ready_of : {K E P I : List ℕ} {f : Fill} → Indexed K E P I f → Ready K E P I f
 ready_of X = record { formed = X.stored.formed; once = X.stored.once; lists = X.lists; room = X.room }
 
+by-number : (n : prelude.Option ℕ) (a : Added) (s : List Term) → outcome_by n a s ≡ answer n a.fill.words s
+by-number None a s = refl
+by-number (Some n) a s = refl
+
 module _ {K E P I : List ℕ} {f : Fill} {K' E' P' I' : List ℕ} {a : Added} where
   adds_same : {x : Result} {o : Outcome ℕ} → Same x o → Once x.cells → length K < length I → Kept K E P I f K' E' P' I' a x → Adds K E P I f K' E' P' I' a o
   unfolding terms_in
@@ -130,8 +133,7 @@ module _ {K E P I : List ℕ} {f : Fill} {K' E' P' I' : List ℕ} {a : Added} wh
       let ts = ap (map read_term) R.cells in
       let w = sym (held-total R.formed) ∙ ap total R.cells in
       record {
-        outcome = (λ i. answer (R.full i) (R.number i) (w i) (ts i)) ∙ q.outcome;
-        full = λ e. R.number ∙ q.full (sym R.full ∙ e);
+        outcome = by-number a.number a (terms_in K' E' P' a.fill) ∙ (λ i. answer (R.number i) (w i) (ts i)) ∙ q.outcome;
         indexed = record {
           stored = record { formed = R.formed; once = subst Once (sym R.cells) once; terms = ap (map cell_of) ts ∙ q.terms ∙ sym R.cells };
           lists = kept.lists;
@@ -164,12 +166,12 @@ unfolding found_of
 by-found none v e = let y : ◌≡◌ {A = ℕ} 0 1 = cc in absurd (omega arith)
 by-found (some i) v e = cc
 
-pub known-term : {K E P I : List ℕ} {f : Fill} → Indexed K E P I f → (t : Term) {w : ℕ} → found_by w ≡ find_cell (cells_of K E P f.cells) (cell_of t)
-    → Known w (add_node (room_of K P) t (terms_in K E P f)) (terms_in K E P f)
+pub known-term : {K E P I : List ℕ} {f : Fill} → Indexed K E P I f → (t : Term) {r : prelude.Option ℕ} → r ≡ find_cell (cells_of K E P f.cells) (cell_of t)
+    → Known r (add_node (room_of K P) t (terms_in K E P f)) (terms_in K E P f)
 unfolding add_node
-known-term {K} {E} {P} {I} {f} X t {w} e = record {
+known-term {K} {E} {P} {I} {f} X t {r} e = record {
   value = λ v q. ap (λ (o : Option ℕ). elim o [ some i ↦ ok i s | none ↦ new ]) (by-found (find_term s t 0) v
-      (sym (find-cell s t 0) ∙ ap (λ (cs : List Cell). find_from 0 cs (cell_of t)) X.stored.terms ∙ sym e ∙ ap found_by q));
+      (sym (find-cell s t 0) ∙ ap (λ (cs : List Cell). find_from 0 cs (cell_of t)) X.stored.terms ∙ sym e ∙ q));
 }
   where
     s : List Term
@@ -177,6 +179,17 @@ known-term {K} {E} {P} {I} {f} X t {w} e = record {
 
     new : Outcome ℕ
     new = elim (ltb (length s) (length K) && leb (widths s + width t) (length P)) [ true ↦ ok (length s) (s ++ (t ∷ [])) | false ↦ refuse 53 (widths s ∷ []) s ]
+
+not-found : (o : Option ℕ) → found_of o ≡ None → o ≡ none
+unfolding found_of
+not-found none e = refl
+not-found (some i) e = let y : ◌≡◌ {A = ℕ} 0 1 = cc in absurd (omega arith)
+
+-- a cell that is not found is no term of the store
+pub absent-term : {K E P I : List ℕ} {f : Fill} → Indexed K E P I f → (t : Term) {r : prelude.Option ℕ} → r ≡ find_cell (cells_of K E P f.cells) (cell_of t)
+    → r ≡ None → find_term (terms_in K E P f) t 0 ≡ none
+absent-term {K} {E} {P} {I} {f} X t e q = not-found (find_term (terms_in K E P f) t 0)
+    (sym (find-cell (terms_in K E P f) t 0) ∙ ap (λ (cs : List Cell). find_from 0 cs (cell_of t)) X.stored.terms ∙ sym e ∙ q)
 
 -- the words of an application are its name and the others
 pub app-words : (ws : List ℕ) → 0 < length ws → ◌≡◌ {A = Cell} (cell 2 ws) (cell_of (app (get_or ws 0 0) (drop 1 ws)))

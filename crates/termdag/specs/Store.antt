@@ -1,5 +1,5 @@
 -- A store of terms in three word arrays, and the contracts of the functions that fill it.
-use Rattle.std.specs.Prelude.{◌≡◌, true, false, List, [], ◌∷◌, map, ℕ, suc, ◌≤◌, ◌<◌, ◌^◌, length, drop}
+use Rattle.std.specs.Prelude.{◌≡◌, Option, Some, None, List, [], ◌∷◌, map, ℕ, ◌≤◌, ◌<◌, ◌^◌, length, drop}
 use Rattle.model.specs.Cell.{start_of, cells_of}
 use Rattle.model.specs.Term.{Term, cell_of, read_term}
 use Rattle.model.specs.Check.{Outcome, ok, refused, Room}
@@ -30,13 +30,16 @@ abbrev pub room_of : List ℕ → List ℕ → Room
 room_of K P = record { cells = length K; words = length P }
 
 -- What an addition answers, with the terms after: 53 where the store is full.
-abbrev pub outcome_of : Added → List Term → Outcome ℕ
-outcome_of a s = elim a.full [ true ↦ refused (record { number = 53; fields = a.fill.words ∷ [] }) s | false ↦ ok a.number s ]
+abbrev pub outcome_by : Option ℕ → Added → List Term → Outcome ℕ
+outcome_by None a s = refused (record { number = 53; fields = a.fill.words ∷ [] }) s
+outcome_by (Some n) a s = ok n s
 
--- The contract of every function that adds terms: the answer a is the outcome o (number 0 where full), and past the fill the arrays are as they were.
+abbrev pub outcome_of : Added → List Term → Outcome ℕ
+outcome_of a s = outcome_by a.number a s
+
+-- The contract of every function that adds terms: the answer a is the outcome o, and past the fill the arrays are as they were.
 pub record Adds (K E P I : List ℕ) (f : Fill) (K' E' P' I' : List ℕ) (a : Added) (o : Outcome ℕ) : Type 0 where
   pub outcome : outcome_of a (terms_in K' E' P' a.fill) ≡ o
-  pub full : a.full ≡ true → a.number ≡ 0
   pub indexed : Indexed K' E' P' I' a.fill
   pub len_k : length K' ≡ length K
   pub len_e : length E' ≡ length E
@@ -48,9 +51,9 @@ pub record Adds (K E P I : List ℕ) (f : Fill) (K' E' P' I' : List ℕ) (a : Ad
   pub ends : drop a.fill.cells E' ≡ drop a.fill.cells E
   pub pool : drop a.fill.words P' ≡ drop a.fill.words P
 
--- The answer w of a look-up, about a check with the outcome o in the store s: 0, or its value plus one, where it adds nothing.
-pub record Known (w : ℕ) (o : Outcome ℕ) (s : List Term) : Type 0 where
-  pub value : (v : ℕ) → w ≡ suc v → o ≡ ok v s
+-- The value r, if there is one, of a check with the outcome o in the store s: then the check leaves the store.
+pub record Known (r : Option ℕ) (o : Outcome ℕ) (s : List Term) : Type 0 where
+  pub value : (v : ℕ) → r ≡ Some v → o ≡ ok v s
 
 -- The first n cells of a table are terms' cells, no two equal, and the lent arrays K, E, P have room for them.
 pub record Loadable (JK JE JP : List ℕ) (f : TableFill) (n : ℕ) (K E P : List ℕ) : Type 0 where

@@ -1,13 +1,13 @@
 // The term table of termdag.rs over three lent arrays: reading a term, adding a literal or an application, and loading the job's terms.
 #![tactic(auto)]
 
-ghost use Rattle.std.specs.Prelude.{◌≡◌, ◌≤◌, ◌<◌, length, get_or, drop};
-ghost use Rattle.std.proofs.Math.Option.{some};
+ghost use Rattle.std.specs.Prelude.{◌≡◌, None, ◌≤◌, ◌<◌, length, get_or, drop};
+ghost use Rattle.std.proofs.Math.Option.{none, some};
 ghost use Rattle.model.specs.Cell.{cells_of};
-ghost use Rattle.model.specs.Term.{lit, app, get_term};
+ghost use Rattle.model.specs.Term.{lit, app, find_term, get_term};
 ghost use Rattle.model.specs.Check.{add_node};
 ghost use Rattle.model.specs.Evaluate.{children};
-ghost use Rattle.cells.specs.Table.{find_cell, found_by};
+ghost use Rattle.cells.specs.Table.{find_cell};
 ghost use Rattle.decode.specs.View.{literal_of, term_of};
 ghost use Rattle.termdag.specs.Store.{terms_in, Stored, Indexed, room_of, Adds, Known, Loadable, Loaded};
 
@@ -79,7 +79,7 @@ pub fn app(
     index::add(kinds, ends, pool, index, fill, 2, &ws[..e])
 }
 
-// The number of an equal term plus one, else 0; the store stays as it is.
+// The number of an equal term, if there is one; the store stays as it is.
 fn find(
     kinds: &[u32],
     ends: &[u32],
@@ -88,9 +88,9 @@ fn find(
     fill: Fill,
     kind: u32,
     ws: &[u32],
-) -> u32
+) -> Option<u32>
     requires { Indexed kinds.now ends.now pool.now index.now fill }
-    ensures { found_by result ≡ find_cell (cells_of kinds.now ends.now pool.now fill.cells) (record { kind = kind; words = ws.now }) }
+    ensures { result ≡ find_cell (cells_of kinds.now ends.now pool.now fill.cells) (record { kind = kind; words = ws.now }) }
 {
     let have = cells::Fill {
         cells: fill.cells,
@@ -107,10 +107,10 @@ fn find(
         kind,
         ws,
     );
-    p.entry
+    p.found
 }
 
-// The number of a literal plus one, if there is one equal, else 0.
+// The number of a literal, if there is one equal.
 pub fn find_lit(
     kinds: &[u32],
     ends: &[u32],
@@ -118,15 +118,16 @@ pub fn find_lit(
     index: &[u32],
     fill: Fill,
     l: Literal,
-) -> u32
+) -> Option<u32>
     requires { Indexed kinds.now ends.now pool.now index.now fill }
-    ensures { Known result (add_node (room_of kinds.now pool.now) (lit (literal_of l)) (terms_in kinds.now ends.now pool.now fill)) (terms_in kinds.now ends.now pool.now fill) }
+    ensures known { Known result (add_node (room_of kinds.now pool.now) (lit (literal_of l)) (terms_in kinds.now ends.now pool.now fill)) (terms_in kinds.now ends.now pool.now fill) }
+    ensures none { result ≡ None → find_term (terms_in kinds.now ends.now pool.now fill) (lit (literal_of l)) 0 ≡ none }
 {
     let ws = [l.kind, l.low, l.high];
     find(kinds, ends, pool, index, fill, 0, &ws)
 }
 
-// The number of an application plus one, if there is one equal, else 0; ws is the name and the arguments.
+// The number of an application, if there is one equal; ws is the name and the arguments.
 pub fn find_app(
     kinds: &[u32],
     ends: &[u32],
@@ -134,10 +135,11 @@ pub fn find_app(
     index: &[u32],
     fill: Fill,
     ws: &[u32],
-) -> u32
+) -> Option<u32>
     requires indexed { Indexed kinds.now ends.now pool.now index.now fill }
     requires ws_nonzero { 0 < length ws.now }
-    ensures { Known result (add_node (room_of kinds.now pool.now) (app (get_or ws.now 0 0) (drop 1 ws.now)) (terms_in kinds.now ends.now pool.now fill)) (terms_in kinds.now ends.now pool.now fill) }
+    ensures none { result ≡ None → find_term (terms_in kinds.now ends.now pool.now fill) (app (get_or ws.now 0 0) (drop 1 ws.now)) 0 ≡ none }
+    ensures known { Known result (add_node (room_of kinds.now pool.now) (app (get_or ws.now 0 0) (drop 1 ws.now)) (terms_in kinds.now ends.now pool.now fill)) (terms_in kinds.now ends.now pool.now fill) }
 {
     find(kinds, ends, pool, index, fill, 2, ws)
 }

@@ -1,7 +1,6 @@
 use native.Mathlib.Omega.{arith}
 use lib.ListN.{length-take}
 use Rattle.termdag.proofs.Laws.{put_first}
-use Rattle.evaluate.proofs.HeadValues.{finds-known}
 use Rattle.evaluate.proofs.find_call.Goals as goal
 
 pub slice_bounds-find_app-end : goal.slice_bounds-find_app-end
@@ -11,4 +10,4 @@ pub find_app-requires : goal.find_app-requires
 find_app-requires c = record { indexed = c.requires.indexed; ws_nonzero = rw (c.copy.ensures, put_first) (omega arith) }
 
 pub returns : goal.returns
-returns c = finds-known (rw (c.copy.ensures, put_first) at c.find_app.ensures) c.number_found.ensures
+returns c = rw (c.copy.ensures, put_first) at c.find_app.ensures.known

@@ -2,14 +2,14 @@ use mathlib.Core.Path.{refl}
 use mathlib.Core.Bool.{cond}
 use Rattle.termdag.specs.Store.{terms_in, room_of}
 use Rattle.program.specs.Ready.{program_for}
-use Rattle.evaluate.proofs.HeadValues.{finds-known, finds-none, head-finds}
+use Rattle.evaluate.proofs.HeadValues.{finds-none, head-finds}
 use Rattle.evaluate.proofs.find_value.Goals as goal
 
 pub find_validated-requires : goal.find_validated-requires
 find_validated-requires c = let pre = c.requires in record { ready = pre.ready; keyed = pre.keyed; indexed = pre.indexed; p_bound = pre.by_index _ c.in-Primitive.is }
 
 pub returns-in-Lit : goal.returns-in-Lit
-returns-in-Lit c = let a = c.args in let room = room_of a.skinds.now a.spool.now in let s = terms_in a.skinds.now a.sends.now a.spool.now a.fill in λ rule σ. head-finds a.fact room (program_for a.job.now) rule σ a.args.now s a.head _ c.in-Lit.is (finds-known c.find_lit.ensures c.number_found.ensures)
+returns-in-Lit c = let a = c.args in let room = room_of a.skinds.now a.spool.now in let s = terms_in a.skinds.now a.sends.now a.spool.now a.fill in λ rule σ. head-finds a.fact room (program_for a.job.now) rule σ a.args.now s a.head _ c.in-Lit.is c.find_lit.ensures.known
 
 pub returns-in-Var : goal.returns-in-Var
 returns-in-Var c = λ rule σ. finds-none refl

@@ -1,6 +1,7 @@
 use Rattle.model.specs.Cell.{cell_at, cells_of}
 use Rattle.std.proofs.Common.{length, refl, ◌∙◌, arith}
 use Rattle.index.proofs.Filling.{going-none, going-lists, few-compared, going_more, going-found, going_end}
+use Rattle.index.proofs.Indexing.{no-none}
 use Rattle.index.proofs.fill_once.Goals as goal
 
 pub loop-listed-init : goal.loop-listed-init
@@ -13,11 +14,11 @@ enlist-p-requires c = let p = c.requires in let g = c.loop-listed.invariant.0 in
 pub overflow_add-compared : goal.overflow_add-compared
 overflow_add-compared c = let p = c.requires in let g = c.loop-listed.invariant.0 in record { fits = omega (arith, g.small, few-compared g c.enlist-p.ensures.looked, p.formed.few, p.formed.kinds) }
 
-pub returns-then-p-ne0 : goal.returns-then-p-ne0
-returns-then-p-ne0 c = let g = c.loop-listed.invariant.0 in going-found g c.enlist-p.ensures c.if-p-ne0.true c.loop-listed-test.true
+pub returns-in-Some : goal.returns-in-Some
+returns-in-Some c = let g = c.loop-listed.invariant.0 in going-found g c.enlist-p.ensures (no-none c.in-Some.is) c.loop-listed-test.true
 
 pub loop-listed-preserved : goal.loop-listed-preserved
-loop-listed-preserved c = let p = c.requires in let g = c.loop-listed.invariant.0 in (going_more g c.enlist-p.ensures c.if-p-ne0.false c.loop-listed-test.true (omega (arith, p.formed.few, p.formed.kinds)), c.enlist-p.auto.index ∙ c.loop-listed.invariant.1)
+loop-listed-preserved c = let p = c.requires in let g = c.loop-listed.invariant.0 in (going_more g c.enlist-p.ensures c.in_default.is c.loop-listed-test.true (omega (arith, p.formed.few, p.formed.kinds)), c.enlist-p.auto.index ∙ c.loop-listed.invariant.1)
 
 pub returns : goal.returns
 returns c = going_end c.loop-listed.invariant.0 c.loop-listed-test.false

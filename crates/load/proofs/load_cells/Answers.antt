@@ -1,8 +1,9 @@
+use Rattle.std.proofs.lemmas.Result.{err_from_is_err_and}
 use Prim.Native.Nat.{ℕ}
 use lib.ListN.{length}
 use Rattle.load.proofs.Rounds.{room-cells}
 use Rattle.load.proofs.Loading.{held-of, refuses-5, refuses-writer, refuses-10, refuses-12, admits, room-is}
-use Rattle.load.proofs.Intake.{not-admitted, slots-many, lists-all}
+use Rattle.load.proofs.Intake.{slots-many, lists-all}
 use Rattle.load.specs.Held.{sizes_in, tables_for, refusal_of, room_lacks}
 use mathlib.Core.Path.{refl, sym, ap, ◌∙◌}
 use native.Mathlib.Omega.{arith}
@@ -13,13 +14,13 @@ pub returns-then-not-ends_rise : goal.returns-then-not-ends_rise
 returns-then-not-ends_rise c = let a = c.args in
     let l : Lent = record { kinds = a.lent_kinds; ends = a.lent_ends; pool = a.lent_pool; index = length a.index.now; scratch = a.scratch } in
     let t = tables_for a.kinds.now a.ends.now a.pool.now a.z in
-    record { refusal = refuses-5 a.ends.now (sizes_in a.z) t l (sym c.ends_rise.ensures ∙ c.if-not-ends_rise.true); lists = not-admitted _ _ refl }
+    record { refusal = refuses-5 a.ends.now (sizes_in a.z) t l (sym c.ends_rise.ensures ∙ c.if-not-ends_rise.true); lists = tt }
 
 pub known_terms-distinct-requires : goal.known_terms-distinct-requires
 known_terms-distinct-requires c = held-of c.requires (sym c.ends_rise.ensures ∙ c.if-not-ends_rise.false)
 
-pub writer_refusal-w-requires : goal.writer_refusal-w-requires
-writer_refusal-w-requires c = record { held = held-of c.requires (sym c.ends_rise.ensures ∙ c.if-not-ends_rise.false); distinct = c.known_terms-distinct.ensures.distinct }
+pub writer_refusal-requires : goal.writer_refusal-requires
+writer_refusal-requires c = record { held = held-of c.requires (sym c.ends_rise.ensures ∙ c.if-not-ends_rise.false); distinct = c.known_terms-distinct.ensures.distinct }
 
 pub start-words-requires : goal.start-words-requires
 start-words-requires c = let h = held-of c.requires (sym c.ends_rise.ensures ∙ c.if-not-ends_rise.false) in omega (arith, c.requires.ends)
@@ -32,9 +33,9 @@ returns-then-no_room c = let a = c.args in
     let l : Lent = record { kinds = a.lent_kinds; ends = a.lent_ends; pool = a.lent_pool; index = length a.index.now; scratch = a.scratch } in
     let t = tables_for a.kinds.now a.ends.now a.pool.now a.z in
     let e = sym c.ends_rise.ensures ∙ c.if-not-ends_rise.false in
-    let w = sym c.writer_refusal-w.ensures ∙ ap refusal_of c.in-Admitted.is in
+    let w = sym c.writer_refusal.ensures ∙ ap refusal_of c.in_ok-writer_refusal.was in
     let n = room-is (held-of c.requires e) l w ∙ ap (λ (k : ℕ). room_lacks (sizes_in a.z) k l) (sym c.start-words.ensures) ∙ sym (c.no_room.ensures l.index) ∙ c.if-no_room.true in
-    record { refusal = refuses-10 a.ends.now (sizes_in a.z) t l e w n; lists = not-admitted _ _ refl }
+    record { refusal = refuses-10 a.ends.now (sizes_in a.z) t l e w n; lists = tt }
 
 pub wrong_slots-requires : goal.wrong_slots-requires
 wrong_slots-requires c = let a = c.args in
@@ -46,31 +47,24 @@ returns-then-wrong_slots c = let a = c.args in
     let l : Lent = record { kinds = a.lent_kinds; ends = a.lent_ends; pool = a.lent_pool; index = length a.index.now; scratch = a.scratch } in
     let t = tables_for a.kinds.now a.ends.now a.pool.now a.z in
     let e = sym c.ends_rise.ensures ∙ c.if-not-ends_rise.false in
-    let w = sym c.writer_refusal-w.ensures ∙ ap refusal_of c.in-Admitted.is in
+    let w = sym c.writer_refusal.ensures ∙ ap refusal_of c.in_ok-writer_refusal.was in
     let n = room-is (held-of c.requires e) l w ∙ ap (λ (k : ℕ). room_lacks (sizes_in a.z) k l) (sym c.start-words.ensures) ∙ sym (c.no_room.ensures l.index) ∙ c.if-no_room.false in
-    record { refusal = refuses-12 a.ends.now (sizes_in a.z) t l e w n (sym (c.wrong_slots.ensures l.ends l.pool l.scratch) ∙ c.if-wrong_slots.true); lists = not-admitted _ _ refl }
+    record { refusal = refuses-12 a.ends.now (sizes_in a.z) t l e w n (sym (c.wrong_slots.ensures l.ends l.pool l.scratch) ∙ c.if-wrong_slots.true); lists = tt }
 
-pub returns-else-wrong_slots : goal.returns-else-wrong_slots
-returns-else-wrong_slots c = let a = c.args in
+pub returns : goal.returns
+returns c = let a = c.args in
     let l : Lent = record { kinds = a.lent_kinds; ends = a.lent_ends; pool = a.lent_pool; index = length a.index.now; scratch = a.scratch } in
     let t = tables_for a.kinds.now a.ends.now a.pool.now a.z in
     let e = sym c.ends_rise.ensures ∙ c.if-not-ends_rise.false in
-    let w = sym c.writer_refusal-w.ensures ∙ ap refusal_of c.in-Admitted.is in
+    let w = sym c.writer_refusal.ensures ∙ ap refusal_of c.in_ok-writer_refusal.was in
     let r = sym (c.no_room.ensures l.index) ∙ c.if-no_room.false in
     let n = room-is (held-of c.requires e) l w ∙ ap (λ (k : ℕ). room_lacks (sizes_in a.z) k l) (sym c.start-words.ensures) ∙ r in
     let s = sym (c.wrong_slots.ensures l.ends l.pool l.scratch) ∙ c.if-wrong_slots.false in
-    record { refusal = admits a.ends.now (sizes_in a.z) t l e w n s; lists = λ q. lists-all (c.known_terms-distinct.ensures.fills (slots-many (sizes_in a.z) c.start-words.result l r s)) w }
+    record { refusal = admits a.ends.now (sizes_in a.z) t l e w n s; lists = lists-all (c.known_terms-distinct.ensures.fills (slots-many (sizes_in a.z) c.start-words.result l r s)) w }
 
-pub returns-in-Host : goal.returns-in-Host
-returns-in-Host c = let a = c.args in
+pub returns-in_err-writer_refusal : goal.returns-in_err-writer_refusal
+returns-in_err-writer_refusal c = let a = c.args in
     let l : Lent = record { kinds = a.lent_kinds; ends = a.lent_ends; pool = a.lent_pool; index = length a.index.now; scratch = a.scratch } in
     let t = tables_for a.kinds.now a.ends.now a.pool.now a.z in
-    let g = ap refusal_of c.in-Host.is in
-    record { refusal = g ∙ refuses-writer a.ends.now (sizes_in a.z) t l (sym c.ends_rise.ensures ∙ c.if-not-ends_rise.false) _ (sym c.writer_refusal-w.ensures ∙ g); lists = not-admitted _ _ g }
-
-pub returns-in-Writer : goal.returns-in-Writer
-returns-in-Writer c = let a = c.args in
-    let l : Lent = record { kinds = a.lent_kinds; ends = a.lent_ends; pool = a.lent_pool; index = length a.index.now; scratch = a.scratch } in
-    let t = tables_for a.kinds.now a.ends.now a.pool.now a.z in
-    let g = ap refusal_of c.in-Writer.is in
-    record { refusal = g ∙ refuses-writer a.ends.now (sizes_in a.z) t l (sym c.ends_rise.ensures ∙ c.if-not-ends_rise.false) _ (sym c.writer_refusal-w.ensures ∙ g); lists = not-admitted _ _ g }
+    let p = err_from_is_err_and c.from_residual.result c.from_residual.ensures.1 in
+    rw (p.1, p.2) (record { refusal = refuses-writer a.ends.now (sizes_in a.z) t l (sym c.ends_rise.ensures ∙ c.if-not-ends_rise.false) _ (sym c.in_err-writer_refusal.ensures); lists = tt })

@@ -1,24 +1,27 @@
+use mathlib.Core.Path.{ap, ◌∙◌}
+use Rattle.std.specs.Prelude.{Err}
+use Rattle.std.proofs.lemmas.Result.{IfOk-at_ok}
 use native.Mathlib.Omega.{arith}
 use Rattle.prepare.proofs.Refusals.{cell-word, refuses-host, refuses-writer, loads, admits}
 use Rattle.prepare.proofs.prepare.Goals as goal
 
 pub start-requires : goal.start-requires
 start-requires c = let a = c.args in
-    loads a.job.now a.asked a.mode a.kinds.now a.ends.now a.pool.now a.index.now a.scratch c.load-loaded.ensures.refusal c.in-Admitted.is
+    loads a.job.now a.asked a.mode a.kinds.now a.ends.now a.pool.now a.index.now a.scratch c.load-loaded.ensures.refusal c.in_default.is
 
 pub overflow_cast-cell : goal.overflow_cast-cell
 overflow_cast-cell c = let a = c.args in
-    let h = cell-word a.job.now a.asked a.mode a.kinds.now a.ends.now a.pool.now a.index.now a.scratch c.load-loaded.ensures.refusal _ c.in-Writer.cell c.in-Writer.is in omega (arith, h)
+    let h = cell-word a.job.now a.asked a.mode a.kinds.now a.ends.now a.pool.now a.index.now a.scratch c.load-loaded.ensures.refusal _ c.in-Writer.cell (c.in-Err.is ∙ ap Err c.in-Writer.is) in omega (arith, h)
 
-pub returns-in-Admitted : goal.returns-in-Admitted
-returns-in-Admitted c = let a = c.args in
-    let o = c.in-Admitted.is in
-    admits a.job.now a.asked a.mode a.kinds.now a.ends.now a.pool.now a.index.now a.scratch c.load-loaded.ensures.refusal c.start.result o c.start.ensures.is c.start.ensures.begun c.load-loaded.auto.index (c.load-loaded.ensures.lists o)
+pub returns-in_default : goal.returns-in_default
+returns-in_default c = let a = c.args in
+    let o = c.in_default.is in
+    admits a.job.now a.asked a.mode a.kinds.now a.ends.now a.pool.now a.index.now a.scratch c.load-loaded.ensures.refusal c.start.result o c.start.ensures.is c.start.ensures.begun c.load-loaded.auto.index (IfOk-at_ok _ o c.load-loaded.ensures.lists)
 
 pub returns-in-Host : goal.returns-in-Host
 returns-in-Host c = let a = c.args in
-    refuses-host a.job.now a.asked a.mode a.kinds.now a.ends.now a.pool.now a.index.now a.scratch c.load-loaded.ensures.refusal _ c.refused.result c.in-Host.is c.refused.ensures
+    refuses-host a.job.now a.asked a.mode a.kinds.now a.ends.now a.pool.now a.index.now a.scratch c.load-loaded.ensures.refusal _ c.refused.result (c.in-Err.is ∙ ap Err c.in-Host.is) c.refused.ensures
 
 pub returns-in-Writer : goal.returns-in-Writer
 returns-in-Writer c = let a = c.args in
-    refuses-writer a.job.now a.asked a.mode a.kinds.now a.ends.now a.pool.now a.index.now a.scratch c.load-loaded.ensures.refusal _ _ c.refused-in-Writer.result c.in-Writer.is c.refused-in-Writer.ensures
+    refuses-writer a.job.now a.asked a.mode a.kinds.now a.ends.now a.pool.now a.index.now a.scratch c.load-loaded.ensures.refusal _ _ c.refused-in-Writer.result (c.in-Err.is ∙ ap Err c.in-Writer.is) c.refused-in-Writer.ensures
