@@ -5,13 +5,14 @@ use mathlib.Core.Path.{◌≡◌, refl, sym, ap, ◌∙◌}
 use mathlib.Core.List.{List, [], ◌∷◌}
 use mathlib.Core.Bool.{Bool, true, false, cond}
 use mathlib.Core.Option.{Option, none, some}
-use lib.Dec.{eqb, ltb}
+use lib.Dec.{eqb}
 use lib.IntN.{ℤ, pos, negsuc, nat_abs}
 use lib.Signed.{mag, quot_z}
 use mir.Syntax.{w64}
 use mir.Val.{SFits, of_z, to_z}
-use borrow.Author.Tests.{lt-ltb, le-ltb, ltb-true, ltb-false, ne_eqb}
+use borrow.Author.Tests.{lt-ltb, le-ltb, ne_eqb}
 use Rattle.std.proofs.lemmas.Bool.{eqb-false}
+use Rattle.std.proofs.Math.Nat.{lt_of_not-le}
 use Rattle.std.specs.Prelude as std
 use Rattle.std.specs.Prelude.{SomeIff, Some, None}
 use Rattle.std.specs.Int.{CanDivide}
@@ -39,11 +40,7 @@ word-literal a n e = ap (λ (m : ℕ). record { kind = 2; low = m % 2 ^ 32; high
 -- A checked operation has a value exactly where the integer fits.
 pub checked-value : (r : std.Option ℤ) (z : ℤ) → SomeIff r (SFits w64 z) z → valued r ≡ fitting z
 unfolding fitting
-checked-value None z h = by (ltb (mag z) (2 ^ 63)) refl
-  where
-    by : (t : Bool) → ltb (mag z) (2 ^ 63) ≡ t → none ≡ cond (Rattle.model.specs.Counts.fits z) (some (literal_of_int z)) none
-    by true e = absurd (h (record { sfits = ltb-true _ _ e }))
-    by false e = rw (fits-no z (ltb-false _ _ e))
+checked-value None z h = let l : 2 ^ 63 < suc (mag z) = lt_of_not-le (λ k. h (record { sfits = k })) in rw (fits-no z (omega arith))
 checked-value (Some x) z h = rw (fits-yes z h.0.sfits, h.1)
 
 -- A divisor of 64 bits is 0 exactly where its word is.
@@ -86,18 +83,7 @@ unfolding count_value
 right_none k None y e = refl
 right_none k (Some a) y e = rw e
 
--- As many arguments as are given.
-pub given-one : {n : ℕ} {a b : Option ℤ} (xs : List (Option ℤ)) → n ≡ 1 → Given n a b xs → xs ≡ a ∷ []
-given-one [] e g = let m = g.many in absurd (omega arith)
-given-one (x ∷ []) e g = ap (λ (y : Option ℤ). y ∷ []) (g.first (omega arith))
-given-one (x ∷ y ∷ xs) e g = let m = g.many in absurd (omega arith)
-
-pub given-two : {n : ℕ} {a b : Option ℤ} (xs : List (Option ℤ)) → n ≡ 2 → Given n a b xs → xs ≡ a ∷ b ∷ []
-given-two [] e g = let m = g.many in absurd (omega arith)
-given-two (x ∷ []) e g = let m = g.many in absurd (omega arith)
-given-two (x ∷ y ∷ []) e g = λ i. g.first (omega arith) i ∷ g.second (omega arith) i ∷ []
-given-two (x ∷ y ∷ z ∷ xs) e g = let m = g.many in absurd (omega arith)
-
+-- Where not one argument is given, and not two.
 exact-more : (k : ℕ) (a b c : ℤ) (cs : Option (List ℤ)) → ((cs >>? λ ds. some (c ∷ ds)) >>? λ ds. some (b ∷ ds)) >>? (λ ds. some (a ∷ ds)) >>? exact k >>? fitting ≡ none
 unfolding exact
 exact-more k a b c none = refl

@@ -84,7 +84,7 @@ validates Validator.Rows = true
 validates (Validator.Computes o) = true
 validates (Validator.Unknown k) = true
 
--- The kind of a primitive, by its validator and whether it is a container's.
+-- The kind of a primitive, by its validator and whether it is a container's: an unknown one is past 8.
 abbrev pub validator_kind : Validator → Bool → ℕ
 validator_kind Validator.Nothing c = cond c 2 0
 validator_kind Validator.Rows c = cond c 3 1

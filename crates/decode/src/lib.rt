@@ -91,7 +91,7 @@ pub enum Operation {
     Quotient,
 }
 
-// What validates a primitive's result: nothing, its rows, or an operation. A kind past 8, which no admitted job has, computes nothing.
+// What a primitive's validator does: there is none, it looks rows up, or it computes. A kind past 8, which no admitted job has, is unknown and computes nothing.
 #[derive(Clone, Copy)]
 pub enum Validator {
     Nothing,
@@ -283,7 +283,7 @@ pub fn operation_of(kind: u32) -> Option<Operation>
 }
 
 // The validator of a kind past 3.
-fn computing(kind: u32) -> Validator
+fn computing_validator(kind: u32) -> Validator
     requires { 4 ≤ kind }
     ensures { HasKind result kind }
 {
@@ -304,7 +304,7 @@ pub fn read_primitive(kind: u32, words: &[u32]) -> Primitive
         1 => (Validator::Rows, false),
         2 => (Validator::Nothing, true),
         3 => (Validator::Rows, true),
-        _ => (computing(kind), false),
+        _ => (computing_validator(kind), false),
     };
     Primitive {
         name,
