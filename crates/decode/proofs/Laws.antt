@@ -1,7 +1,7 @@
 -- What the readers give, case by case.
 use mathlib.Core.Path.{◌≡◌, sym, ap, ◌∙◌}
 use mathlib.Core.List.{List, []}
-use Prim.Native.Nat.{ℕ, zero, suc, ◌+◌, ◌-◌, ◌≤◌, ◌<◌}
+use Prim.Native.Nat.{ℕ, zero, suc, ◌+◌, ◌-◌, ◌≤◌, ◌<◌, max}
 use native.Mathlib.Omega.{arith}
 use native.Mathlib.Nat.{sub-zero, suc-sub-suc, not-suc-le-zero, le_of_suc-le-suc}
 use lib.ListN.{length, take, drop}
@@ -9,7 +9,8 @@ use lib.Seq.{drop-drop}
 use borrow.Author.Tests.{lt-ltb, le-ltb}
 use Rattle.cells.proofs.Laws.{to_end}
 use Rattle.model.specs.Decode.{read_arguments}
-use Rattle.decode.specs.View.{cell}
+use Rattle.decode.specs.View.{cell, HasNoOperation}
+use Rattle.decode.specs.declared.Operation.{Operation}
 
 -- none of the kinds below n, as the last arm of a match has it
 abbrev pub Others : ℕ → ℕ → Type 0
@@ -46,3 +47,9 @@ arguments-none k ws h = rw (lt-ltb k 2 h, read_arguments)
 
 pub arguments-some : (k : ℕ) (ws : List ℕ) → 2 ≤ k → drop 1 ws ≡ read_arguments (cell k ws)
 arguments-some k ws h = rw (le-ltb k 2 h, read_arguments)
+
+-- a kind past 3 that no operation has is past 8
+pub unknown-kind : (k : ℕ) → 4 ≤ k → HasNoOperation k → max 9 k ≡ k
+unknown-kind k h n =
+    let a = n Operation.Sum in let b = n Operation.Difference in let c = n Operation.Product in let d = n Operation.Negation in let e = n Operation.Quotient in
+    omega arith

@@ -1,7 +1,11 @@
 -- What the declared types say, as the definitions have it: expressions, facts and actions are looked up by their numbers.
+<<<<<<< HEAD
 use Rattle.std.specs.Prelude as prelude
 use Rattle.std.specs.Prelude.{Some, None}
 use Rattle.std.specs.Prelude.{◌≡◌, List, ℕ, take, drop}
+=======
+use Rattle.std.specs.Prelude.{◌≡◌, ◌≢◌, List, ℕ, take, drop, max, Bool, true, false, cond}
+>>>>>>> ded579339bfa4c7e9474b95c7c89085d7fd024ed
 use Rattle.std.proofs.Math.Option.{Option, none, some}
 use Rattle.model.specs.Cell.{Cell}
 use Rattle.model.specs.Term as terms
@@ -13,6 +17,8 @@ use Rattle.decode.specs.declared.Head.{Head}
 use Rattle.decode.specs.declared.Fact.{Fact}
 use Rattle.decode.specs.declared.Action.{Action}
 use Rattle.decode.specs.declared.Function.{Function}
+use Rattle.decode.specs.declared.Operation.{Operation}
+use Rattle.decode.specs.declared.Validator.{Validator}
 use Rattle.decode.specs.declared.Primitive.{Primitive}
 use Rattle.decode.specs.declared.Row.{Row}
 use Rattle.decode.specs.declared.Normaliser.{Normaliser}
@@ -64,9 +70,40 @@ module _ (expr : ℕ → program.Expr) where
   abbrev pub function_of : Function → program.Function
   function_of f = record { name = f.name; merge = merge_of f.merge }
 
+-- The kind of a primitive that computes.
+abbrev pub kind_of : Operation → ℕ
+kind_of Operation.Sum = 4
+kind_of Operation.Difference = 5
+kind_of Operation.Product = 6
+kind_of Operation.Negation = 7
+kind_of Operation.Quotient = 8
+
+-- No operation has this kind.
+abbrev pub HasNoOperation : ℕ → Type 0
+HasNoOperation k = (o : Operation) → kind_of o ≢ k
+
+-- A primitive has a validator.
+abbrev pub validates : Validator → Bool
+validates Validator.Nothing = false
+validates Validator.Rows = true
+validates (Validator.Computes o) = true
+validates (Validator.Unknown k) = true
+
+-- The kind of a primitive, by its validator and whether it is a container's: an unknown one is past 8.
+abbrev pub validator_kind : Validator → Bool → ℕ
+validator_kind Validator.Nothing c = cond c 2 0
+validator_kind Validator.Rows c = cond c 3 1
+validator_kind (Validator.Computes o) c = kind_of o
+validator_kind (Validator.Unknown k) c = max 9 k
+
+-- The validator is that of a kind past 3.
+pub record HasKind (v : Validator) (k : ℕ) : Type 0 where
+  pub is : validator_kind v false ≡ k
+  pub validates : validates v ≡ true
+
 -- A primitive.
 abbrev pub primitive_of : Primitive → program.Primitive
-primitive_of p = record { name = p.name; kind = p.kind; validator = p.validator; container = p.container }
+primitive_of p = record { name = p.name; kind = validator_kind p.validator p.container; validator = validates p.validator; container = p.container }
 
 -- A row, with its arguments xs.
 abbrev pub row_of : Row → List ℕ → program.Row

@@ -1,12 +1,12 @@
 // What a cell says: typed views of its kind and its words. Names, and what is named by number in a table, stay numbers.
 #![tactic(auto)]
 
-ghost use Rattle.std.specs.Prelude.{◌≡◌, [], ◌∷◌, ℕ, ◌+◌, ◌≤◌, ◌<◌, length, get_or, take, drop};
+ghost use Rattle.std.specs.Prelude.{◌≡◌, [], ◌∷◌, ℕ, ◌+◌, ◌≤◌, ◌<◌, length, get_or, take, drop, MatchOption};
 ghost use Rattle.model.specs.Term.{read_literal, read_term};
 ghost use Rattle.model.specs.Program as program;
 ghost use Rattle.model.specs.Program.{name_old, name_new, name_global_actions, name_merge_function};
 ghost use Rattle.model.specs.Decode.{read_head, read_arguments, read_fact, read_action, read_function, read_primitive, read_row, read_normaliser, rule_facts, rule_actions, read_rule, read_proof};
-ghost use Rattle.decode.specs.View.{cell, literal_of, term_of, head_of, fact_of, action_of, function_of, primitive_of, row_of, normaliser_of, proposition_of, rule_premises, rule_pairs, Justifies};
+ghost use Rattle.decode.specs.View.{cell, literal_of, term_of, head_of, fact_of, action_of, function_of, kind_of, HasNoOperation, HasKind, primitive_of, row_of, normaliser_of, proposition_of, rule_premises, rule_pairs, Justifies};
 
 // A name, by the number that a job gives it.
 #[derive(Clone, Copy)]
@@ -74,12 +74,30 @@ pub struct Function {
     pub merge: Option<u32>,
 }
 
-// A primitive: whether it has a validator, and whether its output is a container sort. The validator of kinds 4 to 8 computes.
+// What a primitive that computes makes of its arguments' integers.
+#[derive(Clone, Copy)]
+pub enum Operation {
+    Sum,
+    Difference,
+    Product,
+    Negation,
+    Quotient,
+}
+
+// What a primitive's validator does: there is none, it looks rows up, or it computes. A kind past 8, which no admitted job has, is unknown and computes nothing.
+#[derive(Clone, Copy)]
+pub enum Validator {
+    Nothing,
+    Rows,
+    Computes(Operation),
+    Unknown(u32),
+}
+
+// A primitive: its validator, and whether its output is a container sort.
 #[derive(Clone, Copy)]
 pub struct Primitive {
     pub name: u32,
-    pub kind: u32,
-    pub validator: bool,
+    pub validator: Validator,
     pub container: bool,
 }
 
@@ -243,43 +261,48 @@ pub fn read_function(kind: u32, words: &[u32]) -> Function
     }
 }
 
+// The operation of a primitive's kind.
+pub fn operation_of(kind: u32) -> Option<Operation>
+    ensures { MatchOption result (HasNoOperation kind) (λ o. kind_of o ≡ kind) }
+{
+    match kind {
+        4 => Some(Operation::Sum),
+        5 => Some(Operation::Difference),
+        6 => Some(Operation::Product),
+        7 => Some(Operation::Negation),
+        8 => Some(Operation::Quotient),
+        _ => None,
+    }
+}
+
+// The validator of a kind past 3.
+fn computing_validator(kind: u32) -> Validator
+    requires { 4 ≤ kind }
+    ensures { HasKind result kind }
+{
+    match operation_of(kind) {
+        Some(operation) => Validator::Computes(operation),
+        None => Validator::Unknown(kind),
+    }
+}
+
 // The primitive of a cell.
 pub fn read_primitive(kind: u32, words: &[u32]) -> Primitive
     requires { 1 ≤ length words.now }
     ensures { primitive_of result ≡ read_primitive (cell kind words.now) }
 {
     let name = words[0];
-    match kind {
-        0 => Primitive {
-            name,
-            kind,
-            validator: false,
-            container: false,
-        },
-        1 => Primitive {
-            name,
-            kind,
-            validator: true,
-            container: false,
-        },
-        2 => Primitive {
-            name,
-            kind,
-            validator: false,
-            container: true,
-        },
-        3 => Primitive {
-            name,
-            kind,
-            validator: true,
-            container: true,
-        },
-        _ => Primitive {
-            name,
-            kind,
-            validator: true,
-            container: false,
-        },
+    let (validator, container) = match kind {
+        0 => (Validator::Nothing, false),
+        1 => (Validator::Rows, false),
+        2 => (Validator::Nothing, true),
+        3 => (Validator::Rows, true),
+        _ => (computing_validator(kind), false),
+    };
+    Primitive {
+        name,
+        validator,
+        container,
     }
 }
 

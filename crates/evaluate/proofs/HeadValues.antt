@@ -5,9 +5,10 @@ use mathlib.Core.Path.{◌≡◌, refl, sym, ap, subst, ◌∙◌}
 use mathlib.Core.Bool.{Bool, true, false, cond}
 use mathlib.Core.List.{List, [], ◌∷◌, ◌++◌}
 use mathlib.Core.Option.{Option, none, some}
-use Prim.Native.Nat.{ℕ, suc, ◌-◌, ◌<◌, ◌≤◌}
+use Prim.Native.Nat.{ℕ, suc, ◌-◌, ◌<◌, ◌≤◌, max}
 use lib.Dec.{eqb, ltb}
 use borrow.Author.Tests.{lt-ltb, le-ltb}
+use Rattle.model.specs.Term as terms
 use Rattle.model.specs.Term.{Term, lit, app}
 use Rattle.model.specs.Program.{Binding, Program, Primitive}
 use Rattle.model.specs.Decode.{read_bindings}
@@ -16,7 +17,11 @@ use Rattle.model.specs.Counts.{count_value}
 use Rattle.model.specs.Evaluate.{lookup, primitive_at, row_value, counts_in, add_count, validate_by, validate, validated_by, validated}
 use Rattle.index.specs.declared.Fill.{Fill}
 use Rattle.program.specs.Ready.{option_of}
-use Rattle.decode.specs.View.{literal_of, head_of}
+use Rattle.decode.specs.View.{literal_of, head_of, kind_of, HasNoOperation, primitive_of}
+use Rattle.decode.specs.declared.Operation.{Operation}
+use Rattle.decode.specs.declared.Validator.{Validator}
+use Rattle.decode.specs.declared.Primitive as view_primitive
+use Rattle.counts.proofs.Laws.{no-value}
 use Rattle.decode.specs.declared.Head as view
 use Rattle.termdag.specs.Store.{terms_in, Indexed, room_of, Known}
 use Rattle.outcome.specs.Does.{passed, refusal, outcome_of, Does}
@@ -67,6 +72,28 @@ given-none c a b f e q = (ap (λ (x : Checked). x.fill) e, λ s. ap (λ (x : Che
 pub finds-none : {r : prelude.Option ℕ} {o : Outcome ℕ} {s : List Term} → r ≡ None → Known r o s
 finds-none e = record { value = λ v q. let y : ◌≡◌ {A = ℕ} 0 1 = cc in absurd (omega arith) }
 
+-- the kinds of primitives
+pub rows-kind : (q : view_primitive.Primitive) → q.validator ≡ Validator.Rows → (primitive_of q).kind ≤ 3
+rows-kind q e = rw e (by q.container)
+  where
+    by : (b : Bool) → cond b 3 1 ≤ 3
+    by true = omega arith
+    by false = omega arith
+
+pub operation-kind : (o : Operation) → 3 < kind_of o
+operation-kind Operation.Sum = omega arith
+operation-kind Operation.Difference = omega arith
+operation-kind Operation.Product = omega arith
+operation-kind Operation.Negation = omega arith
+operation-kind Operation.Quotient = omega arith
+
+unknown-none : (k : ℕ) → HasNoOperation (max 9 k)
+unknown-none k Operation.Sum e = omega arith
+unknown-none k Operation.Difference e = omega arith
+unknown-none k Operation.Product e = omega arith
+unknown-none k Operation.Negation e = omega arith
+unknown-none k Operation.Quotient e = omega arith
+
 -- primitives
 module _ (prog : Program) (n p : ℕ) (xs : List ℕ) (q : Primitive) (is : q ≡ primitive_at prog.primitives p) where
   by-validator : (room : Room) (b : Bool) (s : List Term) → q.validator ≡ b → validated room prog n p xs s ≡ validated_by room prog n p xs b s
@@ -93,15 +120,17 @@ module _ (prog : Program) (n p : ℕ) (xs : List ℕ) (q : Primitive) (is : q �
       ∙ ap (λ (v : Bool). given_by room (primitive_at prog.primitives p) v s) (sym k ∙ ap (λ (r : Primitive). ltb 3 r.kind) is)
       ∙ sym (by-validator room true s e)
 
-  computes-is : (room : Room) (s : List Term) → q.validator ≡ true → 3 < q.kind
-      → and_then (add_count room (count_value q.kind (counts_in s xs)) s) (λ o. or_refuse o 46 (q.name ∷ [])) ≡ validated room prog n p xs s
-  computes-is room s e k =
-      ap (λ (x : Primitive). and_then (add_count room (count_value x.kind (counts_in s xs)) s) (λ o. or_refuse o 46 (q.name ∷ []))) is
-      ∙ by_kind room true s e (lt-ltb 3 q.kind k)
+  computes-is : (room : Room) (s : List Term) (k : ℕ) → q.validator ≡ true → q.kind ≡ k → 3 < k
+      → and_then (add_count room (count_value k (counts_in s xs)) s) (λ o. or_refuse o 46 (q.name ∷ [])) ≡ validated room prog n p xs s
+  computes-is room s k v e l =
+      ap (λ (x : Primitive). and_then (add_count room (count_value k (counts_in s xs)) s) (λ o. or_refuse o 46 (x.name ∷ []))) is
+      ∙ ap (λ (j : ℕ). and_then (add_count room (count_value j (counts_in s xs)) s) (λ o. or_refuse o 46 ((primitive_at prog.primitives p).name ∷ []))) (sym e ∙ ap (λ (x : Primitive). x.kind) is)
+      ∙ ap (λ (x : Primitive). and_then (add_count room (count_value (primitive_at prog.primitives p).kind (counts_in s xs)) s) (λ o. or_refuse o 46 (x.name ∷ []))) (sym is)
+      ∙ by_kind room true s v (ap (ltb 3) e ∙ lt-ltb 3 k l)
 
-  pub computes-found : (room : Room) (s : List Term) {r : prelude.Option ℕ} → q.validator ≡ true → 3 < q.kind
-      → Known r (and_then (add_count room (count_value q.kind (counts_in s xs)) s) (λ o. or_refuse o 46 (q.name ∷ []))) s → Known r (validated room prog n p xs s) s
-  computes-found room s {r} e k F = subst (λ (o : Outcome ℕ). Known r o s) (computes-is room s e k) F
+  pub computes-found : (room : Room) (s : List Term) {r : prelude.Option ℕ} (k : ℕ) → q.validator ≡ true → q.kind ≡ k → 3 < k
+      → Known r (and_then (add_count room (count_value k (counts_in s xs)) s) (λ o. or_refuse o 46 (q.name ∷ []))) s → Known r (validated room prog n p xs s) s
+  computes-found room s {r} k v e l F = subst (λ (o : Outcome ℕ). Known r o s) (computes-is room s k v e l) F
 
   pub row-found : (room : Room) (s : List Term) {r : prelude.Option ℕ} → q.validator ≡ true → q.kind ≤ 3 → option_of r ≡ row_value prog.rows p xs → Known r (validated room prog n p xs s) s
   unfolding or_refuse
@@ -109,11 +138,21 @@ module _ (prog : Program) (n p : ℕ) (xs : List ℕ) (q : Primitive) (is : q �
     value = λ t e. sym (ap (λ (a : Option ℕ). or_refuse a 46 (q.name ∷ []) s) (sym (ap option_of e) ∙ w) ∙ by_kind room false s v (le-ltb 3 q.kind k));
   }
 
-  pub computes-value : {K E P I : List ℕ} {f : Fill} {K₁ E₁ P₁ I₁ : List ℕ} {f₁ : Fill} {r : Refusal} {a : ℕ} → q.validator ≡ true → 3 < q.kind
-      → Does K E P I f K₁ E₁ P₁ I₁ f₁ r a (and_then (add_count (room_of K P) (count_value q.kind (counts_in (terms_in K E P f) xs)) (terms_in K E P f)) (λ o. or_refuse o 46 (q.name ∷ [])))
+  pub computes-value : {K E P I : List ℕ} {f : Fill} {K₁ E₁ P₁ I₁ : List ℕ} {f₁ : Fill} {r : Refusal} {a : ℕ} (k : ℕ) → q.validator ≡ true → q.kind ≡ k → 3 < k
+      → Does K E P I f K₁ E₁ P₁ I₁ f₁ r a (and_then (add_count (room_of K P) (count_value k (counts_in (terms_in K E P f) xs)) (terms_in K E P f)) (λ o. or_refuse o 46 (q.name ∷ [])))
       → Does K E P I f K₁ E₁ P₁ I₁ f₁ r a (validated (room_of K P) prog n p xs (terms_in K E P f))
-  computes-value {K} {E} {P} {I} {f} {K₁} {E₁} {P₁} {I₁} {f₁} {r} {a} e k d =
-      subst (Does K E P I f K₁ E₁ P₁ I₁ f₁ r a) (computes-is (room_of K P) (terms_in K E P f) e k) d
+  computes-value {K} {E} {P} {I} {f} {K₁} {E₁} {P₁} {I₁} {f₁} {r} {a} k v e l d =
+      subst (Does K E P I f K₁ E₁ P₁ I₁ f₁ r a) (computes-is (room_of K P) (terms_in K E P f) k v e l) d
+
+  -- an unknown kind has no value
+  pub unknown-value : {K E P I : List ℕ} {f : Fill} → Indexed K E P I f → (c : Checked) (k : ℕ) → q.validator ≡ true → q.kind ≡ max 9 k
+      → c ≡ record { refusal = refusal 46 1 (q.name ∷ 0 ∷ 0 ∷ 0 ∷ 0 ∷ 0 ∷ []); value = 0; fill = f }
+      → Does K E P I f K E P I c.fill c.refusal c.value (validated (room_of K P) prog n p xs (terms_in K E P f))
+  unfolding or_refuse
+  unknown-value {K} {E} {P} {I} {f} S c k v e d =
+      subst (λ (x : Checked). Does K E P I f K E P I x.fill x.refusal x.value (validated (room_of K P) prog n p xs (terms_in K E P f))) (sym d)
+      (does-here S (ap (λ (x : Option terms.Literal). and_then (add_count (room_of K P) x (terms_in K E P f)) (λ o. or_refuse o 46 (q.name ∷ []))) (sym (no-value (max 9 k) (counts_in (terms_in K E P f) xs) (unknown-none k)))
+      ∙ computes-is (room_of K P) (terms_in K E P f) (max 9 k) v e (omega arith)))
 
   module _ {K E P I : List ℕ} {f : Fill} {o : Option ℕ} (S : Indexed K E P I f) (v : q.validator ≡ true) (k : q.kind ≤ 3) (w : o ≡ row_value prog.rows p xs) where
     looked : or_refuse o 46 (q.name ∷ []) (terms_in K E P f) ≡ validated (room_of K P) prog n p xs (terms_in K E P f)

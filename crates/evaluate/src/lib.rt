@@ -22,7 +22,7 @@ ghost use Rattle.evaluate.specs.Evaluation.{Memo, Knows, KnowsFirst, Evaluates, 
 
 use cells::wide;
 use computing::{computed, find_computed};
-use decode::Head;
+use decode::{Head, Validator};
 use index::Fill;
 use lookups::row_value;
 use outcome::{Checked, add_app, add_lit, pass, refuse1, refuse2};
@@ -66,24 +66,17 @@ fn validated(
     ensures { Does skinds.old sends.old spool.old index.old fill skinds.new sends.new spool.new index.new result.fill result.refusal result.value (validated (room_of skinds.old spool.old) (program_for job.now) n p args.now (terms_in skinds.old sends.old spool.old fill)) }
 {
     let primitive = primitive_at(job, wide(p));
-    if !primitive.validator {
-        return refuse1(n, primitive.name, fill);
-    }
-    if 3 < primitive.kind {
-        return computed(
-            skinds,
-            sends,
-            spool,
-            index,
-            fill,
-            primitive.kind,
-            primitive.name,
-            args,
-        );
-    }
-    match row_value(job, found, p, args) {
-        Some(t) => pass(t, fill),
-        None => refuse1(46, primitive.name, fill),
+    let name = primitive.name;
+    match primitive.validator {
+        Validator::Nothing => refuse1(n, name, fill),
+        Validator::Rows => match row_value(job, found, p, args) {
+            Some(t) => pass(t, fill),
+            None => refuse1(46, name, fill),
+        },
+        Validator::Computes(operation) => computed(
+            skinds, sends, spool, index, fill, operation, name, args,
+        ),
+        Validator::Unknown(_) => refuse1(46, name, fill),
     }
 }
 
@@ -311,13 +304,13 @@ fn find_validated(
     ensures { (n : ℕ) → Known result (validated (room_of skinds.now spool.now) (program_for job.now) n p args.now (terms_in skinds.now sends.now spool.now fill)) (terms_in skinds.now sends.now spool.now fill) }
 {
     let primitive = primitive_at(job, wide(p));
-    if !primitive.validator {
-        return None;
+    match primitive.validator {
+        Validator::Nothing | Validator::Unknown(_) => None,
+        Validator::Rows => row_value(job, found, p, args),
+        Validator::Computes(operation) => {
+            find_computed(skinds, sends, spool, index, fill, operation, args)
+        }
     }
-    if 3 < primitive.kind {
-        return find_computed(skinds, sends, spool, index, fill, primitive.kind, args);
-    }
-    row_value(job, found, p, args)
 }
 
 // The value of an expression from its head and its arguments' values, if it needs no new term: most need none, and this leaves the store alone.

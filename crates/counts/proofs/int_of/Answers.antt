@@ -1,9 +1,8 @@
-use native.Mathlib.Omega.{arith}
-use Rattle.counts.proofs.Laws.{reads-low, reads-high}
+use Rattle.std.proofs.Common.{rules, arith, w64}
+use Rattle.std.proofs.lemmas.Int.{to_z-of_z}
+use mathlib.Core.Path.{◌∙◌}
+use Rattle.counts.proofs.Laws.{word-int}
 use Rattle.counts.proofs.int_of.Goals as goal
 
-pub returns-then-high-lt2147483648 : goal.returns-then-high-lt2147483648
-returns-then-high-lt2147483648 c = reads-low _ _ _ c.if-high-lt2147483648.true (omega arith) c.ranges.low.fits
-
-pub returns-else-high-lt2147483648 : goal.returns-else-high-lt2147483648
-returns-else-high-lt2147483648 c = reads-high _ _ _ c.if-high-lt2147483648.false c.ranges.low.fits c.ranges.high.fits (omega arith)
+pub returns : goal.returns
+returns c = to_z-of_z w64 c.cast_signed.result (search rules) ∙ c.cast_signed.ensures ∙ word-int _ _ _ c.ranges.low.fits c.ranges.high.fits (omega (arith, c.from.ensures, c.from-2.ensures))

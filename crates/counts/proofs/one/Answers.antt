@@ -1,11 +1,13 @@
-use mathlib.Core.Path.{sym, ap, ◌∙◌}
-use Rattle.counts.proofs.Laws.{count-is, count_none, value-one, value-one-none}
-use mathlib.Core.Option.{some}
-use Rattle.decode.specs.View.{literal_of}
+use Rattle.std.proofs.Common.{arith}
+use Rattle.std.proofs.lemmas.Int.{to_z-of_z}
+use Rattle.counts.proofs.Laws.{one_none, value-one}
 use Rattle.counts.proofs.one.Goals as goal
 
-pub returns-then-a-ne2 : goal.returns-then-a-ne2
-returns-then-a-ne2 c = c.no_value.ensures ∙ sym (value-one-none _ (count_none (literal_of c.args.a) c.if-a-ne2.true))
+pub returns-in_err-a : goal.returns-in_err-a
+returns-in_err-a c = rw c.from_residual.ensures (one_none _ _ c.in_err-a.was)
+
+pub returns-in_err-value : goal.returns-in_err-value
+returns-in_err-value c = grind (arith, to_z-of_z, value-one)
 
 pub returns : goal.returns
-returns c = c.of_one.ensures ∙ value-one _ (count-is (literal_of c.args.a) c.if-a-ne2.false ∙ ap some (sym c.int_of.ensures.is))
+returns c = grind (arith, to_z-of_z, value-one)

@@ -1,14 +1,16 @@
-use mathlib.Core.Path.{sym, ap, ◌∙◌}
-use Rattle.counts.proofs.Laws.{count-is, count_none, value-two, value-two-left, value-two-right}
-use mathlib.Core.Option.{some}
-use Rattle.decode.specs.View.{literal_of}
+use Rattle.std.proofs.Common.{arith}
+use Rattle.std.proofs.lemmas.Int.{to_z-of_z}
+use Rattle.counts.proofs.Laws.{left_none, right_none, value-two}
 use Rattle.counts.proofs.two.Goals as goal
 
-pub returns-then-a-ne2 : goal.returns-then-a-ne2
-returns-then-a-ne2 c = c.no_value.ensures ∙ sym (value-two-left _ _ (count_none (literal_of c.args.a) c.if-a-ne2.true))
+pub returns-in_err-a : goal.returns-in_err-a
+returns-in_err-a c = rw c.from_residual.ensures (left_none _ _ _ c.in_err-a.was)
 
-pub returns-then-b-ne2 : goal.returns-then-b-ne2
-returns-then-b-ne2 c = c.no_value-then-b-ne2.ensures ∙ sym (value-two-right _ _ (count_none (literal_of c.args.b) c.if-b-ne2.true))
+pub returns-in_err-b : goal.returns-in_err-b
+returns-in_err-b c = rw c.from_residual-in_err-b.ensures (right_none _ _ _ c.in_err-b.was)
+
+pub returns-in_err-value : goal.returns-in_err-value
+returns-in_err-value c = grind (arith, to_z-of_z, value-two)
 
 pub returns : goal.returns
-returns c = c.of_two.ensures ∙ value-two _ (count-is (literal_of c.args.a) c.if-a-ne2.false ∙ ap some (sym c.int_of.ensures.is)) (count-is (literal_of c.args.b) c.if-b-ne2.false ∙ ap some (sym c.int_of-2.ensures.is))
+returns c = grind (arith, to_z-of_z, value-two)
