@@ -25,13 +25,10 @@ pub enum Looked {
 pub fn lookup_pairs(ws: &[u32], name: u32) -> Looked
     ensures { option_of result ≡ lookup (read_bindings ws.now) name }
 {
-    let len = ws.len();
-    let mut k = 1;
-    while k < len {
-        if ws[k - 1] == name {
-            return Looked::Some(ws[k]);
+    for pair in ws.chunks_exact(2) {
+        if pair[0] == name {
+            return Looked::Some(pair[1]);
         }
-        k += 2;
     }
     Looked::None
 }
