@@ -102,8 +102,7 @@ fn head_actions(
     let mut have = fill;
     let mut seen = false;
     let mut kept = false;
-    let mut i = 0;
-    while i < actions.len() {
+    for action in actions {
         let r = process_action(
             job,
             found,
@@ -120,7 +119,7 @@ fn head_actions(
             kept,
             marking,
             marks,
-            actions[i],
+            *action,
         );
         have = r.fill;
         if r.refusal.number != 0 {
@@ -135,7 +134,6 @@ fn head_actions(
         seen = seen | has_pair(effect, q);
         kept = is_steady(effect, &table[at..], pairs, globals);
         at = push_binding(&mut table, at, effect);
-        i += 1;
     }
     Headed {
         refusal: Refusal {
