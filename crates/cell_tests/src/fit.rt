@@ -9,67 +9,51 @@ use cells::wide;
 pub fn counted(ns: &[u32], kind: u32, ws: &[u32]) -> bool
     ensures { result ≡ counts ns.now (record { kind = kind; words = ws.now }) }
 {
-    (wide(kind) < ns.len()) & (ws.len() == wide(at(ns, wide(kind))))
+    wide(kind) < ns.len() && ws.len() == wide(at(ns, wide(kind)))
 }
 
 // Three words that make a literal.
 pub fn literal_fits(ws: &[u32]) -> bool
     ensures { (kind : _) → result ≡ literal_cell (record { kind = kind; words = ws.now }) }
 {
-    let kind = at(ws, 0);
-    let low = at(ws, 1);
-    let high = at(ws, 2);
-    if kind == 0 {
-        return (ws.len() == 3) & ((low == 0) & (high == 0));
+    let &[kind, low, high] = ws else {
+        return false;
+    };
+    match kind {
+        0 => low == 0 && high == 0,
+        1 => low < 2 && high == 0,
+        2 => true,
+        3 => high == 0,
+        _ => false,
     }
-    if kind == 1 {
-        return (ws.len() == 3) & ((low < 2) & (high == 0));
-    }
-    if kind == 2 {
-        return ws.len() == 3;
-    }
-    if kind == 3 {
-        return (ws.len() == 3) & (high == 0);
-    }
-    false
 }
 
 pub fn term_fits(kind: u32, ws: &[u32]) -> bool
     ensures { result ≡ term_fits (record { kind = kind; words = ws.now }) }
 {
-    let len = ws.len();
-    if kind == 0 {
-        return literal_fits(ws);
+    match kind {
+        0 => literal_fits(ws),
+        1 => ws.len() == 1,
+        2 => (1..=17).contains(&ws.len()),
+        _ => false,
     }
-    if kind == 1 {
-        return (1 <= len) & (len <= 1);
-    }
-    if kind == 2 {
-        return (1 <= len) & (len <= 17);
-    }
-    false
 }
 
 pub fn expr_fits(kind: u32, ws: &[u32]) -> bool
     ensures { result ≡ expr_fits (record { kind = kind; words = ws.now }) }
 {
-    let len = ws.len();
-    if kind == 0 {
-        return literal_fits(ws);
+    match kind {
+        0 => literal_fits(ws),
+        1 => ws.len() == 1,
+        2..=4 => (1..=17).contains(&ws.len()),
+        _ => false,
     }
-    if kind == 1 {
-        return (1 <= len) & (len <= 1);
-    }
-    if kind <= 4 {
-        return (1 <= len) & (len <= 17);
-    }
-    false
 }
 
 pub fn row_fits(kind: u32, ws: &[u32]) -> bool
     ensures { result ≡ row_fits (record { kind = kind; words = ws.now }) }
 {
-    (kind == 0) & ((2 <= ws.len()) & (ws.len() <= 18))
+    kind == 0 && (2..=18).contains(&ws.len())
 }
 
 pub fn rule_fits(kind: u32, ws: &[u32]) -> bool
@@ -78,7 +62,7 @@ pub fn rule_fits(kind: u32, ws: &[u32]) -> bool
     let n = wide(at(ws, 1));
     let operands = rest(ws, 2);
     let actions = rest(operands, n);
-    (kind == 0) & (2 <= ws.len()) & (n <= operands.len()) & (n <= 16) & (actions.len() <= 64)
+    kind == 0 && 2 <= ws.len() && n <= operands.len() && n <= 16 && actions.len() <= 64
 }
 
 // The words of a rule's proof behind its premises are pairs, at most 32.
@@ -88,18 +72,14 @@ pub fn rule_proof_fits(ws: &[u32]) -> bool
     let n = wide(at(ws, 3));
     let operands = rest(ws, 4);
     let pairs = rest(operands, n);
-    (4 <= ws.len())
-        & (n <= operands.len())
-        & (n <= 4096)
-        & (pairs.len() <= 64)
-        & (pairs.len() % 2 == 0)
+    4 <= ws.len() && n <= operands.len() && n <= 4096 && pairs.len() <= 64 && pairs.len() % 2 == 0
 }
 
 pub fn proof_fits(kind: u32, ws: &[u32]) -> bool
     ensures { result ≡ proof_fits (record { kind = kind; words = ws.now }) }
 {
-    let ns: [u32; 8] = [2, 0, 5, 4, 3, 5, 3, 2];
-    let rule = rule_proof_fits(ws);
-    let other = counted(&ns, kind, ws);
-    ((kind == 1) & rule) | (!(kind == 1) & other)
+    if kind == 1 {
+        return rule_proof_fits(ws);
+    }
+    counted(&[2, 0, 5, 4, 3, 5, 3, 2], kind, ws)
 }

@@ -10,8 +10,7 @@ use cells::same_words;
 pub fn same_row(a: &[u32], b: &[u32]) -> bool
     ensures { (j k : _) → result ≡ same_row (record { kind = j; words = a.now }) (record { kind = k; words = b.now }) }
 {
-    let arguments = same_words(rest(a, 2), rest(b, 2));
-    (at(a, 0) == at(b, 0)) & arguments
+    at(a, 0) == at(b, 0) && same_words(rest(a, 2), rest(b, 2))
 }
 
 // Normalisers by head.
@@ -25,13 +24,10 @@ pub fn same_head(a: &[u32], b: &[u32]) -> bool
 pub fn is_bound(name: u32, ws: &[u32]) -> bool
     ensures { result ≡ any (λ b. eqb name b.name) (read_bindings ws.now) }
 {
-    let len = ws.len();
-    let mut k = 1;
-    while k < len {
-        if name == ws[k - 1] {
+    for pair in ws.chunks_exact(2) {
+        if name == pair[0] {
             return true;
         }
-        k += 2;
     }
     false
 }
@@ -40,13 +36,12 @@ pub fn is_bound(name: u32, ws: &[u32]) -> bool
 pub fn binds_once(ws: &[u32]) -> bool
     ensures { result ≡ binds_once (read_bindings ws.now) }
 {
-    let len = ws.len();
-    let mut k = 1;
-    while k < len {
-        if is_bound(ws[k - 1], rest(ws, k + 1)) {
+    let mut left = ws;
+    while let [name, _, behind @ ..] = left {
+        if is_bound(*name, behind) {
             return false;
         }
-        k += 2;
+        left = behind;
     }
     true
 }

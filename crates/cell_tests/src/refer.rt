@@ -8,26 +8,24 @@ ghost use Rattle.model.specs.Load.{below, term_refers, expr_refers, action_refer
 use crate::words::{all_below, at, front, rest};
 use cells::wide;
 
+#[tactic(auto, unfolding(model::specs::Term::read_term))]
 pub fn term_refers(i: usize, kind: u32, ws: &[u32]) -> bool
     ensures { result ≡ term_refers i (read_term (record { kind = kind; words = ws.now })) }
 {
-    if kind < 2 {
-        return true;
+    match kind {
+        0 | 1 => true,
+        _ => all_below(i, rest(ws, 1)),
     }
-    all_below(i, rest(ws, 1))
 }
 
 pub fn expr_refers(primitives: usize, i: usize, kind: u32, ws: &[u32]) -> bool
     ensures { result ≡ expr_refers primitives i (record { kind = kind; words = ws.now }) }
 {
-    if kind < 2 {
-        return true;
+    match kind {
+        0 | 1 => true,
+        2 | 3 => all_below(i, rest(ws, 1)),
+        _ => wide(at(ws, 0)) < primitives && all_below(i, rest(ws, 1)),
     }
-    let lower = all_below(i, rest(ws, 1));
-    if kind < 4 {
-        return lower;
-    }
-    (wide(at(ws, 0)) < primitives) & lower
 }
 
 pub fn action_refers(expressions: usize, kind: u32, ws: &[u32]) -> bool
@@ -42,8 +40,7 @@ pub fn action_refers(expressions: usize, kind: u32, ws: &[u32]) -> bool
 pub fn row_refers(primitives: usize, terms: usize, ws: &[u32]) -> bool
     ensures { (kind : _) → result ≡ row_refers primitives terms (read_row (record { kind = kind; words = ws.now })) }
 {
-    let arguments = all_below(terms, rest(ws, 2));
-    (wide(at(ws, 0)) < primitives) & (wide(at(ws, 1)) < terms) & arguments
+    wide(at(ws, 0)) < primitives && wide(at(ws, 1)) < terms && all_below(terms, rest(ws, 2))
 }
 
 pub fn rule_refers(facts: usize, actions: usize, ws: &[u32]) -> bool
@@ -51,9 +48,7 @@ pub fn rule_refers(facts: usize, actions: usize, ws: &[u32]) -> bool
 {
     let n = wide(at(ws, 1));
     let operands = rest(ws, 2);
-    let of_facts = all_below(facts, front(operands, n));
-    let of_actions = all_below(actions, rest(operands, n));
-    of_facts & of_actions
+    all_below(facts, front(operands, n)) && all_below(actions, rest(operands, n))
 }
 
 // The proofs that a proof refers to are lower than it.
@@ -63,38 +58,24 @@ pub fn references_below(i: usize, kind: u32, ws: &[u32]) -> bool
     let x = wide(at(ws, 2));
     let y = wide(at(ws, 3));
     let z = wide(at(ws, 4));
-    if kind == 1 {
-        return all_below(i, front(rest(ws, 4), y));
+    match kind {
+        1 => all_below(i, front(rest(ws, 4), y)),
+        2 => y < i && z < i,
+        3 => x < i && y < i,
+        4 | 6 => x < i,
+        5 => x < i && z < i,
+        _ => true,
     }
-    if kind == 2 {
-        return (y < i) & (z < i);
-    }
-    if kind == 3 {
-        return (x < i) & (y < i);
-    }
-    if kind == 4 {
-        return x < i;
-    }
-    if kind == 5 {
-        return (x < i) & (z < i);
-    }
-    if kind == 6 {
-        return x < i;
-    }
-    true
 }
 
 // The terms of pairs of name and term are below n.
 pub fn pairs_below(n: usize, ws: &[u32]) -> bool
     ensures { result ≡ below n (map (λ b. b.term) (read_bindings ws.now)) }
 {
-    let len = ws.len();
-    let mut k = 1;
-    while k < len {
-        if n <= wide(ws[k]) {
+    for pair in ws.chunks_exact(2) {
+        if n <= wide(pair[1]) {
             return false;
         }
-        k += 2;
     }
     true
 }
@@ -113,9 +94,8 @@ pub fn substitution_below(n: usize, kind: u32, ws: &[u32]) -> bool
 pub fn proof_refers(terms: usize, i: usize, kind: u32, ws: &[u32]) -> bool
     ensures { result ≡ proof_refers terms i (read_proof (record { kind = kind; words = ws.now })) }
 {
-    let lhs = wide(at(ws, 0));
-    let rhs = wide(at(ws, 1));
-    let lower = references_below(i, kind, ws);
-    let named = substitution_below(terms, kind, ws);
-    (lhs < terms) & (rhs < terms) & lower & named
+    wide(at(ws, 0)) < terms
+        && wide(at(ws, 1)) < terms
+        && references_below(i, kind, ws)
+        && substitution_below(terms, kind, ws)
 }

@@ -1,11 +1,15 @@
 -- The table of unions: one more, and a look over all of them.
-use mathlib.Core.Path.{◌≡◌, refl, sym, ap, subst, ◌∙◌}
-use mathlib.Core.Bool.{Bool, true, false, ◌||◌}
+use mathlib.Core.Path.{◌≡◌, sym, ap, subst, ◌∙◌}
+use mathlib.Core.Bool.{Bool, false, ◌||◌}
 use mathlib.Core.List.{List, [], ◌∷◌, ◌++◌, append_assoc}
-use Prim.Native.Nat.{ℕ, suc, ◌+◌, ◌-◌, ◌<◌, ◌≤◌}
+use Prim.Native.Nat.{ℕ, suc, ◌+◌, ◌-◌, ◌≤◌}
 use native.Mathlib.Omega.{arith}
-use lib.ListN.{length, get_or, set, take, drop, length-set, length-drop}
-use lib.Seq.{drop-cons, take-suc-set, length-take-le}
+use mathlib.Core.Logic.{◌⊎◌, inl, inr}
+use lib.Dec.{eqb}
+use borrow.Author.Tests.{ne_eqb}
+use Rattle.model.proofs.Tests.{and-false}
+use lib.ListN.{length, get_or, set, take, length-set}
+use lib.Seq.{take-suc-set, length-take-le}
 use Rattle.model.specs.Program.{Proposition}
 use Rattle.model.specs.Action.{same_proposition, among}
 use Rattle.actions.specs.Acting.{effect_has}
@@ -50,31 +54,25 @@ module _ (U : List ℕ) (n : ℕ) (even : Even n) where
 pub joined_as : {U : List ℕ} {n : ℕ} {e e' : Effect} {U' : List ℕ} {r : ℕ} → e ≡ e' → Joined U n e' U' r → Joined U n e U' r
 joined_as {U} {n} {U' = U'} {r = r} q d = subst (λ (x : Effect). Joined U n x U' r) (sym q) d
 
--- one union after another
-module _ (ws : List ℕ) (k : ℕ) (p : 1 ≤ k) (q : Proposition) where
-  abbrev here : Bool
-  here = same_proposition q (record { lhs = get_or ws (k - 1) 0; rhs = get_or ws k 0 }) || same_proposition q (record { lhs = get_or ws k 0; rhs = get_or ws (k - 1) 0 })
+-- the first union, and the others
+union-next : (ws pair us : List ℕ) (q : Proposition) → ws ≡ pair ++ us → length pair ≡ 2
+    → unions_have ws q ≡ ((same_proposition q (record { lhs = get_or pair 0 0; rhs = get_or pair 1 0 }) || same_proposition q (record { lhs = get_or pair 1 0; rhs = get_or pair 0 0 })) || unions_have us q)
+union-next ws [] us q e h = absurd (omega arith)
+union-next ws (x ∷ []) us q e h = absurd (omega arith)
+union-next ws (x ∷ y ∷ []) us q e h = rw e
+union-next ws (x ∷ y ∷ z ∷ pair) us q e h = absurd (omega arith)
 
-  union-at : k < length ws → unions_have (drop (k - 1) ws) q ≡ (here || unions_have (drop (k + 2 - 1) ws) q)
-  union-at h =
-      let i : suc (k - 1) ≡ k = omega arith in
-      let j : suc k ≡ k + 2 - 1 = omega arith in
-      ap (λ (l : List ℕ). unions_have l q) (drop-cons ws (k - 1) 0 (omega arith) ∙ ap (λ (x : ℕ). get_or ws (k - 1) 0 ∷ drop x ws) i ∙ ap (λ (l : List ℕ). get_or ws (k - 1) 0 ∷ l) (drop-cons ws k 0 h))
-      ∙ ap (λ (x : ℕ). here || unions_have (drop x ws) q) j
+-- the pair is not that of x and y
+abbrev Differs : Proposition → ℕ → ℕ → Type 0
+Differs q x y = ((q.lhs ≡ x) × (q.rhs ≡ y → ⊥)) ⊎ (q.lhs ≡ x → ⊥)
 
-  pub union-yes : k < length ws → here ≡ true → true ≡ unions_have (drop (k - 1) ws) q
-  union-yes h e = sym (union-at h ∙ ap (λ (t : Bool). t || unions_have (drop (k + 2 - 1) ws) q) e)
+differs-no : (q : Proposition) (x y : ℕ) → Differs q x y → same_proposition q (record { lhs = x; rhs = y }) ≡ false
+differs-no q x y (inl (e, n)) = rw (ne_eqb q.rhs y n) (and-false (eqb q.lhs x))
+differs-no q x y (inr n) = rw (ne_eqb q.lhs x n)
 
-  pub union-no : k < length ws → here ≡ false → unions_have (drop (k - 1) ws) q ≡ unions_have (drop (k + 2 - 1) ws) q
-  union-no h e = union-at h ∙ ap (λ (t : Bool). t || unions_have (drop (k + 2 - 1) ws) q) e
-
-  pub union-none : length ws ≤ k → false ≡ unions_have (drop (k - 1) ws) q
-  union-none h = go (drop (k - 1) ws) (simp length-drop (omega arith))
-    where
-      go : (l : List ℕ) → length l ≤ 1 → false ≡ unions_have l q
-      go [] e = refl
-      go (x ∷ []) e = refl
-      go (x ∷ y ∷ l) e = absurd (omega arith)
+pub union-no : (ws pair us : List ℕ) (q : Proposition) → ws ≡ pair ++ us → length pair ≡ 2
+    → Differs q (get_or pair 0 0) (get_or pair 1 0) → Differs q (get_or pair 1 0) (get_or pair 0 0) → unions_have ws q ≡ unions_have us q
+union-no ws pair us q e h a b = rw (union-next ws pair us q e h, differs-no q _ _ a, differs-no q _ _ b)
 
 -- a pair of one term
 pub pair_same : {ps : List Proposition} {U m : List ℕ} → GlobalPairs ps U m → (q : Proposition) → q.lhs ≡ q.rhs → is_marked m q.lhs ≡ among q ps

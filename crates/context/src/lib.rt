@@ -52,15 +52,12 @@ fn push_union(unions: &mut [u32], count: usize, effect: Effect) -> usize
 fn has_union(unions: &[u32], q: Proposition) -> bool
     ensures { result ≡ unions_have unions.now (proposition_of q) }
 {
-    let len = unions.len();
-    let mut k = 1;
-    while k < len {
-        let a = unions[k - 1];
-        let b = unions[k];
-        if ((q.lhs == a) & (q.rhs == b)) | ((q.lhs == b) & (q.rhs == a)) {
+    for pair in unions.chunks_exact(2) {
+        let a = pair[0];
+        let b = pair[1];
+        if (q.lhs == a && q.rhs == b) || (q.lhs == b && q.rhs == a) {
             return true;
         }
-        k += 2;
     }
     false
 }
@@ -165,8 +162,7 @@ fn global_actions(
     let mut have = fill;
     let mut at = 512;
     let mut n = 0;
-    let mut i = 0;
-    while i < count {
+    for i in 0..count {
         let r = global_action(
             job, found, skinds, sends, spool, index, have, memo, marks, table, at, unions, n,
             i as u32,
@@ -177,7 +173,6 @@ fn global_actions(
         have = r.fill;
         at = r.bindings;
         n = r.unions;
-        i += 1;
     }
     Globals {
         refusal: Refusal {

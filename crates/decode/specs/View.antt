@@ -1,11 +1,7 @@
 -- What the declared types say, as the definitions have it: expressions, facts and actions are looked up by their numbers.
-<<<<<<< HEAD
 use Rattle.std.specs.Prelude as prelude
 use Rattle.std.specs.Prelude.{Some, None}
-use Rattle.std.specs.Prelude.{◌≡◌, List, ℕ, take, drop}
-=======
 use Rattle.std.specs.Prelude.{◌≡◌, ◌≢◌, List, ℕ, take, drop, max, Bool, true, false, cond}
->>>>>>> ded579339bfa4c7e9474b95c7c89085d7fd024ed
 use Rattle.std.proofs.Math.Option.{Option, none, some}
 use Rattle.model.specs.Cell.{Cell}
 use Rattle.model.specs.Term as terms

@@ -86,21 +86,18 @@ fn evaluate_arguments(
     ensures { Checks skinds.old sends.old spool.old index.old fill skinds.new sends.new spool.new index.new result.fill result.refusal (take (length (arguments_for job.now e)) values.new) memo.new (eval_fact_exprs (room_of skinds.old spool.old) (program_for job.now) rule (bindings_in bound.now pairs.now globals.now) (arguments_by (expr_for job.now) (arguments_for job.now e)) (terms_in skinds.old sends.old spool.old fill)) }
 {
     let args = arguments_at(job, wide(e));
-    let count = args.len();
     memo::new_round(memo);
     let mut have = fill;
-    let mut i = 0;
-    while i < count {
+    for (i, argument) in args.iter().enumerate() {
         let r = evaluate::eval(
             job, found, bound, pairs, globals, rule, true, skinds, sends, spool, index, have, memo,
-            args[i],
+            *argument,
         );
         if r.refusal.number != 0 {
             return r;
         }
         values[i] = r.value;
         have = r.fill;
-        i += 1;
     }
     pass(0, have)
 }

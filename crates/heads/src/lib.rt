@@ -100,8 +100,7 @@ fn head_actions(
     let mut have = fill;
     let mut seen = false;
     let mut kept = false;
-    let mut i = 0;
-    while i < actions.len() {
+    for action in actions {
         let r = process_action(
             job,
             found,
@@ -118,7 +117,7 @@ fn head_actions(
             kept,
             marking,
             marks,
-            actions[i],
+            *action,
         );
         have = r.fill;
         if r.refusal.number != 0 {
@@ -133,7 +132,6 @@ fn head_actions(
         seen = seen | has_pair(effect, q);
         kept = is_steady(effect, &table[at..], pairs, globals);
         at = push_binding(&mut table, at, effect);
-        i += 1;
     }
     Headed {
         refusal: Refusal {

@@ -1,17 +1,19 @@
 -- Laws of the rounds 6 to 9, of rising ends, of the room and of the slots.
 use Rattle.std.specs.Prelude as prelude
 use Rattle.std.specs.Prelude.{Some, None}
-use mathlib.Core.Path.{◌≡◌, refl, sym, ap, ◌∙◌}
+use mathlib.Core.Path.{◌≡◌, refl, ap, ◌∙◌}
 use mathlib.Core.Bool.{Bool, true, false, not, ◌&&◌, ◌||◌, true≢false}
 use mathlib.Core.List.{List, [], ◌∷◌}
 use mathlib.Core.Option.{Option, none, some}
-use Prim.Native.Nat.{ℕ, zero, suc, ◌+◌, ◌*◌, ◌≤◌, ◌<◌, ◌^◌}
+use Prim.Native.Nat.{ℕ, zero, suc, ◌+◌, ◌*◌, ◌/◌, ◌%◌, ◌≤◌, ◌<◌, ◌^◌}
 use native.Mathlib.Numerals.{add-one}
 use native.Mathlib.Omega.{arith}
-use native.Mathlib.Decide.{dec_lt}
+use native.Mathlib.Decide.{dec_lt, ℕ_discrete as dec_eq}
 use lib.Dec.{eqb, leb, ltb}
 use lib.ListN.{length, get_or, drop, drop_of_length-le}
-use lib.Pow.{pow_mono, pow-add}
+use native.Mathlib.Nat.{pow-suc}
+use lib.Count.{ones, ones_step}
+use Rattle.std.proofs.lemmas.Nat.{zero_from_ones, ones_le_self}
 use lib.Seq.{drop-cons}
 use borrow.Author.Tests.{eq-eqb, ne_eqb, lt-ltb, le-ltb, le-leb, lt-leb}
 use Rattle.model.specs.Layout.{Sizes, Tables, table_list}
@@ -95,25 +97,40 @@ room-cells z words l h = go (dec_lt 65536 l.kinds)
     go (yes q) = absurd (true≢false (room-many z words l q ∙ h))
     go (no q) = omega arith
 
--- doubling, try by try
-pub double-yes : (f p n : ℕ) → p ≡ n → doubles (suc f) p n ≡ true
+-- doubling, where every try is even
+doubles-half : (f p m : ℕ) → doubles f (p * 2) (m * 2) ≡ doubles f p m
 unfolding doubles
-double-yes f p n e = rw (doubles, eq-eqb p n e)
+doubles-half zero p m = refl
+doubles-half (suc f) p m = elim (dec_eq p m) [
+  | yes e ↦ rw (doubles, eq-eqb p m e, eq-eqb (p * 2) (m * 2) (omega arith))
+  | no e ↦ rw (doubles, ne_eqb p m e, ne_eqb (p * 2) (m * 2) (λ q. e (omega arith))) (doubles-half f (p * 2) m)
+]
 
-pub double-no : (f p n : ℕ) → (p ≡ n → ⊥) → doubles (suc f) p n ≡ doubles f (p * 2) n
+doubles-odd : (f p m : ℕ) → doubles f (p * 2) (m * 2 + 1) ≡ false
 unfolding doubles
-double-no f p n d = rw (doubles, ne_eqb p n d)
+doubles-odd zero p m = refl
+doubles-odd (suc f) p m = rw (doubles, ne_eqb (p * 2) (m * 2 + 1) (λ q. omega arith)) (doubles-odd f (p * 2) m)
 
-pub double-last : (p n : ℕ) → eqb p n ≡ doubles 1 p n
+-- a power of two has one digit that is set
+pub power-ones : (f n : ℕ) → n < 2 ^ f → doubles f 1 n ≡ eqb (ones n) 1
 unfolding doubles
-double-last p n = go (eqb p n)
+power-ones zero n h = rw (doubles, ne_eqb (ones n) 1 (λ q. omega (arith, ones_le_self n)))
+power-ones (suc f) n h = go (power-ones f (n / 2)) (dec_eq 1 n) (dec_eq (n % 2) 0)
   where
-    go : (t : Bool) → t ≡ elim t [ true ↦ true | false ↦ false ]
-    go true = refl
-    go false = refl
+    step : ones n ≡ n % 2 + ones (n / 2)
+    step = ones_step n
 
-pub double-fits : (k : ℕ) → k < 63 → 2 ^ k * 2 < 2 ^ 64
-double-fits k h = let q : k ≤ 62 = omega arith in omega (arith, pow_mono q)
+    half : n / 2 < 2 ^ f
+    half = omega (arith, pow-suc 2 f)
 
-pub double-pow : (k : ℕ) → 2 ^ k * 2 ≡ 2 ^ (k + 1)
-double-pow k = sym (pow-add 2 k 1)
+    even : n % 2 ≡ 0 → n ≡ n / 2 * 2
+    even e = omega arith
+
+    go : (n / 2 < 2 ^ f → doubles f 1 (n / 2) ≡ eqb (ones (n / 2)) 1) → Dec (1 ≡ n) → Dec (n % 2 ≡ 0) → doubles (suc f) 1 n ≡ eqb (ones n) 1
+    go less (yes e) d = rw (doubles, eq-eqb 1 n e, eq-eqb (ones n) 1 (omega (arith, step, ones_le_self (n / 2))))
+    go less (no e) (yes d) =
+        rw (doubles, ne_eqb 1 n e) (ap (doubles f 2) (even d) ∙ doubles-half f 1 (n / 2) ∙ less half ∙ ap (λ (k : ℕ). eqb k 1) (omega (arith, step)))
+    go less (no e) (no d) =
+        let odd : n ≡ n / 2 * 2 + 1 = omega arith in
+        let rest : ones (n / 2) ≡ 0 → ⊥ = λ z. let q : n / 2 ≡ 0 = zero_from_ones (n / 2) z in e (omega arith) in
+        rw (doubles, ne_eqb 1 n e, ne_eqb (ones n) 1 (λ q. rest (omega (arith, step)))) (ap (doubles f 2) odd ∙ doubles-odd f 1 (n / 2))

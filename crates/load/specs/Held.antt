@@ -186,7 +186,3 @@ cell_tests E z t lent =
 -- The first refusal of these.
 unfoldable pub cell_refusal : List ℕ → Sizes → Tables → Lent → Option Refusal
 cell_refusal E z t lent = first_refusal (cell_tests E z t lent)
-
--- The word of the four bytes from i on, the lowest first.
-abbrev pub word_from : List ℕ → ℕ → ℕ
-word_from bs i = get_or bs i 0 + 256 * get_or bs (i + 1) 0 + (65536 * get_or bs (i + 2) 0 + 16777216 * get_or bs (i + 3) 0)

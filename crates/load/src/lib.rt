@@ -8,7 +8,7 @@ pub mod tables;
 ghost use Rattle.std.specs.Prelude.{◌≡◌, OnOk, true, false, ℕ, ◌+◌, ◌≤◌, ◌<◌, length};
 ghost use Rattle.model.specs.Cell.{cells_of};
 ghost use Rattle.model.specs.Layout.{sizes_of, kinds_of, ends_of, pool_of};
-ghost use Rattle.model.specs.Load.{ends_rise, is_power, wrong_slots, first_refusal, load_refusal};
+ghost use Rattle.model.specs.Load.{ends_rise, wrong_slots, first_refusal, load_refusal};
 ghost use Rattle.index.specs.Listing.{Lists};
 ghost use Rattle.load.specs.Held.{sizes_in, Limits, Held, Distinct, Fills, tables_for, refusal_of, writer_tests, room_lacks, Cut, cell_refusal};
 
@@ -29,14 +29,12 @@ pub fn ends_rise(ends: &[u32], pool: usize) -> bool
     ensures { result ≡ ends_rise 0 ends.now pool }
 {
     let mut start = 0;
-    let mut i = 0;
-    while i < ends.len() {
-        let e = wide(ends[i]);
+    for end in ends {
+        let e = wide(*end);
         if e < start {
             return false;
         }
         start = e;
-        i += 1;
     }
     start == pool
 }
@@ -55,8 +53,7 @@ pub fn writer_refusal(
     ensures { refusal_of result ≡ first_refusal (writer_tests (sizes_in z) (tables_for kinds.now ends.now pool.now z)) }
 {
     let sound = passing_terms(kinds, ends, pool, z);
-    let mut round: u32 = 0;
-    while round < 4 {
+    for round in 0..4u32 {
         let f = first_marked(
             kinds,
             ends,
@@ -70,7 +67,6 @@ pub fn writer_refusal(
         if let Some(cell) = f {
             return Err(Rejection::Writer(6 + round, cell));
         }
-        round += 1;
     }
     Ok(())
 }
@@ -97,31 +93,12 @@ pub fn no_room(
         | (scratch < 2 * (kinds + z.proofs))
 }
 
-// n is a power of two.
-fn power(n: usize) -> bool
-    ensures { result ≡ is_power n }
-{
-    let mut p: usize = 1;
-    let mut k: usize = 0;
-    while k < 63 {
-        if p == n {
-            return true;
-        }
-        p = p * 2;
-        k += 1;
-    }
-    p == n
-}
-
 // 12: fewer than two slots for each cell of the store, or a slot count that is no power of two.
 pub fn wrong_slots(slots: usize, cells: usize) -> bool
     requires { cells ≤ 65536 }
     ensures { (ends pool scratch : ℕ) → result ≡ wrong_slots (record { kinds = cells; ends = ends; pool = pool; index = slots; scratch = scratch }) }
 {
-    if slots < 2 * cells {
-        return true;
-    }
-    !power(slots)
+    slots < 2 * cells || !slots.is_power_of_two()
 }
 
 // How many terms, from the first on, are known to differ: those that the index lists, or none where it has too few slots.

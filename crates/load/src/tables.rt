@@ -207,8 +207,7 @@ pub fn is_first(
     let f = fill(z);
     let at = first + i;
     let kind = kinds[at];
-    let mut j = 0;
-    while j < i {
+    for j in 0..i {
         let k = first + j;
         if alike(
             table,
@@ -219,7 +218,6 @@ pub fn is_first(
         ) {
             return false;
         }
-        j += 1;
     }
     true
 }
@@ -314,15 +312,13 @@ pub fn passing_terms(kinds: &[u32], ends: &[u32], pool: &[u32], z: Sizes) -> usi
     ensures { Sound kinds.now ends.now pool.now z result }
 {
     let f = fill(z);
-    let mut i = 0;
-    while i < z.terms {
+    for i in 0..z.terms {
         let ws = words(kinds, ends, pool, f, i);
         if !term_passes(i, kinds[i], ws) {
             return i;
         }
-        i += 1;
     }
-    i
+    z.terms
 }
 
 // How many rows or normalisers, from the first on, are known to pass 9, by chains of their keys with the multiplier x: none where there are few, as is_first is quicker then.
@@ -419,14 +415,13 @@ pub fn first_failing(
     requires sound { Sound kinds.now ends.now pool.now z sound }
     ensures { result ≡ first_found first (fails_from 0 (get_or (tests_for round (sizes_in z) (tables_for kinds.now ends.now pool.now z)) table passed) (get_or (table_list (tables_for kinds.now ends.now pool.now z)) table [])) }
 {
-    let mut i = passed_first(
+    let passed = passed_first(
         kinds, ends, pool, z, distinct, sound, multiplier, round, table, first, count,
     );
-    while i < count {
+    for i in passed..count {
         if !passes(kinds, ends, pool, z, round, table, first, i) {
             return Some(first + i);
         }
-        i += 1;
     }
     None
 }
@@ -449,9 +444,8 @@ pub fn first_marked(
 {
     let ns = counts(z);
     let mut first = 0;
-    let mut table = 0;
-    while table < 10 {
-        let n = ns[table];
+    for (table, count) in ns.iter().enumerate() {
+        let n = *count;
         let f = first_failing(
             kinds, ends, pool, z, distinct, sound, multiplier, round, table, first, n,
         );
@@ -459,7 +453,6 @@ pub fn first_marked(
             return f;
         }
         first += n;
-        table += 1;
     }
     None
 }

@@ -51,14 +51,12 @@ fn first_named(job: &[u32], table: usize, count: usize, name: u32) -> Option<usi
     let all_ends = ends(job, n);
     let all_words = pool(job, n);
     let mut from = cells::start(all_ends, start);
-    let mut i = 0;
-    while i < count {
+    for i in 0..count {
         let to = wide(all_ends[start + i]);
         if at(&all_words[from..to], 0) == name {
             return Some(i);
         }
         from = to;
-        i += 1;
     }
     None
 }
@@ -181,15 +179,13 @@ fn scan_rows(job: &[u32], p: u32, args: &[u32]) -> Option<u32>
 {
     let count = size(job, ROWS);
     let start = first(job, ROWS);
-    let mut i = 0;
-    while i < count {
+    for i in 0..count {
         let ws = cell_words(job, start + i);
         let row = read_row(ws);
         let same = same_words(row_arguments(ws), args);
         if (row.primitive == p) & same {
             return Some(row.result);
         }
-        i += 1;
     }
     None
 }
@@ -254,14 +250,12 @@ fn scan_rule_names(job: &[u32]) -> Option<u32>
     ensures { option_of result ≡ duplicate_rule_name [] (program_for job.now).rules }
 {
     let count = size(job, RULES);
-    let mut i = 0;
-    while i < count {
+    for i in 0..count {
         let name = rule_name(words_at(job, RULES, i));
         let seen = first_named(job, RULES, i, name);
         if let Some(_) = seen {
             return Some(name);
         }
-        i += 1;
     }
     None
 }

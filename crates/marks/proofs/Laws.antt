@@ -4,30 +4,16 @@ use native.Mathlib.Omega.{arith}
 use native.Mathlib.Nat.{not-suc-le-zero}
 use native.Mathlib.Numerals.{add-one}
 use mathlib.Core.Path.{◌≡◌, refl, sym, ap, ◌∙◌}
-use mathlib.Core.List.{List, ◌∷◌, ◌++◌, append-nil}
+use mathlib.Core.List.{List}
 use mathlib.Core.Bool.{Bool, true, false, not}
-use lib.ListN.{length, get_or, drop, set, length-replicate, drop_of_length-le}
-use lib.Seq.{drop-cons, set_at}
+use lib.ListN.{length, get_or, drop, drop_of_length-le}
+use lib.Seq.{drop-cons}
 use borrow.Author.Tests.{not-true, not-false}
 use Rattle.model.specs.Term.{Term, get_term}
 use Rattle.model.specs.Evaluate.{children}
-use Rattle.marks.specs.Marks.{zeros, is_marked, with_mark, mark_all, close_at, close}
+use Rattle.marks.specs.Marks.{is_marked, with_mark, mark_all, close_at, close}
 use Rattle.marks.proofs.Bits.{Bare}
 use Rattle.marks.proofs.Closing.{at_length}
-
--- words set to 0 up to i
-zeros-more : (n : ℕ) (ws : List ℕ) → zeros n ++ (0 ∷ ws) ≡ zeros (suc n) ++ ws
-zeros-more zero ws = refl
-zeros-more (suc n) ws = ap {B = List ℕ} (λ (l : List ℕ). 0 ∷ l) (zeros-more n ws)
-
-pub clear_step : (m m₀ : List ℕ) (i : ℕ) → i < length m₀ → m ≡ zeros i ++ drop i m₀ → set m i 0 ≡ zeros (i + 1) ++ drop (i + 1) m₀
-clear_step m m₀ i h e =
-    ap (λ (l : List ℕ). set l i 0) (e ∙ ap (λ (l : List ℕ). zeros i ++ l) (drop-cons m₀ i 0 h))
-    ∙ set_at (zeros i) (get_or m₀ i 0) (drop (suc i) m₀) 0 i (length-replicate i 0)
-    ∙ rw (add-one i) (zeros-more i (drop (suc i) m₀))
-
-pub clear-end : (m m₀ : List ℕ) (i : ℕ) → i ≡ length m₀ → m ≡ zeros i ++ drop i m₀ → m ≡ zeros (length m₀)
-clear-end m m₀ i q e = e ∙ rw (drop_of_length-le m₀ {i = i} (omega arith)) (append-nil (zeros i)) ∙ ap zeros q
 
 -- terms marked one by one
 pub all-step : (xs m : List ℕ) (j : ℕ) → j < length xs → mark_all (drop j xs) m ≡ mark_all (drop (j + 1) xs) (with_mark m (get_or xs j 0))

@@ -20,11 +20,7 @@ pub fn words_for(terms: usize) -> usize
 pub fn clear(marks: &mut [u32])
     ensures { marks.new ≡ zeros (length marks.old) }
 {
-    let mut i = 0;
-    while i < marks.len() {
-        marks[i] = 0;
-        i += 1;
-    }
+    marks.fill(0)
 }
 
 // A term is marked; past the end none is.
@@ -53,10 +49,8 @@ pub fn mark(marks: &mut [u32], t: u32)
 pub fn mark_all(marks: &mut [u32], xs: &[u32])
     ensures { marks.new ≡ mark_all xs.now marks.old }
 {
-    let mut j = 0;
-    while j < xs.len() {
-        mark(marks, xs[j]);
-        j += 1;
+    for x in xs {
+        mark(marks, *x);
     }
 }
 
@@ -94,6 +88,7 @@ pub fn close(kinds: &[u32], ends: &[u32], pool: &[u32], fill: Fill, marks: &mut 
     ensures { marks.new ≡ close (terms_in kinds.now ends.now pool.now fill) fill.cells marks.old }
 {
     let mut i = fill.cells;
+    // a `for` would be no plainer: it goes by 1 or by 32
     while 0 < i {
         if is_bare(marks, i) {
             i -= 32;

@@ -42,12 +42,7 @@ pub fn put_value(memo: &mut [u32], e: usize, t: u32)
 fn clear(memo: &mut [u32])
     ensures { memo.new ≡ replicate (length memo.old) 0 }
 {
-    let len = memo.len();
-    let mut i = 0;
-    while i < len {
-        memo[i] = 0;
-        i += 1;
-    }
+    memo.fill(0)
 }
 
 // Sets the round.

@@ -141,14 +141,12 @@ fn first_offence(job: &[u32], found: &[u32], e: usize) -> u32
 {
     let h = head_at(job, e);
     let args = arguments_at(job, e);
-    let mut k = 0;
-    while k < args.len() {
-        let j = args[k];
+    for argument in args {
+        let j = *argument;
         let w = first_of(argument_offence(job, h, j), found[wide(j)] / 2);
         if w != 0 {
             return w;
         }
-        k += 1;
     }
     0
 }
@@ -179,12 +177,9 @@ pub fn find_offences(job: &[u32], found: &mut [u32])
     requires job_in_bounds { (sizes_of job.now).expressions ≤ length found.old }
     ensures { Searched job.now found.new }
 {
-    let count = size(job, EXPRESSIONS);
-    let mut e = 0;
-    while e < count {
+    for e in 0..size(job, EXPRESSIONS) {
         let offence = first_offence(job, found, e);
         found[e] = word_of(offence, is_container_primitive(job, e));
-        e += 1;
     }
 }
 

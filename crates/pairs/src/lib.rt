@@ -21,9 +21,7 @@ pub fn mark_values(memo: &[u32], n: usize, marks: &mut [u32])
     requires { n + n < length memo.now }
     ensures { marks.new ≡ mark_values memo.now n marks.old }
 {
-    let mut k = 0;
-    while k < n {
+    for k in 0..n {
         mark_value(memo, k, marks);
-        k += 1;
     }
 }

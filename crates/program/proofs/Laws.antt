@@ -3,9 +3,9 @@ use Rattle.std.specs.Prelude as prelude
 use Rattle.std.specs.Prelude.{Some}
 use mathlib.Core.Path.{◌≡◌, refl, sym, ap, ◌∙◌}
 use mathlib.Core.Bool.{Bool, true, ◌&&◌}
-use mathlib.Core.List.{List, [], ◌∷◌, map}
+use mathlib.Core.List.{List, [], ◌∷◌, ◌++◌, map}
 use mathlib.Core.Option.{none, some}
-use Prim.Native.Nat.{ℕ, zero, suc, ◌+◌, ◌-◌, ◌≤◌, ◌<◌}
+use Prim.Native.Nat.{ℕ, zero, suc, ◌≤◌, ◌<◌}
 use native.Mathlib.Omega.{arith}
 use lib.Dec.{eqb, leb, ltb, lit<}
 use lib.ListN.{length, get_or, take, drop, length-take}
@@ -22,20 +22,17 @@ use Rattle.cells.proofs.Laws.{cells-length}
 use Rattle.decode.specs.View as view
 use Rattle.decode.specs.View.{function_of}
 use Rattle.decode.specs.declared.Function.{Function as FunctionView}
-use Rattle.cell_tests.proofs.Laws.{pair-at, pairs_end}
+use Rattle.cell_tests.proofs.Laws.{pair-next}
 use Rattle.load.proofs.TableLaws.{table-length}
 use Rattle.program.specs.Ready.{Ready, cells_for, tables_for, table_for, count_for, first_named}
 
 -- one pair after another
-module _ (ws : List ℕ) (k : ℕ) (p : 1 ≤ k) (x : ℕ) where
-  pub pair-yes : k < length ws → get_or ws (k - 1) 0 ≡ x → some (get_or ws k 0) ≡ lookup (read_bindings (drop (k - 1) ws)) x
-  pair-yes h e = rw (pair-at ws k p h, lookup, eq-eqb (get_or ws (k - 1) 0) x e)
+module _ (ws pair us : List ℕ) (x : ℕ) (e : ws ≡ pair ++ us) (h : length pair ≡ 2) where
+  pub pair-yes : get_or pair 0 0 ≡ x → some (get_or pair 1 0) ≡ lookup (read_bindings ws) x
+  pair-yes q = rw (pair-next ws pair us e h, lookup, eq-eqb (get_or pair 0 0) x q)
 
-  pub pair-no : k < length ws → (get_or ws (k - 1) 0 ≡ x → ⊥) → lookup (read_bindings (drop (k - 1) ws)) x ≡ lookup (read_bindings (drop (k + 2 - 1) ws)) x
-  pair-no h e = rw (pair-at ws k p h, lookup, ne_eqb (get_or ws (k - 1) 0) x e)
-
-  pub pair-none : length ws ≤ k → none ≡ lookup (read_bindings (drop (k - 1) ws)) x
-  pair-none h = rw (pairs_end ws k p h)
+  pub pair-no : (get_or pair 0 0 ≡ x → ⊥) → lookup (read_bindings ws) x ≡ lookup (read_bindings us) x
+  pair-no q = rw (pair-next ws pair us e h, lookup, ne_eqb (get_or pair 0 0) x q)
 
 -- the tables of a program
 abbrev pub rule_for : Tables → Cell → Rule

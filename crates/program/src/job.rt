@@ -55,11 +55,9 @@ pub fn first(job: &[u32], table: usize) -> usize
     requires table_bound { table < 10 }
     ensures { result ≡ cell_number (sizes_of job.now) table }
 {
-    let mut sum = 0usize;
-    let mut k = 0usize;
-    while k < table {
+    let mut sum = 0;
+    for k in 0..table {
         sum += size(job, k);
-        k += 1;
     }
     sum
 }
@@ -93,9 +91,7 @@ fn first_behind(job: &[u32], table: usize) -> usize
 {
     let f = fill(job);
     let mut left = f.cells;
-    let mut k = 10usize;
-    while table < k {
-        k -= 1;
+    for k in (table..10).rev() {
         left -= size(job, k);
     }
     left

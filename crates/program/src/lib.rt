@@ -18,13 +18,10 @@ use decode::{Primitive, read_primitive};
 pub fn lookup_pairs(ws: &[u32], name: u32) -> Option<u32>
     ensures { option_of result ≡ lookup (read_bindings ws.now) name }
 {
-    let len = ws.len();
-    let mut k = 1;
-    while k < len {
-        if ws[k - 1] == name {
-            return Some(ws[k]);
+    for pair in ws.chunks_exact(2) {
+        if pair[0] == name {
+            return Some(pair[1]);
         }
-        k += 2;
     }
     None
 }

@@ -43,12 +43,6 @@ shape_of-unions-then-r-ne0 c = c.global_action-r.auto.unions ∙ c.loop-i.invari
 pub returns-then-r-ne0 : goal.returns-then-r-ne0
 returns-then-r-ne0 c = let a = c.args in stops a.job.now a.found.now c.loop-i.invariant (omega (arith, c.loop-i-test.true, c.globals-count.ensures)) c.global_action-r.ensures c.requires.standing.ready.held.limits c.if-r-ne0.true
 
-pub overflow_add-i : goal.overflow_add-i
-overflow_add-i c = let w = c.requires.standing.ready.held.limits.globals in let h = c.loop-i-test.true in omega arith
-
-pub loop-i-smaller : goal.loop-i-smaller
-loop-i-smaller c = let h = c.loop-i-test.true in omega arith
-
 pub loop-i-preserved : goal.loop-i-preserved
 loop-i-preserved c = let a = c.args in turns a.job.now a.found.now c.loop-i.invariant (omega (arith, c.loop-i-test.true, c.globals-count.ensures)) c.global_action-r.ensures c.if-r-ne0.false c.global_action-r.auto.memo c.global_action-r.auto.marks c.global_action-r.auto.table c.global_action-r.auto.unions
 

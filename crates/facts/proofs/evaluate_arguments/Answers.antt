@@ -37,19 +37,13 @@ pub shape_of-values-then-r-ne0 : goal.shape_of-values-then-r-ne0
 shape_of-values-then-r-ne0 c = c.loop-i.invariant.len_v
 
 pub returns-then-r-ne0 : goal.returns-then-r-ne0
-returns-then-r-ne0 c = let a = c.args in let p = c.requires in arguments-stop a.job.now a.rule (bindings_in a.bound.now a.pairs.now a.globals.now) c.loop-i.invariant c.loop-i-test.true c.eval-r.ensures _ c.if-r-ne0.true
-
-pub offset_bounds-values-i : goal.offset_bounds-values-i
-offset_bounds-values-i c = let i = c.loop-i-test.true in let f = c.arguments_at-args.ensures.few in record { fits = omega arith }
+returns-then-r-ne0 c = let a = c.args in let p = c.requires in arguments-stop a.job.now a.rule (bindings_in a.bound.now a.pairs.now a.globals.now) c.loop-i.invariant (omega arith) c.eval-r.ensures _ c.if-r-ne0.true
 
 pub bounds-values-i : goal.bounds-values-i
-bounds-values-i c = let f = c.arguments_at-args.ensures.few in let v = c.loop-i.invariant.len_v in let t = c.loop-i-test.true in let h = c.requires.in_bounds in omega arith
-
-pub overflow_add-i : goal.overflow_add-i
-overflow_add-i c = let i = c.loop-i-test.true in let f = c.arguments_at-args.ensures.few in record { fits = omega arith }
+bounds-values-i c = let f = c.arguments_at-args.ensures.few in let v = c.loop-i.invariant.len_v in let h = c.requires.in_bounds in omega arith
 
 pub loop-i-preserved : goal.loop-i-preserved
-loop-i-preserved c = let a = c.args in let p = c.requires in arguments-turn a.job.now a.rule (bindings_in a.bound.now a.pairs.now a.globals.now) c.loop-i.invariant c.loop-i-test.true c.eval-r.ensures (let f = c.arguments_at-args.ensures.few in let v = c.loop-i.invariant.len_v in let t = c.loop-i-test.true in let h = p.in_bounds in omega arith) c.eval-r.auto.memo c.if-r-ne0.false
+loop-i-preserved c = let a = c.args in let p = c.requires in arguments-turn a.job.now a.rule (bindings_in a.bound.now a.pairs.now a.globals.now) c.loop-i.invariant (omega arith) c.eval-r.ensures (let f = c.arguments_at-args.ensures.few in let v = c.loop-i.invariant.len_v in let h = p.in_bounds in omega arith) c.eval-r.auto.memo c.if-r-ne0.false
 
 pub shape_of-skinds : goal.shape_of-skinds
 shape_of-skinds c = c.loop-i.invariant.run.grown.len_k
@@ -70,4 +64,4 @@ pub shape_of-values : goal.shape_of-values
 shape_of-values c = c.loop-i.invariant.len_v
 
 pub returns : goal.returns
-returns c = let a = c.args in let p = c.requires in arguments-done a.job.now a.rule (bindings_in a.bound.now a.pairs.now a.globals.now) c.loop-i.invariant (c.arguments_at-args.ensures.is ∙ ap (arguments_for a.job.now) c.wide.ensures) c.loop-i-test.false c.pass.ensures
+returns c = let a = c.args in let p = c.requires in arguments-done a.job.now a.rule (bindings_in a.bound.now a.pairs.now a.globals.now) c.loop-i.invariant (c.arguments_at-args.ensures.is ∙ ap (arguments_for a.job.now) c.wide.ensures) (omega arith) c.pass.ensures

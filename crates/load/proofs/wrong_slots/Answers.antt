@@ -1,11 +1,10 @@
-use mathlib.Core.Path.{ap}
+use mathlib.Core.Path.{ap, sym, ◌∙◌}
 use mathlib.Core.Bool.{not}
 use Prim.Native.Nat.{◌*◌}
-use borrow.Author.Tests.{lt-ltb, le-ltb}
+use borrow.Author.Tests.{le-ltb}
+use Rattle.load.proofs.Rounds.{power-ones}
 use Rattle.load.proofs.wrong_slots.Goals as goal
 
-pub returns-then-slots-cells : goal.returns-then-slots-cells
-returns-then-slots-cells c = let a = c.args in λ ends pool scratch. rw (lt-ltb a.slots (2 * a.cells) c.if-slots-cells.true)
-
-pub returns : goal.returns
-returns c = let a = c.args in λ ends pool scratch. rw (le-ltb a.slots (2 * a.cells) c.if-slots-cells.false) (ap not c.power.ensures)
+pub returns-else-slots-cells : goal.returns-else-slots-cells
+returns-else-slots-cells c = let a = c.args in
+    λ ends pool scratch. rw (le-ltb a.slots (2 * a.cells) c.if-slots-cells.false) (ap not (c.is_power_of_two.ensures ∙ sym (power-ones 64 a.slots c.ranges.slots.fits)))

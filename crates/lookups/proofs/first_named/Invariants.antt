@@ -1,6 +1,6 @@
 use mathlib.Core.Path.{◌≡◌}
 use mathlib.Core.List.{map}
-use Prim.Native.Nat.{◌+◌, ◌-◌, ◌≤◌}
+use Prim.Native.Nat.{◌+◌}
 use lib.Dec.{eqb}
 use lib.ListN.{take, drop}
 use Rattle.model.specs.Cell.{start_of}
@@ -11,8 +11,5 @@ use Rattle.program.specs.Ready.{table_for, first_named}
 use Rattle.lookups.proofs.first_named.Given as goal
 
 abbrev pub invariant-loop-i : goal.invariant-loop-i
-invariant-loop-i l = (l.i ≤ l.count) × (l.from ≡ start_of (ends_of l.job) (l.start + l.i)) × (first_named (take l.count (table_for l.job l.table)) l.name
+invariant-loop-i l = (l.from ≡ start_of (ends_of l.job) (l.start + l.i)) × (first_named (take l.count (table_for l.job l.table)) l.name
     ≡ first_found l.i (map (λ c. eqb (word c 0) l.name) (drop l.i (take l.count (table_for l.job l.table)))))
-
-abbrev pub decreases-loop-i : goal.decreases-loop-i
-decreases-loop-i l = l.count - l.i

@@ -16,7 +16,7 @@ use Rattle.lookups.proofs.scan_rows.Goals as goal
 
 pub loop-i-init : goal.loop-i-init
 loop-i-init c = let a = c.args in
-    (omega arith, ap (λ rs. row_value rs a.p a.args.now) (rows-read (sizes_of a.job.now).globals (tables_for a.job.now)))
+    ap (λ rs. row_value rs a.p a.args.now) (rows-read (sizes_of a.job.now).globals (tables_for a.job.now))
 
 pub overflow_add-start : goal.overflow_add-start
 overflow_add-start c = omega (arith, inside c.args.job.now 6 (lit< tt) c.loop-i.i (omega (arith, c.size-count.ensures)), c.first-start.ensures, c.requires.held.long)
@@ -41,7 +41,7 @@ returns-then-row-p c = let a = c.args in
     let words = words-in J 6 (lit< tt) l.i (omega (arith, c.size-count.ensures)) c.first-start.ensures c.cell_words-ws.ensures in
     let test = row-test (get_or t l.i no_cell) c.read_row-row.result a.p a.args.now words c.read_row-row.ensures c.row_arguments.ensures c.same_words-same.ensures in
     ap (λ (r : Row). some r.result) c.read_row-row.ensures ∙ ap (λ us. some (get_or us 1 0)) words
-    ∙ look-yes (row-looks a.p a.args.now) t l.i (omega (arith, c.size-count.ensures)) (test ∙ c.if-row-p.true) ∙ sym l.invariant.1
+    ∙ look-yes (row-looks a.p a.args.now) t l.i (omega (arith, c.size-count.ensures)) (test ∙ c.if-row-p.true) ∙ sym l.invariant
 
 pub loop-i-preserved : goal.loop-i-preserved
 loop-i-preserved c = let a = c.args in
@@ -51,11 +51,11 @@ loop-i-preserved c = let a = c.args in
     let l = c.loop-i in
     let words = words-in J 6 (lit< tt) l.i (omega (arith, c.size-count.ensures)) c.first-start.ensures c.cell_words-ws.ensures in
     let test = row-test (get_or t l.i no_cell) c.read_row-row.result a.p a.args.now words c.read_row-row.ensures c.row_arguments.ensures c.same_words-same.ensures in
-    (omega arith, l.invariant.1 ∙ look-no (row-looks a.p a.args.now) t l.i (omega (arith, c.size-count.ensures)) (test ∙ c.if-row-p.false))
+    l.invariant ∙ look-no (row-looks a.p a.args.now) t l.i (omega (arith, c.size-count.ensures)) (test ∙ c.if-row-p.false)
 
 pub returns : goal.returns
 returns c = let a = c.args in
     let J = a.job.now in
     let long = table-long J 6 (lit< tt) in
     let l = c.loop-i in
-    look-end (row-looks a.p a.args.now) (tables_for J).rows l.i (omega (arith, c.size-count.ensures)) ∙ sym l.invariant.1
+    look-end (row-looks a.p a.args.now) (tables_for J).rows l.i (omega (arith, c.size-count.ensures)) ∙ sym l.invariant

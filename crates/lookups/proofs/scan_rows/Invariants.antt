@@ -1,6 +1,5 @@
 use mathlib.Core.Path.{◌≡◌}
 use mathlib.Core.List.{map}
-use Prim.Native.Nat.{◌-◌, ◌≤◌}
 use lib.ListN.{drop}
 use Rattle.model.specs.Decode.{read_row}
 use Rattle.model.specs.Evaluate.{row_value}
@@ -8,7 +7,4 @@ use Rattle.program.specs.Ready.{tables_for, program_for}
 use Rattle.lookups.proofs.scan_rows.Given as goal
 
 abbrev pub invariant-loop-i : goal.invariant-loop-i
-invariant-loop-i l = (l.i ≤ l.count) × (row_value (program_for l.job).rows l.p l.args ≡ row_value (map read_row (drop l.i (tables_for l.job).rows)) l.p l.args)
-
-abbrev pub decreases-loop-i : goal.decreases-loop-i
-decreases-loop-i l = l.count - l.i
+invariant-loop-i l = (row_value (program_for l.job).rows l.p l.args ≡ row_value (map read_row (drop l.i (tables_for l.job).rows)) l.p l.args)

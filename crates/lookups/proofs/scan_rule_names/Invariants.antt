@@ -1,6 +1,5 @@
 use mathlib.Core.Path.{◌≡◌}
 use mathlib.Core.List.{[], map}
-use Prim.Native.Nat.{◌-◌, ◌≤◌}
 use lib.ListN.{drop}
 use Rattle.model.specs.Walk.{duplicate_rule_name}
 use Rattle.program.specs.Ready.{tables_for, program_for}
@@ -9,8 +8,5 @@ use Rattle.lookups.proofs.Laws.{seen}
 use Rattle.lookups.proofs.scan_rule_names.Given as goal
 
 abbrev pub invariant-loop-i : goal.invariant-loop-i
-invariant-loop-i l = (l.i ≤ l.count) × (duplicate_rule_name [] (program_for l.job).rules
+invariant-loop-i l = (duplicate_rule_name [] (program_for l.job).rules
     ≡ duplicate_rule_name (seen (tables_for l.job).rules l.i) (map (rule_for (tables_for l.job)) (drop l.i (tables_for l.job).rules)))
-
-abbrev pub decreases-loop-i : goal.decreases-loop-i
-decreases-loop-i l = l.count - l.i

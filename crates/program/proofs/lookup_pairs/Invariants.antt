@@ -1,12 +1,8 @@
 use mathlib.Core.Path.{◌≡◌}
-use Prim.Native.Nat.{◌+◌, ◌-◌, ◌≤◌}
-use lib.ListN.{length, drop}
+use Rattle.std.specs.Slice.Iter.{chunks_exact_rest, chunks_exact_size}
 use Rattle.model.specs.Decode.{read_bindings}
 use Rattle.model.specs.Evaluate.{lookup}
 use Rattle.program.proofs.lookup_pairs.Given as goal
 
-abbrev pub invariant-loop-k : goal.invariant-loop-k
-invariant-loop-k l = (1 ≤ l.k) × (l.k ≤ length l.ws + 1) × (lookup (read_bindings l.ws) l.name ≡ lookup (read_bindings (drop (l.k - 1) l.ws)) l.name)
-
-abbrev pub decreases-loop-k : goal.decreases-loop-k
-decreases-loop-k l = length l.ws + 1 - l.k
+abbrev pub invariant-loop-pair : goal.invariant-loop-pair
+invariant-loop-pair l = (chunks_exact_size l.pair-iterator ≡ 2) × (lookup (read_bindings l.ws) l.name ≡ lookup (read_bindings (chunks_exact_rest l.pair-iterator)) l.name)

@@ -1,12 +1,10 @@
-use mathlib.Core.Path.{◌≡◌}
-use Prim.Native.Nat.{◌≤◌, ◌-◌, ◌+◌}
-use lib.ListN.{length, drop}
+use Rattle.std.proofs.Common.{◌≡◌, length}
 use Rattle.model.specs.Decode.{read_bindings}
 use Rattle.model.specs.Load.{binds_once}
 use Rattle.cell_tests.proofs.once.binds_once.Given as goal
 
-abbrev pub invariant-loop-k : goal.invariant-loop-k
-invariant-loop-k l = (1 ≤ l.k) × (l.k ≤ length l.ws + 1) × (binds_once (read_bindings l.ws) ≡ binds_once (read_bindings (drop (l.k - 1) l.ws)))
+abbrev pub invariant-loop-left : goal.invariant-loop-left
+invariant-loop-left l = binds_once (read_bindings l.ws) ≡ binds_once (read_bindings l.left)
 
-abbrev pub decreases-loop-k : goal.decreases-loop-k
-decreases-loop-k l = length l.ws + 1 - l.k
+abbrev pub decreases-loop-left : goal.decreases-loop-left
+decreases-loop-left l = length l.left

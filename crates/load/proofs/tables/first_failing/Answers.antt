@@ -23,10 +23,8 @@ loop-i-init c = let s = c in
     let t = get_or (table_list (tables_for K E P a.z)) a.table [] in
     let f = get_or (tests_for a.round z (tables_for K E P a.z)) a.table passed in
     let long : length cs ≡ n = cells-length K E P n in
-    let size : length t ≡ get_or (counts_of z) a.table 0 = table-length z cs long a.table s.requires.table_bound in (
-      omega (arith, c.passed_first-i.ensures.few, s.requires.count_value),
-      found-past f t a.first c.passed_first-i.result (omega (arith, c.passed_first-i.ensures.few)) (λ i h. c.passed_first-i.ensures.pass i h ∙ ap (f i) (sym (table-cell z cs long a.table s.requires.table_bound i (omega (arith, c.passed_first-i.ensures.few))))),
-    )
+    let size : length t ≡ get_or (counts_of z) a.table 0 = table-length z cs long a.table s.requires.table_bound in
+    found-past f t a.first c.passed_first-passed.result (omega (arith, c.passed_first-passed.ensures.few)) (λ i h. c.passed_first-passed.ensures.pass i h ∙ ap (f i) (sym (table-cell z cs long a.table s.requires.table_bound i (omega (arith, c.passed_first-passed.ensures.few)))))
 
 pub passes-requires : goal.passes-requires
 passes-requires c = let s = c in record { held = s.requires.held; place = record { table = s.requires.table_bound; first = s.requires.first_value; inside = omega (arith, s.requires.count_value) } }
@@ -47,7 +45,7 @@ returns-then-not-passes c = let s = c in
     let size : length t ≡ a.count = table-length z cs long a.table s.requires.table_bound ∙ sym s.requires.count_value in
     let same : get_or t l.i no_cell ≡ get_or cs (a.first + l.i) no_cell = table-cell z cs long a.table s.requires.table_bound l.i (omega (arith, s.requires.count_value)) ∙ ap (λ (k : ℕ). get_or cs (k + l.i) no_cell) (sym s.requires.first_value) in
     let e = ap (f l.i) same ∙ sym c.passes.ensures in
-    found-yes f t a.first l.i (omega arith) (e ∙ c.if-not-passes.true) ∙ sym l.invariant.1
+    found-yes f t a.first l.i (omega arith) (e ∙ c.if-not-passes.true) ∙ sym l.invariant
 
 pub loop-i-preserved : goal.loop-i-preserved
 loop-i-preserved c = let s = c in
@@ -62,7 +60,7 @@ loop-i-preserved c = let s = c in
     let size : length t ≡ a.count = table-length z cs long a.table s.requires.table_bound ∙ sym s.requires.count_value in
     let same : get_or t l.i no_cell ≡ get_or cs (a.first + l.i) no_cell = table-cell z cs long a.table s.requires.table_bound l.i (omega (arith, s.requires.count_value)) ∙ ap (λ (k : ℕ). get_or cs (k + l.i) no_cell) (sym s.requires.first_value) in
     let e = ap (f l.i) same ∙ sym c.passes.ensures in
-    (omega arith, l.invariant.1 ∙ found-no f t a.first l.i (omega arith) (e ∙ c.if-not-passes.false))
+    l.invariant ∙ found-no f t a.first l.i (omega arith) (e ∙ c.if-not-passes.false)
 
 pub returns : goal.returns
 returns c = let s = c in
@@ -75,4 +73,4 @@ returns c = let s = c in
     let l = c.loop-i in
     let long : length cs ≡ n = cells-length a.kinds.now a.ends.now a.pool.now n in
     let size : length t ≡ a.count = table-length z cs long a.table s.requires.table_bound ∙ sym s.requires.count_value in
-    found-end f t a.first l.i (omega arith) ∙ sym l.invariant.1
+    found-end f t a.first l.i (omega arith) ∙ sym l.invariant

@@ -12,10 +12,7 @@ use Rattle.model.specs.Load.{marks}
 use Rattle.load.proofs.tables.first_marked.Goals as goal
 
 pub loop-table-init : goal.loop-table-init
-loop-table-init c = (omega arith, refl, refl)
-
-pub bounds-ns-table : goal.bounds-ns-table
-bounds-ns-table c = c.loop-table-test.true
+loop-table-init c = (refl, refl)
 
 pub first_failing-f-requires : goal.first_failing-f-requires
 first_failing-f-requires c = let s = c in
@@ -27,7 +24,7 @@ first_failing-f-requires c = let s = c in
     let k = l.table in
     let ns : get_or c.counts-ns.result k 0 ≡ get_or (counts_of z) k 0 = ap (λ (xs : List ℕ). get_or xs k 0) c.counts-ns.ensures in
     let ten : length fs ≡ 10 = tests-ten a.round z t in
-    record { held = s.requires.held; table_bound = omega arith; first_value = l.invariant.1; count_value = ns; distinct = s.requires.distinct; sound = s.requires.sound }
+    record { held = s.requires.held; table_bound = omega arith; first_value = l.invariant.0; count_value = ns; distinct = s.requires.distinct; sound = s.requires.sound }
 
 pub returns-in-Some : goal.returns-in-Some
 returns-in-Some c = let s = c in
@@ -39,7 +36,7 @@ returns-in-Some c = let s = c in
     let k = l.table in
     let ns : get_or c.counts-ns.result k 0 ≡ get_or (counts_of z) k 0 = ap (λ (xs : List ℕ). get_or xs k 0) c.counts-ns.ensures in
     let ten : length fs ≡ 10 = tests-ten a.round z t in
-    c.in-Some.is ∙ sym (l.invariant.2 ∙ tables-yes fs (table_list t) k l.first (omega arith) (omega arith) c.in-Some.field-0 (sym c.first_failing-f.ensures ∙ c.in-Some.is))
+    c.in-Some.is ∙ sym (l.invariant.1 ∙ tables-yes fs (table_list t) k l.first (omega arith) (omega arith) c.in-Some.field-0 (sym c.first_failing-f.ensures ∙ c.in-Some.is))
 
 pub overflow_add-first : goal.overflow_add-first
 overflow_add-first c = let s = c in
@@ -51,7 +48,7 @@ overflow_add-first c = let s = c in
     let k = l.table in
     let ns : get_or c.counts-ns.result k 0 ≡ get_or (counts_of z) k 0 = ap (λ (xs : List ℕ). get_or xs k 0) c.counts-ns.ensures in
     let ten : length fs ≡ 10 = tests-ten a.round z t in
-    omega (arith, number-count z k (omega arith), l.invariant.1)
+    omega (arith, number-count z k (omega arith), l.invariant.0)
 
 pub loop-table-preserved : goal.loop-table-preserved
 loop-table-preserved c = let s = c in
@@ -66,11 +63,10 @@ loop-table-preserved c = let s = c in
     let n = cell_count z in
     let cs = cells_of a.kinds.now a.ends.now a.pool.now n in
     let long : length cs ≡ n = cells-length a.kinds.now a.ends.now a.pool.now n in
-    let h : k < 10 = c.loop-table-test.true in
+    let h : k < 10 = omega arith in
     let more : length (get_or (table_list t) k []) ≡ get_or c.counts-ns.result k 0 = table-length z cs long k h ∙ sym ns in (
-      omega arith,
-      omega (arith, number-next z k h, l.invariant.1),
-      l.invariant.2 ∙ tables-no fs (table_list t) k l.first (omega arith) (omega arith) (sym c.first_failing-f.ensures ∙ c.in_default.is)
+      omega (arith, number-next z k h, l.invariant.0),
+      l.invariant.1 ∙ tables-no fs (table_list t) k l.first (omega arith) (omega arith) (sym c.first_failing-f.ensures ∙ c.in_default.is)
           ∙ ap (λ (x : ℕ). first_found (l.first + x) (marks (drop (k + 1) fs) (drop (k + 1) (table_list t)))) more,
     )
 
@@ -80,4 +76,4 @@ returns c = let a = c.args in
     let t = tables_for a.kinds.now a.ends.now a.pool.now a.z in
     let l = c.loop-table in
     let e : l.table ≡ 10 = omega arith in
-    tables_end a.round z t l.first ∙ sym (l.invariant.2 ∙ ap (λ (k : ℕ). first_found l.first (marks (drop k (tests_for a.round z t)) (drop k (table_list t)))) e)
+    tables_end a.round z t l.first ∙ sym (l.invariant.1 ∙ ap (λ (k : ℕ). first_found l.first (marks (drop k (tests_for a.round z t)) (drop k (table_list t)))) e)

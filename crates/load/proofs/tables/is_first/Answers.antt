@@ -1,6 +1,6 @@
 use Rattle.load.proofs.TableLaws.{held-cell, earlier-yes, earlier-no, earlier-end}
 use native.Mathlib.Omega.{arith}
-use mathlib.Core.Path.{◌≡◌, refl, sym, ap, ap₂, ◌∙◌}
+use mathlib.Core.Path.{◌≡◌, sym, ap, ap₂, ◌∙◌}
 use Rattle.load.specs.Held.{sizes_in, alike_by, first_among}
 use Rattle.model.specs.Cell.{Cell, no_cell, cells_of}
 use Rattle.model.specs.Layout.{cell_count}
@@ -13,9 +13,6 @@ use Rattle.load.proofs.tables.is_first.Goals as goal
 
 pub fill-f-requires : goal.fill-f-requires
 fill-f-requires c = c.requires.held.limits
-
-pub loop-j-init : goal.loop-j-init
-loop-j-init c = (omega arith, refl)
 
 pub words-requires : goal.words-requires
 words-requires c = record { formed = rw c.fill-f.ensures c.requires.held.formed; i_lt_cells = omega (arith, ap (λ (x : Fill). x.cells) c.fill-f.ensures) }
@@ -38,7 +35,7 @@ returns-then-alike c = let s = c in
     let other = held-cell K E P f.cells (a.first + l.j) c.words.result.now (omega arith) c.words.ensures in
     let e = sym (ap₂ (alike_by a.table) other this) ∙ sym c.alike.ensures in
     let same : Cell → Bool = λ x. alike_by a.table x (get_or cs (a.first + a.i) no_cell) in
-    earlier-yes same cs a.first a.i l.j (omega arith) (omega arith) (e ∙ c.if-alike.true) ∙ ap not (sym l.invariant.1)
+    earlier-yes same cs a.first a.i l.j (omega arith) (omega arith) (e ∙ c.if-alike.true) ∙ ap not (sym l.invariant)
     ∙ ap (λ (x : Fill). first_among (alike_by a.table) (cells_of K E P x.cells) a.first a.i) c.fill-f.ensures
 
 pub loop-j-preserved : goal.loop-j-preserved
@@ -56,7 +53,7 @@ loop-j-preserved c = let s = c in
     let other = held-cell K E P f.cells (a.first + l.j) c.words.result.now (omega arith) c.words.ensures in
     let e = sym (ap₂ (alike_by a.table) other this) ∙ sym c.alike.ensures in
     let same : Cell → Bool = λ x. alike_by a.table x (get_or cs (a.first + a.i) no_cell) in
-    (omega arith, l.invariant.1 ∙ earlier-no same cs a.first a.i l.j (omega arith) (omega arith) (e ∙ c.if-alike.false))
+    l.invariant ∙ earlier-no same cs a.first a.i l.j (omega arith) (omega arith) (e ∙ c.if-alike.false)
 
 pub returns : goal.returns
 returns c = let a = c.args in
@@ -67,5 +64,5 @@ returns c = let a = c.args in
     let cs = cells_of K E P f.cells in
     let l = c.loop-j in
     let same : Cell → Bool = λ x. alike_by a.table x (get_or cs (a.first + a.i) no_cell) in
-    earlier-end same cs a.first a.i l.j (omega arith) ∙ ap not (sym l.invariant.1)
+    earlier-end same cs a.first a.i l.j (omega arith) ∙ ap not (sym l.invariant)
     ∙ ap (λ (x : Fill). first_among (alike_by a.table) (cells_of K E P x.cells) a.first a.i) c.fill-f.ensures

@@ -1,13 +1,10 @@
 use mathlib.Core.Path.{◌≡◌}
 use Rattle.load.specs.Held.{alike_by}
 use Rattle.model.specs.Cell.{no_cell, cells_of}
-use Prim.Native.Nat.{◌+◌, ◌-◌, ◌≤◌}
+use Prim.Native.Nat.{◌+◌}
 use lib.ListN.{get_or, take, drop}
 use Rattle.model.specs.Load.{any}
 use Rattle.load.proofs.tables.is_first.Given as goal
 
 abbrev pub invariant-loop-j : goal.invariant-loop-j
-invariant-loop-j l = (l.j ≤ l.i) × (any (λ e. alike_by l.table e (get_or (cells_of l.kinds l.ends l.pool l.f.cells) (l.first + l.i) no_cell)) (take l.i (drop l.first (cells_of l.kinds l.ends l.pool l.f.cells))) ≡ any (λ e. alike_by l.table e (get_or (cells_of l.kinds l.ends l.pool l.f.cells) (l.first + l.i) no_cell)) (drop l.j (take l.i (drop l.first (cells_of l.kinds l.ends l.pool l.f.cells)))))
-
-abbrev pub decreases-loop-j : goal.decreases-loop-j
-decreases-loop-j l = l.i - l.j
+invariant-loop-j l = (any (λ e. alike_by l.table e (get_or (cells_of l.kinds l.ends l.pool l.f.cells) (l.first + l.i) no_cell)) (take l.i (drop l.first (cells_of l.kinds l.ends l.pool l.f.cells))) ≡ any (λ e. alike_by l.table e (get_or (cells_of l.kinds l.ends l.pool l.f.cells) (l.first + l.i) no_cell)) (drop l.j (take l.i (drop l.first (cells_of l.kinds l.ends l.pool l.f.cells)))))

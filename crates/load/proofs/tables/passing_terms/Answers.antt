@@ -1,5 +1,5 @@
 use native.Mathlib.Omega.{arith}
-use mathlib.Core.Path.{◌≡◌, ap, ◌∙◌}
+use mathlib.Core.Path.{◌≡◌, ap, ◌∙◌, subst}
 use Prim.Native.Nat.{ℕ, ◌+◌, ◌<◌}
 use lib.ListN.{get_or}
 use Rattle.model.specs.Cell.{Cell, no_cell, cells_of}
@@ -7,7 +7,7 @@ use Rattle.model.specs.Layout.{cell_count}
 use Rattle.model.specs.Load.{term_fits, term_refers}
 use Rattle.model.specs.Term.{read_term}
 use Rattle.cells.specs.declared.Fill.{Fill}
-use Rattle.load.specs.Held.{sizes_in}
+use Rattle.load.specs.Held.{sizes_in, Sound}
 use Rattle.load.proofs.TableLaws.{held-cell, number-count, none_pass, more-pass}
 use Rattle.load.proofs.tables.passing_terms.Goals as goal
 
@@ -41,4 +41,6 @@ loop-i-preserved c = let s = c in
     record { fit = more-pass (omega arith) S.fit (two.0 ∙ ap term_fits here); refer = more-pass (omega arith) S.refer (two.1 ∙ ap (λ (x : Cell). term_refers i (read_term x)) here) }
 
 pub returns : goal.returns
-returns c = c.loop-i.invariant
+returns c = let a = c.args in
+    let e : c.loop-i.i ≡ a.z.terms = omega arith in
+    subst (λ (k : ℕ). Sound a.kinds.now a.ends.now a.pool.now a.z k) e c.loop-i.invariant

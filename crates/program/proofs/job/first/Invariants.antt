@@ -1,11 +1,7 @@
 use mathlib.Core.Path.{◌≡◌}
-use Prim.Native.Nat.{◌-◌, ◌≤◌}
 use Rattle.model.specs.Layout.{sizes_of}
 use Rattle.load.specs.Held.{cell_number}
 use Rattle.program.proofs.job.first.Given as goal
 
 abbrev pub invariant-loop-k : goal.invariant-loop-k
-invariant-loop-k l = (l.k ≤ l.table) × (l.sum ≡ cell_number (sizes_of l.job) l.k)
-
-abbrev pub decreases-loop-k : goal.decreases-loop-k
-decreases-loop-k l = l.table - l.k
+invariant-loop-k l = l.sum ≡ cell_number (sizes_of l.job) l.k

@@ -12,17 +12,13 @@ back : (z : Sizes) (k : ℕ) → 0 < k → k ≤ 10 → cell_number z (k - 1) + 
 back z k h l = let e : k - 1 + 1 ≡ k = omega arith in number-next z (k - 1) (omega arith) ∙ ap (cell_number z) e
 
 pub loop-k-init : goal.loop-k-init
-loop-k-init c = (omega arith, omega arith, omega (arith, ap (λ (f : Fill). f.cells) c.fill-f.ensures))
+loop-k-init c = (omega arith, omega (arith, ap (λ (f : Fill). f.cells) c.fill-f.ensures))
 
 pub overflow_sub-left : goal.overflow_sub-left
-overflow_sub-left c = omega (arith, back (sizes_of c.args.job.now) c.loop-k.k (omega arith) (omega arith), c.loop-k.invariant.2, c.size-left.ensures)
+overflow_sub-left c = omega (arith, back (sizes_of c.args.job.now) c.loop-k.k (omega arith) (omega arith), c.loop-k.invariant.1, c.size-left.ensures)
 
 pub loop-k-preserved : goal.loop-k-preserved
-loop-k-preserved c = (
-  omega arith,
-  omega arith,
-  omega (arith, back (sizes_of c.args.job.now) c.loop-k.k (omega arith) (omega arith), c.loop-k.invariant.2, c.size-left.ensures),
-)
+loop-k-preserved c = (omega arith, omega (arith, back (sizes_of c.args.job.now) c.loop-k.k (omega arith) (omega arith), c.loop-k.invariant.1, c.size-left.ensures))
 
 pub returns : goal.returns
-returns c = let e : c.loop-k.k ≡ c.args.table = omega arith in rw (c.loop-k.invariant.2, e)
+returns c = let e : c.loop-k.k ≡ c.args.table = omega arith in rw (c.loop-k.invariant.1, e)

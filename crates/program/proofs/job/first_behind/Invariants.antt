@@ -5,7 +5,4 @@ use Rattle.load.specs.Held.{cell_number}
 use Rattle.program.proofs.job.first_behind.Given as goal
 
 abbrev pub invariant-loop-k : goal.invariant-loop-k
-invariant-loop-k l = (l.table ≤ l.k) × (l.k ≤ 10) × (l.left ≡ cell_number (sizes_of l.job) l.k)
-
-abbrev pub decreases-loop-k : goal.decreases-loop-k
-decreases-loop-k l = l.k
+invariant-loop-k l = (l.table ≤ l.k) × (l.left ≡ cell_number (sizes_of l.job) l.k)
