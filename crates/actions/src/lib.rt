@@ -2,6 +2,7 @@
 #![tactic(auto)]
 
 ghost use Rattle.std.specs.Prelude.{◌≡◌, true, false, ◌+◌, ◌≤◌, ◌<◌, length};
+ghost use Rattle.index.specs.Loans.{SameLoans};
 ghost use Rattle.model.specs.Layout.{sizes_of};
 ghost use Rattle.model.specs.Program.{bind, union, run};
 ghost use Rattle.model.specs.Evaluate.{eval_expr};
@@ -14,8 +15,8 @@ ghost use Rattle.actions.specs.Acting.{Standing, Going, marked_if, Yields, Acts,
 
 use cells::wide;
 use decode::Action;
-use evaluate::eval;
-use index::Fill;
+use evaluate::{Scope, eval};
+use index::{Fill, Store};
 use outcome::{Checked, Refusal};
 use pairs::mark_values;
 use program::job::{EXPRESSIONS, size};
@@ -49,33 +50,16 @@ fn mark_if(marking: bool, memo: &[u32], n: usize, marks: &mut [u32])
 }
 
 // The value of expression e, with marks for its pairs.
-pub fn yield_value(
-    job: &[u32],
-    found: &[u32],
-    bound: &[u32],
-    pairs: &[u32],
-    globals: &[u32],
-    rule: u32,
-    skinds: &mut [u32],
-    sends: &mut [u32],
-    spool: &mut [u32],
-    index: &mut [u32],
-    fill: Fill,
-    memo: &mut [u32],
-    marking: bool,
-    marks: &mut [u32],
-    e: u32,
-) -> Checked
-    requires standing { Standing job.now found.now (bindings_in bound.now pairs.now globals.now) skinds.old sends.old spool.old index.old fill memo.old marks.old }
-    requires going_2 { Going job.now rule (bindings_in bound.now pairs.now globals.now) marking skinds.old sends.old spool.old fill memo.old marks.old }
-    requires e_bound { e < (sizes_of job.now).expressions }
-    ensures yields { Yields (program_for job.now) (bindings_in bound.now pairs.now globals.now) (eval_expr (room_of skinds.old spool.old) (program_for job.now) rule (bindings_in bound.now pairs.now globals.now) (expr_for job.now e) (terms_in skinds.old sends.old spool.old fill)) marking skinds.old sends.old spool.old index.old fill marks.old skinds.new sends.new spool.new index.new result memo.new marks.new }
-    ensures going { result.refusal.number ≡ 0 → Going job.now rule (bindings_in bound.now pairs.now globals.now) marking skinds.new sends.new spool.new result.fill memo.new marks.new }
+pub fn yield_value(scope: &Scope<'_>, store: &mut Store<'_>, fill: Fill, memo: &mut [u32], marking: bool, marks: &mut [u32], e: u32) -> Checked
+    requires standing { Standing scope.now.job.now scope.now.found.now (bindings_in scope.now.bound.now scope.now.pairs.now scope.now.globals.now) store.old.kinds.now store.old.ends.now store.old.pool.now store.old.index.now fill memo.old marks.old }
+    requires going_2 { Going scope.now.job.now scope.now.rule (bindings_in scope.now.bound.now scope.now.pairs.now scope.now.globals.now) marking store.old.kinds.now store.old.ends.now store.old.pool.now fill memo.old marks.old }
+    requires e_bound { e < (sizes_of scope.now.job.now).expressions }
+    ensures yields { Yields (program_for scope.now.job.now) (bindings_in scope.now.bound.now scope.now.pairs.now scope.now.globals.now) (eval_expr (room_of store.old.kinds.now store.old.pool.now) (program_for scope.now.job.now) scope.now.rule (bindings_in scope.now.bound.now scope.now.pairs.now scope.now.globals.now) (expr_for scope.now.job.now e) (terms_in store.old.kinds.now store.old.ends.now store.old.pool.now fill)) marking store.old.kinds.now store.old.ends.now store.old.pool.now store.old.index.now fill marks.old store.new.kinds.now store.new.ends.now store.new.pool.now store.new.index.now result memo.new marks.new }
+    ensures going { result.refusal.number ≡ 0 → Going scope.now.job.now scope.now.rule (bindings_in scope.now.bound.now scope.now.pairs.now scope.now.globals.now) marking store.new.kinds.now store.new.ends.now store.new.pool.now result.fill memo.new marks.new }
+    ensures loans { SameLoans store.old store.new }
 {
-    let count = size(job, EXPRESSIONS);
-    let r = eval(
-        job, found, bound, pairs, globals, rule, false, skinds, sends, spool, index, fill, memo, e,
-    );
+    let count = size(scope.job, EXPRESSIONS);
+    let r = eval(scope, false, store, fill, memo, e);
     if r.refusal.number != 0 {
         return r;
     }
@@ -84,34 +68,15 @@ pub fn yield_value(
 }
 
 // A let.
-fn act_let(
-    job: &[u32],
-    found: &[u32],
-    bound: &[u32],
-    pairs: &[u32],
-    globals: &[u32],
-    rule: u32,
-    skinds: &mut [u32],
-    sends: &mut [u32],
-    spool: &mut [u32],
-    index: &mut [u32],
-    fill: Fill,
-    memo: &mut [u32],
-    marking: bool,
-    marks: &mut [u32],
-    name: u32,
-    e: u32,
-) -> Acted
-    requires standing { Standing job.now found.now (bindings_in bound.now pairs.now globals.now) skinds.old sends.old spool.old index.old fill memo.old marks.old }
-    requires going_2 { Going job.now rule (bindings_in bound.now pairs.now globals.now) marking skinds.old sends.old spool.old fill memo.old marks.old }
-    requires e_bound { e < (sizes_of job.now).expressions }
-    ensures acts { Acts (program_for job.now) rule (bind name (expr_for job.now e)) (bindings_in bound.now pairs.now globals.now) marking skinds.old sends.old spool.old index.old fill marks.old skinds.new sends.new spool.new index.new result memo.new marks.new }
-    ensures going { result.refusal.number ≡ 0 → Going job.now rule (bindings_in bound.now pairs.now globals.now) marking skinds.new sends.new spool.new result.fill memo.new marks.new }
+fn act_let(scope: &Scope<'_>, store: &mut Store<'_>, fill: Fill, memo: &mut [u32], marking: bool, marks: &mut [u32], name: u32, e: u32) -> Acted
+    requires standing { Standing scope.now.job.now scope.now.found.now (bindings_in scope.now.bound.now scope.now.pairs.now scope.now.globals.now) store.old.kinds.now store.old.ends.now store.old.pool.now store.old.index.now fill memo.old marks.old }
+    requires going_2 { Going scope.now.job.now scope.now.rule (bindings_in scope.now.bound.now scope.now.pairs.now scope.now.globals.now) marking store.old.kinds.now store.old.ends.now store.old.pool.now fill memo.old marks.old }
+    requires e_bound { e < (sizes_of scope.now.job.now).expressions }
+    ensures acts { Acts (program_for scope.now.job.now) scope.now.rule (bind name (expr_for scope.now.job.now e)) (bindings_in scope.now.bound.now scope.now.pairs.now scope.now.globals.now) marking store.old.kinds.now store.old.ends.now store.old.pool.now store.old.index.now fill marks.old store.new.kinds.now store.new.ends.now store.new.pool.now store.new.index.now result memo.new marks.new }
+    ensures going { result.refusal.number ≡ 0 → Going scope.now.job.now scope.now.rule (bindings_in scope.now.bound.now scope.now.pairs.now scope.now.globals.now) marking store.new.kinds.now store.new.ends.now store.new.pool.now result.fill memo.new marks.new }
+    ensures loans { SameLoans store.old store.new }
 {
-    let r = yield_value(
-        job, found, bound, pairs, globals, rule, skinds, sends, spool, index, fill, memo, marking,
-        marks, e,
-    );
+    let r = yield_value(scope, store, fill, memo, marking, marks, e);
     let refusal = r.refusal;
     let fill = r.fill;
     Acted {
@@ -122,33 +87,15 @@ fn act_let(
 }
 
 // A set or an expression.
-fn act_run(
-    job: &[u32],
-    found: &[u32],
-    bound: &[u32],
-    pairs: &[u32],
-    globals: &[u32],
-    rule: u32,
-    skinds: &mut [u32],
-    sends: &mut [u32],
-    spool: &mut [u32],
-    index: &mut [u32],
-    fill: Fill,
-    memo: &mut [u32],
-    marking: bool,
-    marks: &mut [u32],
-    e: u32,
-) -> Acted
-    requires standing { Standing job.now found.now (bindings_in bound.now pairs.now globals.now) skinds.old sends.old spool.old index.old fill memo.old marks.old }
-    requires going_2 { Going job.now rule (bindings_in bound.now pairs.now globals.now) marking skinds.old sends.old spool.old fill memo.old marks.old }
-    requires e_bound { e < (sizes_of job.now).expressions }
-    ensures acts { Acts (program_for job.now) rule (run (expr_for job.now e)) (bindings_in bound.now pairs.now globals.now) marking skinds.old sends.old spool.old index.old fill marks.old skinds.new sends.new spool.new index.new result memo.new marks.new }
-    ensures going { result.refusal.number ≡ 0 → Going job.now rule (bindings_in bound.now pairs.now globals.now) marking skinds.new sends.new spool.new result.fill memo.new marks.new }
+fn act_run(scope: &Scope<'_>, store: &mut Store<'_>, fill: Fill, memo: &mut [u32], marking: bool, marks: &mut [u32], e: u32) -> Acted
+    requires standing { Standing scope.now.job.now scope.now.found.now (bindings_in scope.now.bound.now scope.now.pairs.now scope.now.globals.now) store.old.kinds.now store.old.ends.now store.old.pool.now store.old.index.now fill memo.old marks.old }
+    requires going_2 { Going scope.now.job.now scope.now.rule (bindings_in scope.now.bound.now scope.now.pairs.now scope.now.globals.now) marking store.old.kinds.now store.old.ends.now store.old.pool.now fill memo.old marks.old }
+    requires e_bound { e < (sizes_of scope.now.job.now).expressions }
+    ensures acts { Acts (program_for scope.now.job.now) scope.now.rule (run (expr_for scope.now.job.now e)) (bindings_in scope.now.bound.now scope.now.pairs.now scope.now.globals.now) marking store.old.kinds.now store.old.ends.now store.old.pool.now store.old.index.now fill marks.old store.new.kinds.now store.new.ends.now store.new.pool.now store.new.index.now result memo.new marks.new }
+    ensures going { result.refusal.number ≡ 0 → Going scope.now.job.now scope.now.rule (bindings_in scope.now.bound.now scope.now.pairs.now scope.now.globals.now) marking store.new.kinds.now store.new.ends.now store.new.pool.now result.fill memo.new marks.new }
+    ensures loans { SameLoans store.old store.new }
 {
-    let r = yield_value(
-        job, found, bound, pairs, globals, rule, skinds, sends, spool, index, fill, memo, marking,
-        marks, e,
-    );
+    let r = yield_value(scope, store, fill, memo, marking, marks, e);
     let refusal = r.refusal;
     let fill = r.fill;
     Acted {
@@ -159,35 +106,16 @@ fn act_run(
 }
 
 // A union.
-fn act_union(
-    job: &[u32],
-    found: &[u32],
-    bound: &[u32],
-    pairs: &[u32],
-    globals: &[u32],
-    rule: u32,
-    skinds: &mut [u32],
-    sends: &mut [u32],
-    spool: &mut [u32],
-    index: &mut [u32],
-    fill: Fill,
-    memo: &mut [u32],
-    marking: bool,
-    marks: &mut [u32],
-    left: u32,
-    right: u32,
-) -> Acted
-    requires standing { Standing job.now found.now (bindings_in bound.now pairs.now globals.now) skinds.old sends.old spool.old index.old fill memo.old marks.old }
-    requires going_2 { Going job.now rule (bindings_in bound.now pairs.now globals.now) marking skinds.old sends.old spool.old fill memo.old marks.old }
-    requires left_bound { left < (sizes_of job.now).expressions }
-    requires right_bound { right < (sizes_of job.now).expressions }
-    ensures acts { Acts (program_for job.now) rule (union (expr_for job.now left) (expr_for job.now right)) (bindings_in bound.now pairs.now globals.now) marking skinds.old sends.old spool.old index.old fill marks.old skinds.new sends.new spool.new index.new result memo.new marks.new }
-    ensures going { result.refusal.number ≡ 0 → Going job.now rule (bindings_in bound.now pairs.now globals.now) marking skinds.new sends.new spool.new result.fill memo.new marks.new }
+fn act_union(scope: &Scope<'_>, store: &mut Store<'_>, fill: Fill, memo: &mut [u32], marking: bool, marks: &mut [u32], left: u32, right: u32) -> Acted
+    requires standing { Standing scope.now.job.now scope.now.found.now (bindings_in scope.now.bound.now scope.now.pairs.now scope.now.globals.now) store.old.kinds.now store.old.ends.now store.old.pool.now store.old.index.now fill memo.old marks.old }
+    requires going_2 { Going scope.now.job.now scope.now.rule (bindings_in scope.now.bound.now scope.now.pairs.now scope.now.globals.now) marking store.old.kinds.now store.old.ends.now store.old.pool.now fill memo.old marks.old }
+    requires left_bound { left < (sizes_of scope.now.job.now).expressions }
+    requires right_bound { right < (sizes_of scope.now.job.now).expressions }
+    ensures acts { Acts (program_for scope.now.job.now) scope.now.rule (union (expr_for scope.now.job.now left) (expr_for scope.now.job.now right)) (bindings_in scope.now.bound.now scope.now.pairs.now scope.now.globals.now) marking store.old.kinds.now store.old.ends.now store.old.pool.now store.old.index.now fill marks.old store.new.kinds.now store.new.ends.now store.new.pool.now store.new.index.now result memo.new marks.new }
+    ensures going { result.refusal.number ≡ 0 → Going scope.now.job.now scope.now.rule (bindings_in scope.now.bound.now scope.now.pairs.now scope.now.globals.now) marking store.new.kinds.now store.new.ends.now store.new.pool.now result.fill memo.new marks.new }
+    ensures loans { SameLoans store.old store.new }
 {
-    let a = yield_value(
-        job, found, bound, pairs, globals, rule, skinds, sends, spool, index, fill, memo, marking,
-        marks, left,
-    );
+    let a = yield_value(scope, store, fill, memo, marking, marks, left);
     let have = a.fill;
     if a.refusal.number != 0 {
         let refusal = a.refusal;
@@ -197,10 +125,7 @@ fn act_union(
             fill: have,
         };
     }
-    let b = yield_value(
-        job, found, bound, pairs, globals, rule, skinds, sends, spool, index, have, memo, marking,
-        marks, right,
-    );
+    let b = yield_value(scope, store, have, memo, marking, marks, right);
     let refusal = b.refusal;
     let fill = b.fill;
     Acted {
@@ -211,43 +136,19 @@ fn act_union(
 }
 
 // One action, in a round of the memo that may have begun before.
-fn act(
-    job: &[u32],
-    found: &[u32],
-    bound: &[u32],
-    pairs: &[u32],
-    globals: &[u32],
-    rule: u32,
-    skinds: &mut [u32],
-    sends: &mut [u32],
-    spool: &mut [u32],
-    index: &mut [u32],
-    fill: Fill,
-    memo: &mut [u32],
-    marking: bool,
-    marks: &mut [u32],
-    i: u32,
-) -> Acted
-    requires standing { Standing job.now found.now (bindings_in bound.now pairs.now globals.now) skinds.old sends.old spool.old index.old fill memo.old marks.old }
-    requires going_2 { Going job.now rule (bindings_in bound.now pairs.now globals.now) marking skinds.old sends.old spool.old fill memo.old marks.old }
-    requires i_bound { i < (sizes_of job.now).actions }
-    ensures acts { Acts (program_for job.now) rule (action_for job.now i) (bindings_in bound.now pairs.now globals.now) marking skinds.old sends.old spool.old index.old fill marks.old skinds.new sends.new spool.new index.new result memo.new marks.new }
-    ensures going { result.refusal.number ≡ 0 → Going job.now rule (bindings_in bound.now pairs.now globals.now) marking skinds.new sends.new spool.new result.fill memo.new marks.new }
+fn act(scope: &Scope<'_>, store: &mut Store<'_>, fill: Fill, memo: &mut [u32], marking: bool, marks: &mut [u32], i: u32) -> Acted
+    requires standing { Standing scope.now.job.now scope.now.found.now (bindings_in scope.now.bound.now scope.now.pairs.now scope.now.globals.now) store.old.kinds.now store.old.ends.now store.old.pool.now store.old.index.now fill memo.old marks.old }
+    requires going_2 { Going scope.now.job.now scope.now.rule (bindings_in scope.now.bound.now scope.now.pairs.now scope.now.globals.now) marking store.old.kinds.now store.old.ends.now store.old.pool.now fill memo.old marks.old }
+    requires i_bound { i < (sizes_of scope.now.job.now).actions }
+    ensures acts { Acts (program_for scope.now.job.now) scope.now.rule (action_for scope.now.job.now i) (bindings_in scope.now.bound.now scope.now.pairs.now scope.now.globals.now) marking store.old.kinds.now store.old.ends.now store.old.pool.now store.old.index.now fill marks.old store.new.kinds.now store.new.ends.now store.new.pool.now store.new.index.now result memo.new marks.new }
+    ensures going { result.refusal.number ≡ 0 → Going scope.now.job.now scope.now.rule (bindings_in scope.now.bound.now scope.now.pairs.now scope.now.globals.now) marking store.new.kinds.now store.new.ends.now store.new.pool.now result.fill memo.new marks.new }
+    ensures loans { SameLoans store.old store.new }
 {
-    let action = action_at(job, wide(i));
+    let action = action_at(scope.job, wide(i));
     match action {
-        Action::Let(x, e) => act_let(
-            job, found, bound, pairs, globals, rule, skinds, sends, spool, index, fill, memo,
-            marking, marks, x, e,
-        ),
-        Action::Union(l, r) => act_union(
-            job, found, bound, pairs, globals, rule, skinds, sends, spool, index, fill, memo,
-            marking, marks, l, r,
-        ),
-        Action::Run(e) => act_run(
-            job, found, bound, pairs, globals, rule, skinds, sends, spool, index, fill, memo,
-            marking, marks, e,
-        ),
+        Action::Let(x, e) => act_let(scope, store, fill, memo, marking, marks, x, e),
+        Action::Union(l, r) => act_union(scope, store, fill, memo, marking, marks, l, r),
+        Action::Run(e) => act_run(scope, store, fill, memo, marking, marks, e),
         Action::Idle => Acted {
             refusal: Refusal {
                 number: 0,
@@ -274,35 +175,16 @@ fn new_round_unless(kept: bool, memo: &mut [u32])
 }
 
 // One action. What the memo has noted is used where it is kept: where no binding has changed since.
-pub fn process_action(
-    job: &[u32],
-    found: &[u32],
-    bound: &[u32],
-    pairs: &[u32],
-    globals: &[u32],
-    rule: u32,
-    skinds: &mut [u32],
-    sends: &mut [u32],
-    spool: &mut [u32],
-    index: &mut [u32],
-    fill: Fill,
-    memo: &mut [u32],
-    kept: bool,
-    marking: bool,
-    marks: &mut [u32],
-    i: u32,
-) -> Acted
-    requires standing { Standing job.now found.now (bindings_in bound.now pairs.now globals.now) skinds.old sends.old spool.old index.old fill memo.old marks.old }
-    requires going_2 { kept ≡ true → Going job.now rule (bindings_in bound.now pairs.now globals.now) marking skinds.old sends.old spool.old fill memo.old marks.old }
-    requires i_bound { i < (sizes_of job.now).actions }
-    ensures acts { Acts (program_for job.now) rule (action_for job.now i) (bindings_in bound.now pairs.now globals.now) marking skinds.old sends.old spool.old index.old fill marks.old skinds.new sends.new spool.new index.new result memo.new marks.new }
-    ensures going { result.refusal.number ≡ 0 → Going job.now rule (bindings_in bound.now pairs.now globals.now) marking skinds.new sends.new spool.new result.fill memo.new marks.new }
+pub fn process_action(scope: &Scope<'_>, store: &mut Store<'_>, fill: Fill, memo: &mut [u32], kept: bool, marking: bool, marks: &mut [u32], i: u32) -> Acted
+    requires standing { Standing scope.now.job.now scope.now.found.now (bindings_in scope.now.bound.now scope.now.pairs.now scope.now.globals.now) store.old.kinds.now store.old.ends.now store.old.pool.now store.old.index.now fill memo.old marks.old }
+    requires going_2 { kept ≡ true → Going scope.now.job.now scope.now.rule (bindings_in scope.now.bound.now scope.now.pairs.now scope.now.globals.now) marking store.old.kinds.now store.old.ends.now store.old.pool.now fill memo.old marks.old }
+    requires i_bound { i < (sizes_of scope.now.job.now).actions }
+    ensures acts { Acts (program_for scope.now.job.now) scope.now.rule (action_for scope.now.job.now i) (bindings_in scope.now.bound.now scope.now.pairs.now scope.now.globals.now) marking store.old.kinds.now store.old.ends.now store.old.pool.now store.old.index.now fill marks.old store.new.kinds.now store.new.ends.now store.new.pool.now store.new.index.now result memo.new marks.new }
+    ensures going { result.refusal.number ≡ 0 → Going scope.now.job.now scope.now.rule (bindings_in scope.now.bound.now scope.now.pairs.now scope.now.globals.now) marking store.new.kinds.now store.new.ends.now store.new.pool.now result.fill memo.new marks.new }
+    ensures loans { SameLoans store.old store.new }
 {
     new_round_unless(kept, memo);
-    act(
-        job, found, bound, pairs, globals, rule, skinds, sends, spool, index, fill, memo, marking,
-        marks, i,
-    )
+    act(scope, store, fill, memo, marking, marks, i)
 }
 
 // Writes what an action bound before the bindings that stand in the table from `at` on; the place where they then start.

@@ -2,6 +2,7 @@
 #![tactic(auto)]
 
 ghost use Rattle.std.specs.Prelude.{◌≡◌, ◌<◌};
+ghost use Rattle.index.specs.Loans.{SameLoans};
 ghost use Rattle.model.specs.Layout.{sizes_of};
 ghost use Rattle.model.specs.Walk.{claim_at, check_proof};
 ghost use Rattle.model.specs.Height.{height};
@@ -14,7 +15,7 @@ ghost use Rattle.normal_form.specs.Search.{Searched};
 ghost use Rattle.check_proof.specs.Checking.{Given};
 
 use context::new_context;
-use index::Fill;
+use index::{Fill, Store};
 use lookups::{chain_tables, needs_no_chains};
 use normal_form::find_offences;
 use outcome::Checked;
@@ -22,38 +23,25 @@ use program::job::{PROOFS, size};
 use walk::walk;
 
 // The outcome of the asked proof, where the offences and the chains of long tables are found.
-fn check_found(
-    job: &[u32],
-    strict: bool,
-    found: &[u32],
-    skinds: &mut [u32],
-    sends: &mut [u32],
-    spool: &mut [u32],
-    index: &mut [u32],
-    fill: Fill,
-    scratch: &mut [u32],
-    asked: u32,
-) -> Checked
-    requires given { Given job.now skinds.old sends.old spool.old index.old fill scratch.old }
+fn check_found(job: &[u32], strict: bool, found: &[u32], store: &mut Store<'_>, fill: Fill, scratch: &mut [u32], asked: u32) -> Checked
+    requires given { Given job.now store.old.kinds.now store.old.ends.now store.old.pool.now store.old.index.now fill scratch.old }
     requires searched { Searched job.now found.now }
     requires keyed { Keyed job.now found.now }
     requires asked_bound { asked < (sizes_of job.now).proofs }
-    ensures does { Does skinds.old sends.old spool.old index.old fill skinds.new sends.new spool.new index.new result.fill result.refusal (claim_at (proofs_for job.now) asked) (check_proof (room_of skinds.old spool.old) (program_for job.now) (proofs_for job.now) strict asked (terms_in skinds.old sends.old spool.old fill)) }
+    ensures does { Does store.old.kinds.now store.old.ends.now store.old.pool.now store.old.index.now fill store.new.kinds.now store.new.ends.now store.new.pool.now store.new.index.now result.fill result.refusal (claim_at (proofs_for job.now) asked) (check_proof (room_of store.old.kinds.now store.old.pool.now) (program_for job.now) (proofs_for job.now) strict asked (terms_in store.old.kinds.now store.old.ends.now store.old.pool.now fill)) }
     ensures high { result.refusal.number ≡ 0 → result.value ≡ height (program_for job.now) (proofs_for job.now) asked }
+    ensures loans { SameLoans store.old store.new }
 {
     let mut memo = [0u32; 8193];
     let mut table = [0u32; 512];
     let mut unions = [0u32; 512];
-    let c = skinds.len();
+    let c = store.kinds.len();
     let d = c + c;
     let e = d + size(job, PROOFS);
     let g = new_context(
         job,
         found,
-        skinds,
-        sends,
-        spool,
-        index,
+        store,
         fill,
         &mut memo,
         &mut scratch[..c],
@@ -78,10 +66,7 @@ fn check_found(
         found,
         &table[b..],
         &unions[..n],
-        skinds,
-        sends,
-        spool,
-        index,
+        store,
         have,
         &mut memo,
         scratch,
@@ -90,33 +75,24 @@ fn check_found(
 }
 
 // The outcome of the asked proof, in strict mode or not: passed, with its height as value, or a refusal. Whatever scratch held makes no difference.
-pub fn check_proof(
-    job: &[u32],
-    strict: bool,
-    skinds: &mut [u32],
-    sends: &mut [u32],
-    spool: &mut [u32],
-    index: &mut [u32],
-    fill: Fill,
-    scratch: &mut [u32],
-    asked: u32,
-) -> Checked
-    requires given { Given job.now skinds.old sends.old spool.old index.old fill scratch.old }
+pub fn check_proof(job: &[u32], strict: bool, store: &mut Store<'_>, fill: Fill, scratch: &mut [u32], asked: u32) -> Checked
+    requires given { Given job.now store.old.kinds.now store.old.ends.now store.old.pool.now store.old.index.now fill scratch.old }
     requires asked_bound { asked < (sizes_of job.now).proofs }
-    ensures does { Does skinds.old sends.old spool.old index.old fill skinds.new sends.new spool.new index.new result.fill result.refusal (claim_at (proofs_for job.now) asked) (check_proof (room_of skinds.old spool.old) (program_for job.now) (proofs_for job.now) strict asked (terms_in skinds.old sends.old spool.old fill)) }
+    ensures does { Does store.old.kinds.now store.old.ends.now store.old.pool.now store.old.index.now fill store.new.kinds.now store.new.ends.now store.new.pool.now store.new.index.now result.fill result.refusal (claim_at (proofs_for job.now) asked) (check_proof (room_of store.old.kinds.now store.old.pool.now) (program_for job.now) (proofs_for job.now) strict asked (terms_in store.old.kinds.now store.old.ends.now store.old.pool.now fill)) }
     ensures high { result.refusal.number ≡ 0 → result.value ≡ height (program_for job.now) (proofs_for job.now) asked }
+    ensures loans { SameLoans store.old store.new }
 {
     if needs_no_chains(job) {
         let mut found = [0u32; 4096];
         find_offences(job, &mut found);
         return check_found(
-            job, strict, &found, skinds, sends, spool, index, fill, scratch, asked,
+            job, strict, &found, store, fill, scratch, asked,
         );
     }
     let mut found = [0u32; 36865];
     find_offences(job, &mut found);
     chain_tables(job, fill.multiplier, &mut found);
     check_found(
-        job, strict, &found, skinds, sends, spool, index, fill, scratch, asked,
+        job, strict, &found, store, fill, scratch, asked,
     )
 }

@@ -2,6 +2,7 @@
 #![tactic(auto)]
 
 ghost use Rattle.std.specs.Prelude.{◌≡◌, Bool, List, ℕ, ◌+◌, ◌<◌, length};
+ghost use Rattle.index.specs.Loans.{SameLoans};
 ghost use Rattle.std.proofs.Math.Option.{Option, none, some};
 ghost use Rattle.model.specs.Layout.{sizes_of};
 ghost use Rattle.model.specs.Term.{Term};
@@ -19,8 +20,8 @@ ghost use Rattle.conditions.specs.Bound.{bound_over};
 
 use cells::wide;
 use decode::Fact;
-use evaluate::{evaluate, lookup};
-use index::Fill;
+use evaluate::{Scope, evaluate, lookup};
+use index::{Fill, Store};
 use normal_form::variable_of;
 use outcome::Refusal;
 use program::read::fact_at;
@@ -49,32 +50,19 @@ pub struct Condition {
 }
 
 // `eval_side`: an unbound variable has no value.
-fn eval_side(
-    job: &[u32],
-    found: &[u32],
-    bound: &[u32],
-    pairs: &[u32],
-    globals: &[u32],
-    rule: u32,
-    skinds: &mut [u32],
-    sends: &mut [u32],
-    spool: &mut [u32],
-    index: &mut [u32],
-    fill: Fill,
-    memo: &mut [u32],
-    e: u32,
-) -> Side
-    requires ready { Ready job.now }
-    requires keyed { Keyed job.now found.now }
-    requires indexed { Indexed skinds.old sends.old spool.old index.old fill }
-    requires job_in_bounds { (sizes_of job.now).expressions + (sizes_of job.now).expressions < length memo.old }
+fn eval_side(scope: &Scope<'_>, store: &mut Store<'_>, fill: Fill, memo: &mut [u32], e: u32) -> Side
+    requires ready { Ready scope.now.job.now }
+    requires keyed { Keyed scope.now.job.now scope.now.found.now }
+    requires indexed { Indexed store.old.kinds.now store.old.ends.now store.old.pool.now store.old.index.now fill }
+    requires job_in_bounds { (sizes_of scope.now.job.now).expressions + (sizes_of scope.now.job.now).expressions < length memo.old }
     requires past { Past memo.old }
-    requires e_bound { e < (sizes_of job.now).expressions }
-    ensures { Checks skinds.old sends.old spool.old index.old fill skinds.new sends.new spool.new index.new result.fill result.refusal (option_of result.value) memo.new (model.eval_side (room_of skinds.old spool.old) (program_for job.now) rule (bindings_in bound.now pairs.now globals.now) (expr_for job.now e) (terms_in skinds.old sends.old spool.old fill)) }
+    requires e_bound { e < (sizes_of scope.now.job.now).expressions }
+    ensures does { Checks store.old.kinds.now store.old.ends.now store.old.pool.now store.old.index.now fill store.new.kinds.now store.new.ends.now store.new.pool.now store.new.index.now result.fill result.refusal (option_of result.value) memo.new (model.eval_side (room_of store.old.kinds.now store.old.pool.now) (program_for scope.now.job.now) scope.now.rule (bindings_in scope.now.bound.now scope.now.pairs.now scope.now.globals.now) (expr_for scope.now.job.now e) (terms_in store.old.kinds.now store.old.ends.now store.old.pool.now fill)) }
+    ensures loans { SameLoans store.old store.new }
 {
-    let variable = variable_of(job, e);
+    let variable = variable_of(scope.job, e);
     if let Some(x) = variable {
-        let value = lookup(bound, pairs, globals, x);
+        let value = lookup(scope, x);
         return Side {
             refusal: Refusal {
                 number: 0,
@@ -85,9 +73,7 @@ fn eval_side(
             fill,
         };
     }
-    let r = evaluate(
-        job, found, bound, pairs, globals, rule, false, skinds, sends, spool, index, fill, memo, e,
-    );
+    let r = evaluate(scope, false, store, fill, memo, e);
     let refusal = r.refusal;
     let have = r.fill;
     Side {
@@ -208,80 +194,60 @@ fn binds_nothing(s: Side) -> Condition
 
 // A side condition that is an equality, in either mode: the left side, then the right one, then both.
 fn check_equality_condition(
-    job: &[u32],
-    found: &[u32],
-    bound: &[u32],
-    pairs: &[u32],
-    globals: &[u32],
-    rule: u32,
-    skinds: &mut [u32],
-    sends: &mut [u32],
-    spool: &mut [u32],
-    index: &mut [u32],
+    scope: &Scope<'_>,
+    store: &mut Store<'_>,
     fill: Fill,
     memo: &mut [u32],
     i: u32,
     left: u32,
     right: u32,
 ) -> Condition
-    requires ready { Ready job.now }
-    requires keyed { Keyed job.now found.now }
-    requires indexed { Indexed skinds.old sends.old spool.old index.old fill }
-    requires job_in_bounds { (sizes_of job.now).expressions + (sizes_of job.now).expressions < length memo.old }
+    requires ready { Ready scope.now.job.now }
+    requires keyed { Keyed scope.now.job.now scope.now.found.now }
+    requires indexed { Indexed store.old.kinds.now store.old.ends.now store.old.pool.now store.old.index.now fill }
+    requires job_in_bounds { (sizes_of scope.now.job.now).expressions + (sizes_of scope.now.job.now).expressions < length memo.old }
     requires past { Past memo.old }
-    requires left_bound { left < (sizes_of job.now).expressions }
-    requires right_bound { right < (sizes_of job.now).expressions }
-    ensures { (strict : Bool) → Checks skinds.old sends.old spool.old index.old fill skinds.new sends.new spool.new index.new result.fill result.refusal (bound_over result.binds (bindings_in bound.now pairs.now globals.now)) memo.new (model.check_side_condition (room_of skinds.old spool.old) (program_for job.now) rule (bindings_in bound.now pairs.now globals.now) strict (equal i (expr_for job.now left) (expr_for job.now right)) (terms_in skinds.old sends.old spool.old fill)) }
+    requires left_bound { left < (sizes_of scope.now.job.now).expressions }
+    requires right_bound { right < (sizes_of scope.now.job.now).expressions }
+    ensures does { (strict : Bool) → Checks store.old.kinds.now store.old.ends.now store.old.pool.now store.old.index.now fill store.new.kinds.now store.new.ends.now store.new.pool.now store.new.index.now result.fill result.refusal (bound_over result.binds (bindings_in scope.now.bound.now scope.now.pairs.now scope.now.globals.now)) memo.new (model.check_side_condition (room_of store.old.kinds.now store.old.pool.now) (program_for scope.now.job.now) scope.now.rule (bindings_in scope.now.bound.now scope.now.pairs.now scope.now.globals.now) strict (equal i (expr_for scope.now.job.now left) (expr_for scope.now.job.now right)) (terms_in store.old.kinds.now store.old.ends.now store.old.pool.now fill)) }
+    ensures loans { SameLoans store.old store.new }
 {
-    let a = eval_side(
-        job, found, bound, pairs, globals, rule, skinds, sends, spool, index, fill, memo, left,
-    );
+    let a = eval_side(scope, store, fill, memo, left);
     if a.refusal.number != 0 {
         return binds_nothing(a);
     }
-    let b = eval_side(
-        job, found, bound, pairs, globals, rule, skinds, sends, spool, index, a.fill, memo, right,
-    );
+    let b = eval_side(scope, store, a.fill, memo, right);
     if b.refusal.number != 0 {
         return binds_nothing(b);
     }
-    let lv = variable_of(job, left);
-    let rv = variable_of(job, right);
+    let lv = variable_of(scope.job, left);
+    let rv = variable_of(scope.job, right);
     let x = a.value;
     let y = b.value;
-    compare_sides(rule, i, lv, x, rv, y, b.fill)
+    compare_sides(scope.rule, i, lv, x, rv, y, b.fill)
 }
 
 // A side condition that is a bare call: it passes unevaluated; in strict mode it is evaluated as a side is. It binds nothing.
 fn check_bare_condition(
-    job: &[u32],
-    found: &[u32],
+    scope: &Scope<'_>,
     strict: bool,
-    bound: &[u32],
-    pairs: &[u32],
-    globals: &[u32],
-    rule: u32,
-    skinds: &mut [u32],
-    sends: &mut [u32],
-    spool: &mut [u32],
-    index: &mut [u32],
+    store: &mut Store<'_>,
     fill: Fill,
     memo: &mut [u32],
     i: u32,
     e: u32,
 ) -> Condition
-    requires ready { Ready job.now }
-    requires keyed { Keyed job.now found.now }
-    requires indexed { Indexed skinds.old sends.old spool.old index.old fill }
-    requires job_in_bounds { (sizes_of job.now).expressions + (sizes_of job.now).expressions < length memo.old }
+    requires ready { Ready scope.now.job.now }
+    requires keyed { Keyed scope.now.job.now scope.now.found.now }
+    requires indexed { Indexed store.old.kinds.now store.old.ends.now store.old.pool.now store.old.index.now fill }
+    requires job_in_bounds { (sizes_of scope.now.job.now).expressions + (sizes_of scope.now.job.now).expressions < length memo.old }
     requires past { Past memo.old }
-    requires e_bound { e < (sizes_of job.now).expressions }
-    ensures { Checks skinds.old sends.old spool.old index.old fill skinds.new sends.new spool.new index.new result.fill result.refusal (bound_over result.binds (bindings_in bound.now pairs.now globals.now)) memo.new (model.check_side_condition (room_of skinds.old spool.old) (program_for job.now) rule (bindings_in bound.now pairs.now globals.now) strict (bare i (expr_for job.now e)) (terms_in skinds.old sends.old spool.old fill)) }
+    requires e_bound { e < (sizes_of scope.now.job.now).expressions }
+    ensures does { Checks store.old.kinds.now store.old.ends.now store.old.pool.now store.old.index.now fill store.new.kinds.now store.new.ends.now store.new.pool.now store.new.index.now result.fill result.refusal (bound_over result.binds (bindings_in scope.now.bound.now scope.now.pairs.now scope.now.globals.now)) memo.new (model.check_side_condition (room_of store.old.kinds.now store.old.pool.now) (program_for scope.now.job.now) scope.now.rule (bindings_in scope.now.bound.now scope.now.pairs.now scope.now.globals.now) strict (bare i (expr_for scope.now.job.now e)) (terms_in store.old.kinds.now store.old.ends.now store.old.pool.now fill)) }
+    ensures loans { SameLoans store.old store.new }
 {
     if strict {
-        return binds_nothing(eval_side(
-            job, found, bound, pairs, globals, rule, skinds, sends, spool, index, fill, memo, e,
-        ));
+        return binds_nothing(eval_side(scope, store, fill, memo, e));
     }
     Condition {
         refusal: Refusal {
@@ -296,38 +262,25 @@ fn check_bare_condition(
 
 // `check_side_condition`: what it binds.
 pub fn check_side_condition(
-    job: &[u32],
-    found: &[u32],
+    scope: &Scope<'_>,
     strict: bool,
-    bound: &[u32],
-    pairs: &[u32],
-    globals: &[u32],
-    rule: u32,
-    skinds: &mut [u32],
-    sends: &mut [u32],
-    spool: &mut [u32],
-    index: &mut [u32],
+    store: &mut Store<'_>,
     fill: Fill,
     memo: &mut [u32],
     i: u32,
 ) -> Condition
-    requires ready { Ready job.now }
-    requires keyed { Keyed job.now found.now }
-    requires indexed { Indexed skinds.old sends.old spool.old index.old fill }
-    requires job_in_bounds { (sizes_of job.now).expressions + (sizes_of job.now).expressions < length memo.old }
+    requires ready { Ready scope.now.job.now }
+    requires keyed { Keyed scope.now.job.now scope.now.found.now }
+    requires indexed { Indexed store.old.kinds.now store.old.ends.now store.old.pool.now store.old.index.now fill }
+    requires job_in_bounds { (sizes_of scope.now.job.now).expressions + (sizes_of scope.now.job.now).expressions < length memo.old }
     requires past { Past memo.old }
-    requires i_bound { i < (sizes_of job.now).facts }
-    ensures { Checks skinds.old sends.old spool.old index.old fill skinds.new sends.new spool.new index.new result.fill result.refusal (bound_over result.binds (bindings_in bound.now pairs.now globals.now)) memo.new (model.check_side_condition (room_of skinds.old spool.old) (program_for job.now) rule (bindings_in bound.now pairs.now globals.now) strict (fact_for job.now i) (terms_in skinds.old sends.old spool.old fill)) }
+    requires i_bound { i < (sizes_of scope.now.job.now).facts }
+    ensures does { Checks store.old.kinds.now store.old.ends.now store.old.pool.now store.old.index.now fill store.new.kinds.now store.new.ends.now store.new.pool.now store.new.index.now result.fill result.refusal (bound_over result.binds (bindings_in scope.now.bound.now scope.now.pairs.now scope.now.globals.now)) memo.new (model.check_side_condition (room_of store.old.kinds.now store.old.pool.now) (program_for scope.now.job.now) scope.now.rule (bindings_in scope.now.bound.now scope.now.pairs.now scope.now.globals.now) strict (fact_for scope.now.job.now i) (terms_in store.old.kinds.now store.old.ends.now store.old.pool.now fill)) }
+    ensures loans { SameLoans store.old store.new }
 {
-    let fact = fact_at(job, wide(i));
+    let fact = fact_at(scope.job, wide(i));
     match fact {
-        Fact::Equal(l, r) => check_equality_condition(
-            job, found, bound, pairs, globals, rule, skinds, sends, spool, index, fill, memo, i, l,
-            r,
-        ),
-        Fact::Bare(e) => check_bare_condition(
-            job, found, strict, bound, pairs, globals, rule, skinds, sends, spool, index, fill,
-            memo, i, e,
-        ),
+        Fact::Equal(l, r) => check_equality_condition(scope, store, fill, memo, i, l, r),
+        Fact::Bare(e) => check_bare_condition(scope, strict, store, fill, memo, i, e),
     }
 }

@@ -2,6 +2,7 @@
 #![tactic(auto)]
 
 ghost use Rattle.std.specs.Prelude.{◌≡◌, List, [], ◌+◌, ◌≤◌, ◌<◌, length, drop};
+ghost use Rattle.index.specs.Loans.{SameLoans};
 ghost use Rattle.model.specs.Layout.{sizes_of};
 ghost use Rattle.model.specs.Program as model;
 ghost use Rattle.model.specs.Action.{among};
@@ -16,7 +17,7 @@ ghost use Rattle.context.specs.Contexts.{unions_have, Even, Joined, GlobalPairs,
 
 use actions::{Effect, process_action, push_binding};
 use decode::{Name, Proposition};
-use index::Fill;
+use index::{Fill, Store};
 use lookups::duplicate_rule_name;
 use marks::{clear, close, is_marked};
 use outcome::Refusal;
@@ -73,50 +74,19 @@ pub fn is_global_pair(unions: &[u32], marks: &[u32], q: Proposition) -> bool
 }
 
 // Global action i, in the context that the table has from `at` on and the first n words of the unions.
-fn global_action(
-    job: &[u32],
-    found: &[u32],
-    skinds: &mut [u32],
-    sends: &mut [u32],
-    spool: &mut [u32],
-    index: &mut [u32],
-    fill: Fill,
-    memo: &mut [u32],
-    marks: &mut [u32],
-    table: &mut [u32],
-    at: usize,
-    unions: &mut [u32],
-    n: usize,
-    i: u32,
-) -> Globals
-    requires standing { Standing job.now found.now (read_bindings (drop at table.old)) skinds.old sends.old spool.old index.old fill memo.old marks.old }
+fn global_action(job: &[u32], found: &[u32], store: &mut Store<'_>, fill: Fill, memo: &mut [u32], marks: &mut [u32], table: &mut [u32], at: usize, unions: &mut [u32], n: usize, i: u32) -> Globals
+    requires standing { Standing job.now found.now (read_bindings (drop at table.old)) store.old.kinds.now store.old.ends.now store.old.pool.now store.old.index.now fill memo.old marks.old }
     requires i_bound { i < (sizes_of job.now).actions }
     requires le_at { 2 ≤ at }
     requires at_in_bounds { at ≤ length table.old }
     requires n_in_bounds { n + 2 ≤ length unions.old }
     requires even { Even n }
-    ensures { Turned (program_for job.now) (action_for job.now i) skinds.old sends.old spool.old index.old fill marks.old table.old at unions.old n skinds.new sends.new spool.new index.new result memo.new marks.new table.new unions.new }
+    ensures does { Turned (program_for job.now) (action_for job.now i) store.old.kinds.now store.old.ends.now store.old.pool.now store.old.index.now fill marks.old table.old at unions.old n store.new.kinds.now store.new.ends.now store.new.pool.now store.new.index.now result memo.new marks.new table.new unions.new }
+    ensures loans { SameLoans store.old store.new }
 {
     let rule = Name::GLOBAL_ACTIONS.number;
     let none = &job[..0];
-    let r = process_action(
-        job,
-        found,
-        &table[at..],
-        none,
-        none,
-        rule,
-        skinds,
-        sends,
-        spool,
-        index,
-        fill,
-        memo,
-        false,
-        true,
-        marks,
-        i,
-    );
+    let r = process_action(&Scope { job, found, bound: &table[at..], pairs: none, globals: none, rule }, store, fill, memo, false, true, marks, i);
     let refusal = r.refusal;
     let have = r.fill;
     if refusal.number != 0 {
@@ -139,24 +109,13 @@ fn global_action(
 }
 
 // The global actions, one after the other.
-fn global_actions(
-    job: &[u32],
-    found: &[u32],
-    skinds: &mut [u32],
-    sends: &mut [u32],
-    spool: &mut [u32],
-    index: &mut [u32],
-    fill: Fill,
-    memo: &mut [u32],
-    marks: &mut [u32],
-    table: &mut [u32],
-    unions: &mut [u32],
-) -> Globals
-    requires standing { Standing job.now found.now [] skinds.old sends.old spool.old index.old fill memo.old marks.old }
-    requires marks { Marks (terms_in skinds.old sends.old spool.old fill) marks.old [] }
+fn global_actions(job: &[u32], found: &[u32], store: &mut Store<'_>, fill: Fill, memo: &mut [u32], marks: &mut [u32], table: &mut [u32], unions: &mut [u32]) -> Globals
+    requires standing { Standing job.now found.now [] store.old.kinds.now store.old.ends.now store.old.pool.now store.old.index.now fill memo.old marks.old }
+    requires marks { Marks (terms_in store.old.kinds.now store.old.ends.now store.old.pool.now fill) marks.old [] }
     requires table_len { length table.old ≡ 512 }
     requires unions_len { length unions.old ≡ 512 }
-    ensures { Collected (program_for job.now) skinds.old sends.old spool.old index.old fill skinds.new sends.new spool.new index.new result memo.new marks.new table.new unions.new }
+    ensures does { Collected (program_for job.now) store.old.kinds.now store.old.ends.now store.old.pool.now store.old.index.now fill store.new.kinds.now store.new.ends.now store.new.pool.now store.new.index.now result memo.new marks.new table.new unions.new }
+    ensures loans { SameLoans store.old store.new }
 {
     let count = globals(job);
     let mut have = fill;
@@ -164,7 +123,7 @@ fn global_actions(
     let mut n = 0;
     for i in 0..count {
         let r = global_action(
-            job, found, skinds, sends, spool, index, have, memo, marks, table, at, unions, n,
+            job, found, store, have, memo, marks, table, at, unions, n,
             i as u32,
         );
         if r.refusal.number != 0 {
@@ -187,23 +146,12 @@ fn global_actions(
 }
 
 // `ProofCheckContext::new`: no two rules of one name, the global actions, and their marks closed.
-pub fn new_context(
-    job: &[u32],
-    found: &[u32],
-    skinds: &mut [u32],
-    sends: &mut [u32],
-    spool: &mut [u32],
-    index: &mut [u32],
-    fill: Fill,
-    memo: &mut [u32],
-    marks: &mut [u32],
-    table: &mut [u32],
-    unions: &mut [u32],
-) -> Globals
-    requires standing { Standing job.now found.now [] skinds.old sends.old spool.old index.old fill memo.old marks.old }
+pub fn new_context(job: &[u32], found: &[u32], store: &mut Store<'_>, fill: Fill, memo: &mut [u32], marks: &mut [u32], table: &mut [u32], unions: &mut [u32]) -> Globals
+    requires standing { Standing job.now found.now [] store.old.kinds.now store.old.ends.now store.old.pool.now store.old.index.now fill memo.old marks.old }
     requires table_len { length table.old ≡ 512 }
     requires unions_len { length unions.old ≡ 512 }
-    ensures { Context (program_for job.now) skinds.old sends.old spool.old index.old fill skinds.new sends.new spool.new index.new result memo.new marks.new table.new unions.new }
+    ensures does { Context (program_for job.now) store.old.kinds.now store.old.ends.now store.old.pool.now store.old.index.now fill store.new.kinds.now store.new.ends.now store.new.pool.now store.new.index.now result memo.new marks.new table.new unions.new }
+    ensures loans { SameLoans store.old store.new }
 {
     let duplicate = duplicate_rule_name(job, found);
     if let Some(name) = duplicate {
@@ -220,12 +168,12 @@ pub fn new_context(
     }
     clear(marks);
     let r = global_actions(
-        job, found, skinds, sends, spool, index, fill, memo, marks, table, unions,
+        job, found, store, fill, memo, marks, table, unions,
     );
     if r.refusal.number != 0 {
         return r;
     }
     let have = r.fill;
-    close(skinds, sends, spool, have, marks);
+    close(store, have, marks);
     r
 }

@@ -3,6 +3,7 @@
 #![tactic(auto)]
 
 ghost use Rattle.std.specs.Prelude.{◌≡◌, List, [], ◌∷◌, cond, false, ℕ, suc, ◌+◌, ◌≤◌, ◌<◌, length, get_or, take, drop};
+ghost use Rattle.index.specs.Loans.{SameLoans};
 ghost use Rattle.model.specs.Layout.{sizes_of};
 ghost use Rattle.model.specs.Term.{Term, app};
 ghost use Rattle.model.specs.Program.{Binding};
@@ -23,26 +24,38 @@ ghost use Rattle.evaluate.specs.Evaluation.{Memo, Knows, KnowsFirst, Evaluates, 
 use cells::wide;
 use computing::{computed, find_computed};
 use decode::{Head, Validator};
-use index::Fill;
+use index::{Fill, Store};
 use lookups::row_value;
 use outcome::{Checked, add_app, add_lit, pass, refuse1, refuse2};
 use program::read::{arguments_at, head_at};
 use program::{lookup_pairs, primitive_at};
 use termdag::{find_app, find_lit};
 
+// What an expression is evaluated under: a job with its table of offences and chains, what conditions and lets bound, the pairs of a substitution and those of the
+// globals, and the rule that a refusal names.
+#[derive(Clone, Copy)]
+pub struct Scope<'a> {
+    pub job: &'a [u32],
+    pub found: &'a [u32],
+    pub bound: &'a [u32],
+    pub pairs: &'a [u32],
+    pub globals: &'a [u32],
+    pub rule: u32,
+}
+
 // The term bound to a name: by conditions and lets, by the substitution, by the globals.
-pub fn lookup(bound: &[u32], pairs: &[u32], globals: &[u32], name: u32) -> Option<u32>
-    ensures { option_of result ≡ lookup (bindings_in bound.now pairs.now globals.now) name }
+pub fn lookup(scope: &Scope<'_>, name: u32) -> Option<u32>
+    ensures { option_of result ≡ lookup (bindings_in scope.now.bound.now scope.now.pairs.now scope.now.globals.now) name }
 {
-    let first = lookup_pairs(bound, name);
+    let first = lookup_pairs(scope.bound, name);
     if let Some(t) = first {
         return Some(t);
     }
-    let second = lookup_pairs(pairs, name);
+    let second = lookup_pairs(scope.pairs, name);
     if let Some(t) = second {
         return Some(t);
     }
-    lookup_pairs(globals, name)
+    lookup_pairs(scope.globals, name)
 }
 
 // A primitive's value, computed or looked up: refusal n where it has no validator, 46 where the validator gives nothing.
@@ -50,20 +63,18 @@ fn validated(
     job: &[u32],
     found: &[u32],
     n: u32,
-    skinds: &mut [u32],
-    sends: &mut [u32],
-    spool: &mut [u32],
-    index: &mut [u32],
+    store: &mut Store<'_>,
     fill: Fill,
     p: u32,
     args: &[u32],
 ) -> Checked
     requires ready { Ready job.now }
     requires keyed { Keyed job.now found.now }
-    requires indexed { Indexed skinds.old sends.old spool.old index.old fill }
+    requires indexed { Indexed store.old.kinds.now store.old.ends.now store.old.pool.now store.old.index.now fill }
     requires p_bound { p < (sizes_of job.now).primitives }
     requires n_nonzero { 0 < n }
-    ensures { Does skinds.old sends.old spool.old index.old fill skinds.new sends.new spool.new index.new result.fill result.refusal result.value (validated (room_of skinds.old spool.old) (program_for job.now) n p args.now (terms_in skinds.old sends.old spool.old fill)) }
+    ensures does { Does store.old.kinds.now store.old.ends.now store.old.pool.now store.old.index.now fill store.new.kinds.now store.new.ends.now store.new.pool.now store.new.index.now result.fill result.refusal result.value (validated (room_of store.old.kinds.now store.old.pool.now) (program_for job.now) n p args.now (terms_in store.old.kinds.now store.old.ends.now store.old.pool.now fill)) }
+    ensures loans { SameLoans store.old store.new }
 {
     let primitive = primitive_at(job, wide(p));
     let name = primitive.name;
@@ -73,28 +84,19 @@ fn validated(
             Some(t) => pass(t, fill),
             None => refuse1(46, name, fill),
         },
-        Validator::Computes(operation) => computed(
-            skinds, sends, spool, index, fill, operation, name, args,
-        ),
+        Validator::Computes(operation) => computed(store, fill, operation, name, args),
         Validator::Unknown(_) => refuse1(46, name, fill),
     }
 }
 
 // A variable's value.
-pub fn variable(
-    bound: &[u32],
-    pairs: &[u32],
-    globals: &[u32],
-    rule: u32,
-    name: u32,
-    fill: Fill,
-) -> Checked
+pub fn variable(scope: &Scope<'_>, name: u32, fill: Fill) -> Checked
     ensures fill_value { result.fill ≡ fill }
-    ensures s_value { (s : List Term) → outcome_of result.refusal result.value s ≡ or_refuse (lookup (bindings_in bound.now pairs.now globals.now) name) 45 (rule ∷ name ∷ []) s }
+    ensures s_value { (s : List Term) → outcome_of result.refusal result.value s ≡ or_refuse (lookup (bindings_in scope.now.bound.now scope.now.pairs.now scope.now.globals.now) name) 45 (scope.now.rule ∷ name ∷ []) s }
 {
-    match lookup(bound, pairs, globals, name) {
+    match lookup(scope, name) {
         Some(t) => pass(t, fill),
-        None => refuse2(45, rule, name, fill),
+        None => refuse2(45, scope.rule, name, fill),
     }
 }
 
@@ -106,85 +108,63 @@ fn no_validator(fact: bool) -> u32
 }
 
 // A custom call's value: in an ordinary fact it has none.
-fn custom_value(
-    fact: bool,
-    skinds: &mut [u32],
-    sends: &mut [u32],
-    spool: &mut [u32],
-    index: &mut [u32],
-    fill: Fill,
-    f: u32,
-    args: &[u32],
-) -> Checked
-    requires indexed { Indexed skinds.old sends.old spool.old index.old fill }
+fn custom_value(fact: bool, store: &mut Store<'_>, fill: Fill, f: u32, args: &[u32]) -> Checked
+    requires indexed { Indexed store.old.kinds.now store.old.ends.now store.old.pool.now store.old.index.now fill }
     requires args_len_bound { length args.now ≤ 16 }
-    ensures { Does skinds.old sends.old spool.old index.old fill skinds.new sends.new spool.new index.new result.fill result.refusal result.value (custom_term fact (room_of skinds.old spool.old) f args.now (terms_in skinds.old sends.old spool.old fill)) }
+    ensures does { Does store.old.kinds.now store.old.ends.now store.old.pool.now store.old.index.now fill store.new.kinds.now store.new.ends.now store.new.pool.now store.new.index.now result.fill result.refusal result.value (custom_term fact (room_of store.old.kinds.now store.old.pool.now) f args.now (terms_in store.old.kinds.now store.old.ends.now store.old.pool.now fill)) }
+    ensures loans { SameLoans store.old store.new }
 {
     if fact {
         return refuse1(52, f, fill);
     }
-    add_app(skinds, sends, spool, index, fill, f, args)
+    add_app(store, fill, f, args)
 }
 
 // The value of an expression from its head and its arguments' values.
 pub fn head_value(
-    job: &[u32],
-    found: &[u32],
-    bound: &[u32],
-    pairs: &[u32],
-    globals: &[u32],
-    rule: u32,
+    scope: &Scope<'_>,
     fact: bool,
-    skinds: &mut [u32],
-    sends: &mut [u32],
-    spool: &mut [u32],
-    index: &mut [u32],
+    store: &mut Store<'_>,
     fill: Fill,
     head: Head,
     args: &[u32],
 ) -> Checked
-    requires ready { Ready job.now }
-    requires keyed { Keyed job.now found.now }
-    requires indexed { Indexed skinds.old sends.old spool.old index.old fill }
+    requires ready { Ready scope.now.job.now }
+    requires keyed { Keyed scope.now.job.now scope.now.found.now }
+    requires indexed { Indexed store.old.kinds.now store.old.ends.now store.old.pool.now store.old.index.now fill }
     requires args_len_bound { length args.now ≤ 16 }
-    requires by_index { (p : ℕ) → head ≡ heads.Head.Primitive p → p < (sizes_of job.now).primitives }
-    ensures { Does skinds.old sends.old spool.old index.old fill skinds.new sends.new spool.new index.new result.fill result.refusal result.value (head_term fact (room_of skinds.old spool.old) (program_for job.now) rule (bindings_in bound.now pairs.now globals.now) (head_of head) args.now (terms_in skinds.old sends.old spool.old fill)) }
+    requires by_index { (p : ℕ) → head ≡ heads.Head.Primitive p → p < (sizes_of scope.now.job.now).primitives }
+    ensures does { Does store.old.kinds.now store.old.ends.now store.old.pool.now store.old.index.now fill store.new.kinds.now store.new.ends.now store.new.pool.now store.new.index.now result.fill result.refusal result.value (head_term fact (room_of store.old.kinds.now store.old.pool.now) (program_for scope.now.job.now) scope.now.rule (bindings_in scope.now.bound.now scope.now.pairs.now scope.now.globals.now) (head_of head) args.now (terms_in store.old.kinds.now store.old.ends.now store.old.pool.now fill)) }
+    ensures loans { SameLoans store.old store.new }
 {
     match head {
-        Head::Lit(l) => add_lit(skinds, sends, spool, index, fill, l),
-        Head::Var(x) => variable(bound, pairs, globals, rule, x, fill),
-        Head::Constructor(f) => add_app(skinds, sends, spool, index, fill, f, args),
-        Head::Custom(f) => custom_value(fact, skinds, sends, spool, index, fill, f, args),
+        Head::Lit(l) => add_lit(store, fill, l),
+        Head::Var(x) => variable(scope, x, fill),
+        Head::Constructor(f) => add_app(store, fill, f, args),
+        Head::Custom(f) => custom_value(fact, store, fill, f, args),
         Head::Primitive(p) => {
             let n = no_validator(fact);
-            validated(job, found, n, skinds, sends, spool, index, fill, p, args)
+            validated(scope.job, scope.found, n, store, fill, p, args)
         }
     }
 }
 
 // The value of an expression that needs no evaluation: it is noted, or a variable that is bound, which is noted then.
-fn known_value(
-    job: &[u32],
-    bound: &[u32],
-    pairs: &[u32],
-    globals: &[u32],
-    memo: &mut [u32],
-    e: u32,
-) -> Option<u32>
-    requires ready { Ready job.now }
-    requires e_bound { e < (sizes_of job.now).expressions }
+fn known_value(scope: &Scope<'_>, memo: &mut [u32], e: u32) -> Option<u32>
+    requires ready { Ready scope.now.job.now }
+    requires e_bound { e < (sizes_of scope.now.job.now).expressions }
     requires e_in_bounds { e + e + 2 < length memo.old }
-    ensures { Knows (head_for job.now) (bindings_in bound.now pairs.now globals.now) e memo.old result memo.new }
+    ensures { Knows (head_for scope.now.job.now) (bindings_in scope.now.bound.now scope.now.pairs.now scope.now.globals.now) e memo.old result memo.new }
 {
     let at = wide(e);
     if memo::is_noted(memo, at) {
         return Some(memo::value_of(memo, at));
     }
-    let head = head_at(job, at);
+    let head = head_at(scope.job, at);
     let Head::Var(x) = head else {
         return None;
     };
-    match lookup(bound, pairs, globals, x) {
+    match lookup(scope, x) {
         Some(t) => {
             memo::note(memo, at, t);
             Some(t)
@@ -215,25 +195,17 @@ fn noted_values(memo: &[u32], args: &[u32], vals: &mut [u32; 16], from: usize) -
 }
 
 // The values of a call's arguments, from the first on, as far as they need no evaluation; how many they are.
-fn known_values(
-    job: &[u32],
-    bound: &[u32],
-    pairs: &[u32],
-    globals: &[u32],
-    memo: &mut [u32],
-    args: &[u32],
-    vals: &mut [u32; 16],
-) -> usize
-    requires ready { Ready job.now }
-    requires job_in_bounds { (sizes_of job.now).expressions + (sizes_of job.now).expressions < length memo.old }
+fn known_values(scope: &Scope<'_>, memo: &mut [u32], args: &[u32], vals: &mut [u32; 16]) -> usize
+    requires ready { Ready scope.now.job.now }
+    requires job_in_bounds { (sizes_of scope.now.job.now).expressions + (sizes_of scope.now.job.now).expressions < length memo.old }
     requires args_len_bound { length args.now ≤ 16 }
-    requires by_index { (j : ℕ) → j < length args.now → get_or args.now j 0 < (sizes_of job.now).expressions }
-    ensures known { KnowsFirst (head_for job.now) (bindings_in bound.now pairs.now globals.now) args.now memo.old vals.old result memo.new vals.new }
+    requires by_index { (j : ℕ) → j < length args.now → get_or args.now j 0 < (sizes_of scope.now.job.now).expressions }
+    ensures known { KnowsFirst (head_for scope.now.job.now) (bindings_in scope.now.bound.now scope.now.pairs.now scope.now.globals.now) args.now memo.old vals.old result memo.new vals.new }
     ensures next { result < length args.now → is_noted memo.new (get_or args.now result 0) ≡ false }
 {
     let mut i = noted_values(memo, args, vals, 0);
     while i < args.len() {
-        let known = known_value(job, bound, pairs, globals, memo, args[i]);
+        let known = known_value(scope, memo, args[i]);
         let Some(t) = known else {
             return i;
         };
@@ -244,72 +216,50 @@ fn known_values(
 }
 
 // The value of a call whose term is in the store already.
-fn find_call(
-    skinds: &[u32],
-    sends: &[u32],
-    spool: &[u32],
-    index: &[u32],
-    fill: Fill,
-    f: u32,
-    args: &[u32],
-) -> Option<u32>
-    requires indexed { Indexed skinds.now sends.now spool.now index.now fill }
+fn find_call(store: &Store<'_>, fill: Fill, f: u32, args: &[u32]) -> Option<u32>
+    requires indexed { Indexed store.now.kinds.now store.now.ends.now store.now.pool.now store.now.index.now fill }
     requires args_len_bound { length args.now ≤ 16 }
-    ensures { Known result (add_node (room_of skinds.now spool.now) (app f args.now) (terms_in skinds.now sends.now spool.now fill)) (terms_in skinds.now sends.now spool.now fill) }
+    ensures { Known result (add_node (room_of store.now.kinds.now store.now.pool.now) (app f args.now) (terms_in store.now.kinds.now store.now.ends.now store.now.pool.now fill)) (terms_in store.now.kinds.now store.now.ends.now store.now.pool.now fill) }
 {
     let mut ws = [0u32; 17];
     ws[0] = f;
     cells::copy(&mut ws, 1, args);
     let n = args.len() + 1;
-    find_app(skinds, sends, spool, index, fill, &ws[..n])
+    find_app(store, fill, &ws[..n])
 }
 
 // The value of a custom call whose term is in the store already: none in an ordinary fact.
-fn find_custom(
-    fact: bool,
-    skinds: &[u32],
-    sends: &[u32],
-    spool: &[u32],
-    index: &[u32],
-    fill: Fill,
-    f: u32,
-    args: &[u32],
-) -> Option<u32>
-    requires indexed { Indexed skinds.now sends.now spool.now index.now fill }
+fn find_custom(fact: bool, store: &Store<'_>, fill: Fill, f: u32, args: &[u32]) -> Option<u32>
+    requires indexed { Indexed store.now.kinds.now store.now.ends.now store.now.pool.now store.now.index.now fill }
     requires args_len_bound { length args.now ≤ 16 }
-    ensures { Known result (custom_term fact (room_of skinds.now spool.now) f args.now (terms_in skinds.now sends.now spool.now fill)) (terms_in skinds.now sends.now spool.now fill) }
+    ensures { Known result (custom_term fact (room_of store.now.kinds.now store.now.pool.now) f args.now (terms_in store.now.kinds.now store.now.ends.now store.now.pool.now fill)) (terms_in store.now.kinds.now store.now.ends.now store.now.pool.now fill) }
 {
     if fact {
         return None;
     }
-    find_call(skinds, sends, spool, index, fill, f, args)
+    find_call(store, fill, f, args)
 }
 
 // A primitive's value, if it needs no new term.
 fn find_validated(
     job: &[u32],
     found: &[u32],
-    skinds: &[u32],
-    sends: &[u32],
-    spool: &[u32],
-    index: &[u32],
+    store: &Store<'_>,
     fill: Fill,
     p: u32,
     args: &[u32],
 ) -> Option<u32>
     requires ready { Ready job.now }
     requires keyed { Keyed job.now found.now }
-    requires indexed { Indexed skinds.now sends.now spool.now index.now fill }
+    requires indexed { Indexed store.now.kinds.now store.now.ends.now store.now.pool.now store.now.index.now fill }
     requires p_bound { p < (sizes_of job.now).primitives }
-    ensures { (n : ℕ) → Known result (validated (room_of skinds.now spool.now) (program_for job.now) n p args.now (terms_in skinds.now sends.now spool.now fill)) (terms_in skinds.now sends.now spool.now fill) }
+    ensures { (n : ℕ) → Known result (validated (room_of store.now.kinds.now store.now.pool.now) (program_for job.now) n p args.now (terms_in store.now.kinds.now store.now.ends.now store.now.pool.now fill)) (terms_in store.now.kinds.now store.now.ends.now store.now.pool.now fill) }
 {
     let primitive = primitive_at(job, wide(p));
     match primitive.validator {
         Validator::Nothing | Validator::Unknown(_) => None,
         Validator::Rows => row_value(job, found, p, args),
-        Validator::Computes(operation) => {
-            find_computed(skinds, sends, spool, index, fill, operation, args)
-        }
+        Validator::Computes(operation) => { find_computed(store, fill, operation, args) }
     }
 }
 
@@ -318,56 +268,44 @@ fn find_value(
     job: &[u32],
     found: &[u32],
     fact: bool,
-    skinds: &[u32],
-    sends: &[u32],
-    spool: &[u32],
-    index: &[u32],
+    store: &Store<'_>,
     fill: Fill,
     head: Head,
     args: &[u32],
 ) -> Option<u32>
     requires ready { Ready job.now }
     requires keyed { Keyed job.now found.now }
-    requires indexed { Indexed skinds.now sends.now spool.now index.now fill }
+    requires indexed { Indexed store.now.kinds.now store.now.ends.now store.now.pool.now store.now.index.now fill }
     requires args_len_bound { length args.now ≤ 16 }
     requires by_index { (p : ℕ) → head ≡ heads.Head.Primitive p → p < (sizes_of job.now).primitives }
-    ensures { (rule : ℕ) (σ : List Binding) → Known result (head_term fact (room_of skinds.now spool.now) (program_for job.now) rule σ (head_of head) args.now (terms_in skinds.now sends.now spool.now fill)) (terms_in skinds.now sends.now spool.now fill) }
+    ensures { (rule : ℕ) (σ : List Binding) → Known result (head_term fact (room_of store.now.kinds.now store.now.pool.now) (program_for job.now) rule σ (head_of head) args.now (terms_in store.now.kinds.now store.now.ends.now store.now.pool.now fill)) (terms_in store.now.kinds.now store.now.ends.now store.now.pool.now fill) }
 {
     match head {
-        Head::Lit(l) => find_lit(skinds, sends, spool, index, fill, l),
+        Head::Lit(l) => find_lit(store, fill, l),
         Head::Var(_) => None,
-        Head::Constructor(f) => find_call(skinds, sends, spool, index, fill, f, args),
-        Head::Custom(f) => find_custom(fact, skinds, sends, spool, index, fill, f, args),
-        Head::Primitive(p) => find_validated(
-            job, found, skinds, sends, spool, index, fill, p, args,
-        ),
+        Head::Constructor(f) => find_call(store, fill, f, args),
+        Head::Custom(f) => find_custom(fact, store, fill, f, args),
+        Head::Primitive(p) => find_validated(job, found, store, fill, p, args),
     }
 }
 
 // The value of expression e, noted. One that is noted is not evaluated again. An expression that waits for the value of an argument is that argument's value in the memo
 // until it has one, so that the way back needs no stack.
 pub fn eval(
-    job: &[u32],
-    found: &[u32],
-    bound: &[u32],
-    pairs: &[u32],
-    globals: &[u32],
-    rule: u32,
+    scope: &Scope<'_>,
     fact: bool,
-    skinds: &mut [u32],
-    sends: &mut [u32],
-    spool: &mut [u32],
-    index: &mut [u32],
+    store: &mut Store<'_>,
     fill: Fill,
     memo: &mut [u32],
     e: u32,
 ) -> Checked
-    requires ready { Ready job.now }
-    requires keyed { Keyed job.now found.now }
-    requires indexed { Indexed skinds.old sends.old spool.old index.old fill }
-    requires e_bound { e < (sizes_of job.now).expressions }
-    requires memo { Memo (arguments_for job.now) (eval_for fact job.now rule (bindings_in bound.now pairs.now globals.now) (room_of skinds.old spool.old)) (sizes_of job.now).expressions (terms_in skinds.old sends.old spool.old fill) memo.old }
-    ensures { Evaluates (arguments_for job.now) (eval_for fact job.now rule (bindings_in bound.now pairs.now globals.now)) (sizes_of job.now).expressions e skinds.old sends.old spool.old index.old fill memo.old skinds.new sends.new spool.new index.new result memo.new }
+    requires ready { Ready scope.now.job.now }
+    requires keyed { Keyed scope.now.job.now scope.now.found.now }
+    requires indexed { Indexed store.old.kinds.now store.old.ends.now store.old.pool.now store.old.index.now fill }
+    requires e_bound { e < (sizes_of scope.now.job.now).expressions }
+    requires memo { Memo (arguments_for scope.now.job.now) (eval_for fact scope.now.job.now scope.now.rule (bindings_in scope.now.bound.now scope.now.pairs.now scope.now.globals.now) (room_of store.old.kinds.now store.old.pool.now)) (sizes_of scope.now.job.now).expressions (terms_in store.old.kinds.now store.old.ends.now store.old.pool.now fill) memo.old }
+    ensures does { Evaluates (arguments_for scope.now.job.now) (eval_for fact scope.now.job.now scope.now.rule (bindings_in scope.now.bound.now scope.now.pairs.now scope.now.globals.now)) (sizes_of scope.now.job.now).expressions e store.old.kinds.now store.old.ends.now store.old.pool.now store.old.index.now fill memo.old store.new.kinds.now store.new.ends.now store.new.pool.now store.new.index.now result memo.new }
+    ensures loans { SameLoans store.old store.new }
 {
     let root = wide(e);
     if memo::is_noted(memo, root) {
@@ -378,23 +316,20 @@ pub fn eval(
     let mut at = e;
     loop {
         let i = wide(at);
-        let args = arguments_at(job, i);
-        let count = known_values(job, bound, pairs, globals, memo, args, &mut vals);
+        let args = arguments_at(scope.job, i);
+        let count = known_values(scope, memo, args, &mut vals);
         if count < args.len() {
             let below = args[count];
             memo::put_value(memo, wide(below), at);
             at = below;
             continue;
         }
-        let head = head_at(job, i);
+        let head = head_at(scope.job, i);
         let known = find_value(
-            job,
-            found,
+            scope.job,
+            scope.found,
             fact,
-            skinds,
-            sends,
-            spool,
-            index,
+            store,
             have,
             head,
             &vals[..count],
@@ -408,22 +343,7 @@ pub fn eval(
             at = above;
             continue;
         }
-        let r = head_value(
-            job,
-            found,
-            bound,
-            pairs,
-            globals,
-            rule,
-            fact,
-            skinds,
-            sends,
-            spool,
-            index,
-            have,
-            head,
-            &vals[..count],
-        );
+        let r = head_value(scope, fact, store, have, head, &vals[..count]);
         if r.refusal.number != 0 {
             return r;
         }
@@ -439,31 +359,22 @@ pub fn eval(
 
 // The value of expression e: in an ordinary fact, or elsewhere.
 pub fn evaluate(
-    job: &[u32],
-    found: &[u32],
-    bound: &[u32],
-    pairs: &[u32],
-    globals: &[u32],
-    rule: u32,
+    scope: &Scope<'_>,
     fact: bool,
-    skinds: &mut [u32],
-    sends: &mut [u32],
-    spool: &mut [u32],
-    index: &mut [u32],
+    store: &mut Store<'_>,
     fill: Fill,
     memo: &mut [u32],
     e: u32,
 ) -> Checked
-    requires ready { Ready job.now }
-    requires keyed { Keyed job.now found.now }
-    requires indexed { Indexed skinds.old sends.old spool.old index.old fill }
-    requires e_bound { e < (sizes_of job.now).expressions }
-    requires job_in_bounds { (sizes_of job.now).expressions + (sizes_of job.now).expressions < length memo.old }
+    requires ready { Ready scope.now.job.now }
+    requires keyed { Keyed scope.now.job.now scope.now.found.now }
+    requires indexed { Indexed store.old.kinds.now store.old.ends.now store.old.pool.now store.old.index.now fill }
+    requires e_bound { e < (sizes_of scope.now.job.now).expressions }
+    requires job_in_bounds { (sizes_of scope.now.job.now).expressions + (sizes_of scope.now.job.now).expressions < length memo.old }
     requires past { Past memo.old }
-    ensures { EvaluatesRoot (arguments_for job.now) (value_for fact job.now rule (bindings_in bound.now pairs.now globals.now)) (sizes_of job.now).expressions e skinds.old sends.old spool.old index.old fill skinds.new sends.new spool.new index.new result memo.new }
+    ensures does { EvaluatesRoot (arguments_for scope.now.job.now) (value_for fact scope.now.job.now scope.now.rule (bindings_in scope.now.bound.now scope.now.pairs.now scope.now.globals.now)) (sizes_of scope.now.job.now).expressions e store.old.kinds.now store.old.ends.now store.old.pool.now store.old.index.now fill store.new.kinds.now store.new.ends.now store.new.pool.now store.new.index.now result memo.new }
+    ensures loans { SameLoans store.old store.new }
 {
     memo::new_round(memo);
-    eval(
-        job, found, bound, pairs, globals, rule, fact, skinds, sends, spool, index, fill, memo, e,
-    )
+    eval(scope, fact, store, fill, memo, e)
 }

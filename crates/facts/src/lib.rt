@@ -2,6 +2,7 @@
 #![tactic(auto)]
 
 ghost use Rattle.std.specs.Prelude.{◌≡◌, List, ◌+◌, ◌<◌, eqb, length, take};
+ghost use Rattle.index.specs.Loans.{SameLoans};
 ghost use Rattle.std.proofs.Math.Option.{none, some};
 ghost use Rattle.model.specs.Layout.{sizes_of};
 ghost use Rattle.model.specs.Term.{Term};
@@ -22,8 +23,8 @@ ghost use Rattle.facts.specs.Call.{function_fact_of};
 
 use cells::wide;
 use decode::{Fact, Head, Proposition};
-use evaluate::evaluate;
-use index::Fill;
+use evaluate::{Scope, evaluate};
+use index::{Fill, Store};
 use normal_form::variable_of;
 use outcome::{Checked, Refusal, add_app, pass};
 use program::read::{arguments_at, fact_at, head_at};
@@ -60,39 +61,22 @@ fn custom_of(job: &[u32], e: u32) -> Option<u32>
 }
 
 // The values of the arguments of expression e in an ordinary fact, written into `values`. They share one round: what two of them have in common is evaluated once.
-fn evaluate_arguments(
-    job: &[u32],
-    found: &[u32],
-    bound: &[u32],
-    pairs: &[u32],
-    globals: &[u32],
-    rule: u32,
-    skinds: &mut [u32],
-    sends: &mut [u32],
-    spool: &mut [u32],
-    index: &mut [u32],
-    fill: Fill,
-    memo: &mut [u32],
-    e: u32,
-    values: &mut [u32],
-) -> Checked
-    requires ready { Ready job.now }
-    requires keyed { Keyed job.now found.now }
-    requires indexed { Indexed skinds.old sends.old spool.old index.old fill }
-    requires job_in_bounds { (sizes_of job.now).expressions + (sizes_of job.now).expressions < length memo.old }
+fn evaluate_arguments(scope: &Scope<'_>, store: &mut Store<'_>, fill: Fill, memo: &mut [u32], e: u32, values: &mut [u32]) -> Checked
+    requires ready { Ready scope.now.job.now }
+    requires keyed { Keyed scope.now.job.now scope.now.found.now }
+    requires indexed { Indexed store.old.kinds.now store.old.ends.now store.old.pool.now store.old.index.now fill }
+    requires job_in_bounds { (sizes_of scope.now.job.now).expressions + (sizes_of scope.now.job.now).expressions < length memo.old }
     requires past { Past memo.old }
-    requires e_bound { e < (sizes_of job.now).expressions }
+    requires e_bound { e < (sizes_of scope.now.job.now).expressions }
     requires in_bounds { 16 < length values.old }
-    ensures { Checks skinds.old sends.old spool.old index.old fill skinds.new sends.new spool.new index.new result.fill result.refusal (take (length (arguments_for job.now e)) values.new) memo.new (eval_fact_exprs (room_of skinds.old spool.old) (program_for job.now) rule (bindings_in bound.now pairs.now globals.now) (arguments_by (expr_for job.now) (arguments_for job.now e)) (terms_in skinds.old sends.old spool.old fill)) }
+    ensures does { Checks store.old.kinds.now store.old.ends.now store.old.pool.now store.old.index.now fill store.new.kinds.now store.new.ends.now store.new.pool.now store.new.index.now result.fill result.refusal (take (length (arguments_for scope.now.job.now e)) values.new) memo.new (eval_fact_exprs (room_of store.old.kinds.now store.old.pool.now) (program_for scope.now.job.now) scope.now.rule (bindings_in scope.now.bound.now scope.now.pairs.now scope.now.globals.now) (arguments_by (expr_for scope.now.job.now) (arguments_for scope.now.job.now e)) (terms_in store.old.kinds.now store.old.ends.now store.old.pool.now fill)) }
+    ensures loans { SameLoans store.old store.new }
 {
-    let args = arguments_at(job, wide(e));
+    let args = arguments_at(scope.job, wide(e));
     memo::new_round(memo);
     let mut have = fill;
     for (i, argument) in args.iter().enumerate() {
-        let r = evaluate::eval(
-            job, found, bound, pairs, globals, rule, true, skinds, sends, spool, index, have, memo,
-            *argument,
-        );
+        let r = evaluate::eval(scope, true, store, have, memo, *argument);
         if r.refusal.number != 0 {
             return r;
         }
@@ -116,63 +100,30 @@ fn asks(c: Checked, lhs: u32, rhs: u32) -> Asked
 }
 
 // What a function fact asks for: the call, the variable's value appended, equal to itself.
-fn wanted_call(
-    job: &[u32],
-    found: &[u32],
-    bound: &[u32],
-    pairs: &[u32],
-    globals: &[u32],
-    rule: u32,
-    skinds: &mut [u32],
-    sends: &mut [u32],
-    spool: &mut [u32],
-    index: &mut [u32],
-    fill: Fill,
-    memo: &mut [u32],
-    e: u32,
-    function: u32,
-    variable: u32,
-) -> Asked
-    requires ready { Ready job.now }
-    requires keyed { Keyed job.now found.now }
-    requires indexed { Indexed skinds.old sends.old spool.old index.old fill }
-    requires job_in_bounds { (sizes_of job.now).expressions + (sizes_of job.now).expressions < length memo.old }
+fn wanted_call(scope: &Scope<'_>, store: &mut Store<'_>, fill: Fill, memo: &mut [u32], e: u32, function: u32, variable: u32) -> Asked
+    requires ready { Ready scope.now.job.now }
+    requires keyed { Keyed scope.now.job.now scope.now.found.now }
+    requires indexed { Indexed store.old.kinds.now store.old.ends.now store.old.pool.now store.old.index.now fill }
+    requires job_in_bounds { (sizes_of scope.now.job.now).expressions + (sizes_of scope.now.job.now).expressions < length memo.old }
     requires past { Past memo.old }
-    requires e_bound { e < (sizes_of job.now).expressions }
-    ensures { (right : Expr) → Checks skinds.old sends.old spool.old index.old fill skinds.new sends.new spool.new index.new result.fill result.refusal (proposition_of result.pair) memo.new (model.wanted_equality (room_of skinds.old spool.old) (program_for job.now) rule (bindings_in bound.now pairs.now globals.now) (expr_for job.now e) right (some (record { function = function; variable = variable })) (terms_in skinds.old sends.old spool.old fill)) }
+    requires e_bound { e < (sizes_of scope.now.job.now).expressions }
+    ensures does { (right : Expr) → Checks store.old.kinds.now store.old.ends.now store.old.pool.now store.old.index.now fill store.new.kinds.now store.new.ends.now store.new.pool.now store.new.index.now result.fill result.refusal (proposition_of result.pair) memo.new (model.wanted_equality (room_of store.old.kinds.now store.old.pool.now) (program_for scope.now.job.now) scope.now.rule (bindings_in scope.now.bound.now scope.now.pairs.now scope.now.globals.now) (expr_for scope.now.job.now e) right (some (record { function = function; variable = variable })) (terms_in store.old.kinds.now store.old.ends.now store.old.pool.now fill)) }
+    ensures loans { SameLoans store.old store.new }
 {
-    let v = evaluate::variable(bound, pairs, globals, rule, variable, fill);
+    let v = evaluate::variable(scope, variable, fill);
     if v.refusal.number != 0 {
         return asks(v, 0, 0);
     }
     let mut values = [0u32; 17];
-    let r = evaluate_arguments(
-        job,
-        found,
-        bound,
-        pairs,
-        globals,
-        rule,
-        skinds,
-        sends,
-        spool,
-        index,
-        fill,
-        memo,
-        e,
-        &mut values,
-    );
+    let r = evaluate_arguments(scope, store, fill, memo, e, &mut values);
     if r.refusal.number != 0 {
         return asks(r, 0, 0);
     }
-    let count = arguments_at(job, wide(e)).len();
+    let count = arguments_at(scope.job, wide(e)).len();
     values[count] = v.value;
     let end = count + 1;
     let t = add_app(
-        skinds,
-        sends,
-        spool,
-        index,
+        store,
         r.fill,
         function,
         &values[..end],
@@ -181,74 +132,38 @@ fn wanted_call(
 }
 
 // What an equality asks for that is no function fact: the values of its sides, which share one round.
-fn wanted_values(
-    job: &[u32],
-    found: &[u32],
-    bound: &[u32],
-    pairs: &[u32],
-    globals: &[u32],
-    rule: u32,
-    skinds: &mut [u32],
-    sends: &mut [u32],
-    spool: &mut [u32],
-    index: &mut [u32],
-    fill: Fill,
-    memo: &mut [u32],
-    left: u32,
-    right: u32,
-) -> Asked
-    requires ready { Ready job.now }
-    requires keyed { Keyed job.now found.now }
-    requires indexed { Indexed skinds.old sends.old spool.old index.old fill }
-    requires job_in_bounds { (sizes_of job.now).expressions + (sizes_of job.now).expressions < length memo.old }
+fn wanted_values(scope: &Scope<'_>, store: &mut Store<'_>, fill: Fill, memo: &mut [u32], left: u32, right: u32) -> Asked
+    requires ready { Ready scope.now.job.now }
+    requires keyed { Keyed scope.now.job.now scope.now.found.now }
+    requires indexed { Indexed store.old.kinds.now store.old.ends.now store.old.pool.now store.old.index.now fill }
+    requires job_in_bounds { (sizes_of scope.now.job.now).expressions + (sizes_of scope.now.job.now).expressions < length memo.old }
     requires past { Past memo.old }
-    requires left_bound { left < (sizes_of job.now).expressions }
-    requires right_bound { right < (sizes_of job.now).expressions }
-    ensures { Checks skinds.old sends.old spool.old index.old fill skinds.new sends.new spool.new index.new result.fill result.refusal (proposition_of result.pair) memo.new (model.wanted_equality (room_of skinds.old spool.old) (program_for job.now) rule (bindings_in bound.now pairs.now globals.now) (expr_for job.now left) (expr_for job.now right) none (terms_in skinds.old sends.old spool.old fill)) }
+    requires left_bound { left < (sizes_of scope.now.job.now).expressions }
+    requires right_bound { right < (sizes_of scope.now.job.now).expressions }
+    ensures does { Checks store.old.kinds.now store.old.ends.now store.old.pool.now store.old.index.now fill store.new.kinds.now store.new.ends.now store.new.pool.now store.new.index.now result.fill result.refusal (proposition_of result.pair) memo.new (model.wanted_equality (room_of store.old.kinds.now store.old.pool.now) (program_for scope.now.job.now) scope.now.rule (bindings_in scope.now.bound.now scope.now.pairs.now scope.now.globals.now) (expr_for scope.now.job.now left) (expr_for scope.now.job.now right) none (terms_in store.old.kinds.now store.old.ends.now store.old.pool.now fill)) }
+    ensures loans { SameLoans store.old store.new }
 {
     memo::new_round(memo);
-    let a = evaluate::eval(
-        job, found, bound, pairs, globals, rule, true, skinds, sends, spool, index, fill, memo,
-        left,
-    );
+    let a = evaluate::eval(scope, true, store, fill, memo, left);
     if a.refusal.number != 0 {
         return asks(a, 0, 0);
     }
-    let b = evaluate::eval(
-        job, found, bound, pairs, globals, rule, true, skinds, sends, spool, index, a.fill, memo,
-        right,
-    );
+    let b = evaluate::eval(scope, true, store, a.fill, memo, right);
     asks(b, a.value, b.value)
 }
 
 // What a bare fact asks for: its value, equal to itself.
-fn wanted_bare(
-    job: &[u32],
-    found: &[u32],
-    bound: &[u32],
-    pairs: &[u32],
-    globals: &[u32],
-    rule: u32,
-    skinds: &mut [u32],
-    sends: &mut [u32],
-    spool: &mut [u32],
-    index: &mut [u32],
-    fill: Fill,
-    memo: &mut [u32],
-    i: u32,
-    e: u32,
-) -> Asked
-    requires ready { Ready job.now }
-    requires keyed { Keyed job.now found.now }
-    requires indexed { Indexed skinds.old sends.old spool.old index.old fill }
-    requires job_in_bounds { (sizes_of job.now).expressions + (sizes_of job.now).expressions < length memo.old }
+fn wanted_bare(scope: &Scope<'_>, store: &mut Store<'_>, fill: Fill, memo: &mut [u32], i: u32, e: u32) -> Asked
+    requires ready { Ready scope.now.job.now }
+    requires keyed { Keyed scope.now.job.now scope.now.found.now }
+    requires indexed { Indexed store.old.kinds.now store.old.ends.now store.old.pool.now store.old.index.now fill }
+    requires job_in_bounds { (sizes_of scope.now.job.now).expressions + (sizes_of scope.now.job.now).expressions < length memo.old }
     requires past { Past memo.old }
-    requires e_bound { e < (sizes_of job.now).expressions }
-    ensures { Checks skinds.old sends.old spool.old index.old fill skinds.new sends.new spool.new index.new result.fill result.refusal (proposition_of result.pair) memo.new (model.wanted (room_of skinds.old spool.old) (program_for job.now) rule (bindings_in bound.now pairs.now globals.now) (bare i (expr_for job.now e)) (terms_in skinds.old sends.old spool.old fill)) }
+    requires e_bound { e < (sizes_of scope.now.job.now).expressions }
+    ensures does { Checks store.old.kinds.now store.old.ends.now store.old.pool.now store.old.index.now fill store.new.kinds.now store.new.ends.now store.new.pool.now store.new.index.now result.fill result.refusal (proposition_of result.pair) memo.new (model.wanted (room_of store.old.kinds.now store.old.pool.now) (program_for scope.now.job.now) scope.now.rule (bindings_in scope.now.bound.now scope.now.pairs.now scope.now.globals.now) (bare i (expr_for scope.now.job.now e)) (terms_in store.old.kinds.now store.old.ends.now store.old.pool.now fill)) }
+    ensures loans { SameLoans store.old store.new }
 {
-    let t = evaluate(
-        job, found, bound, pairs, globals, rule, true, skinds, sends, spool, index, fill, memo, e,
-    );
+    let t = evaluate(scope, true, store, fill, memo, e);
     asks(t, t.value, t.value)
 }
 
@@ -274,78 +189,39 @@ fn function_fact(job: &[u32], left: u32, right: u32) -> Option<FunctionFact>
 }
 
 // What an equality asks its premise to prove.
-fn wanted_equality(
-    job: &[u32],
-    found: &[u32],
-    bound: &[u32],
-    pairs: &[u32],
-    globals: &[u32],
-    rule: u32,
-    skinds: &mut [u32],
-    sends: &mut [u32],
-    spool: &mut [u32],
-    index: &mut [u32],
-    fill: Fill,
-    memo: &mut [u32],
-    i: u32,
-    left: u32,
-    right: u32,
-) -> Asked
-    requires ready { Ready job.now }
-    requires keyed { Keyed job.now found.now }
-    requires indexed { Indexed skinds.old sends.old spool.old index.old fill }
-    requires job_in_bounds { (sizes_of job.now).expressions + (sizes_of job.now).expressions < length memo.old }
+fn wanted_equality(scope: &Scope<'_>, store: &mut Store<'_>, fill: Fill, memo: &mut [u32], i: u32, left: u32, right: u32) -> Asked
+    requires ready { Ready scope.now.job.now }
+    requires keyed { Keyed scope.now.job.now scope.now.found.now }
+    requires indexed { Indexed store.old.kinds.now store.old.ends.now store.old.pool.now store.old.index.now fill }
+    requires job_in_bounds { (sizes_of scope.now.job.now).expressions + (sizes_of scope.now.job.now).expressions < length memo.old }
     requires past { Past memo.old }
-    requires left_bound { left < (sizes_of job.now).expressions }
-    requires right_bound { right < (sizes_of job.now).expressions }
-    ensures { Checks skinds.old sends.old spool.old index.old fill skinds.new sends.new spool.new index.new result.fill result.refusal (proposition_of result.pair) memo.new (model.wanted (room_of skinds.old spool.old) (program_for job.now) rule (bindings_in bound.now pairs.now globals.now) (equal i (expr_for job.now left) (expr_for job.now right)) (terms_in skinds.old sends.old spool.old fill)) }
+    requires left_bound { left < (sizes_of scope.now.job.now).expressions }
+    requires right_bound { right < (sizes_of scope.now.job.now).expressions }
+    ensures does { Checks store.old.kinds.now store.old.ends.now store.old.pool.now store.old.index.now fill store.new.kinds.now store.new.ends.now store.new.pool.now store.new.index.now result.fill result.refusal (proposition_of result.pair) memo.new (model.wanted (room_of store.old.kinds.now store.old.pool.now) (program_for scope.now.job.now) scope.now.rule (bindings_in scope.now.bound.now scope.now.pairs.now scope.now.globals.now) (equal i (expr_for scope.now.job.now left) (expr_for scope.now.job.now right)) (terms_in store.old.kinds.now store.old.ends.now store.old.pool.now fill)) }
+    ensures loans { SameLoans store.old store.new }
 {
-    let call = function_fact(job, left, right);
+    let call = function_fact(scope.job, left, right);
     match call {
-        Some(f) => wanted_call(
-            job, found, bound, pairs, globals, rule, skinds, sends, spool, index, fill, memo, left,
-            f.function, f.variable,
-        ),
-        None => wanted_values(
-            job, found, bound, pairs, globals, rule, skinds, sends, spool, index, fill, memo, left,
-            right,
-        ),
+        Some(f) => wanted_call(scope, store, fill, memo, left, f.function, f.variable),
+        None => wanted_values(scope, store, fill, memo, left, right),
     }
 }
 
 // What an ordinary fact asks its premise to prove.
-fn wanted(
-    job: &[u32],
-    found: &[u32],
-    bound: &[u32],
-    pairs: &[u32],
-    globals: &[u32],
-    rule: u32,
-    skinds: &mut [u32],
-    sends: &mut [u32],
-    spool: &mut [u32],
-    index: &mut [u32],
-    fill: Fill,
-    memo: &mut [u32],
-    i: u32,
-) -> Asked
-    requires ready { Ready job.now }
-    requires keyed { Keyed job.now found.now }
-    requires indexed { Indexed skinds.old sends.old spool.old index.old fill }
-    requires job_in_bounds { (sizes_of job.now).expressions + (sizes_of job.now).expressions < length memo.old }
+fn wanted(scope: &Scope<'_>, store: &mut Store<'_>, fill: Fill, memo: &mut [u32], i: u32) -> Asked
+    requires ready { Ready scope.now.job.now }
+    requires keyed { Keyed scope.now.job.now scope.now.found.now }
+    requires indexed { Indexed store.old.kinds.now store.old.ends.now store.old.pool.now store.old.index.now fill }
+    requires job_in_bounds { (sizes_of scope.now.job.now).expressions + (sizes_of scope.now.job.now).expressions < length memo.old }
     requires past { Past memo.old }
-    requires i_bound { i < (sizes_of job.now).facts }
-    ensures { Checks skinds.old sends.old spool.old index.old fill skinds.new sends.new spool.new index.new result.fill result.refusal (proposition_of result.pair) memo.new (model.wanted (room_of skinds.old spool.old) (program_for job.now) rule (bindings_in bound.now pairs.now globals.now) (fact_for job.now i) (terms_in skinds.old sends.old spool.old fill)) }
+    requires i_bound { i < (sizes_of scope.now.job.now).facts }
+    ensures does { Checks store.old.kinds.now store.old.ends.now store.old.pool.now store.old.index.now fill store.new.kinds.now store.new.ends.now store.new.pool.now store.new.index.now result.fill result.refusal (proposition_of result.pair) memo.new (model.wanted (room_of store.old.kinds.now store.old.pool.now) (program_for scope.now.job.now) scope.now.rule (bindings_in scope.now.bound.now scope.now.pairs.now scope.now.globals.now) (fact_for scope.now.job.now i) (terms_in store.old.kinds.now store.old.ends.now store.old.pool.now fill)) }
+    ensures loans { SameLoans store.old store.new }
 {
-    let fact = fact_at(job, wide(i));
+    let fact = fact_at(scope.job, wide(i));
     match fact {
-        Fact::Equal(l, r) => wanted_equality(
-            job, found, bound, pairs, globals, rule, skinds, sends, spool, index, fill, memo, i, l,
-            r,
-        ),
-        Fact::Bare(e) => wanted_bare(
-            job, found, bound, pairs, globals, rule, skinds, sends, spool, index, fill, memo, i, e,
-        ),
+        Fact::Equal(l, r) => wanted_equality(scope, store, fill, memo, i, l, r),
+        Fact::Bare(e) => wanted_bare(scope, store, fill, memo, i, e),
     }
 }
 
@@ -425,33 +301,17 @@ fn matches(job: &[u32], rule: u32, i: u32, w: Proposition, q: Proposition) -> Re
 }
 
 // `check_fact_matches_proposition`
-pub fn check_fact_matches_proposition(
-    job: &[u32],
-    found: &[u32],
-    bound: &[u32],
-    pairs: &[u32],
-    globals: &[u32],
-    rule: u32,
-    skinds: &mut [u32],
-    sends: &mut [u32],
-    spool: &mut [u32],
-    index: &mut [u32],
-    fill: Fill,
-    memo: &mut [u32],
-    i: u32,
-    q: Proposition,
-) -> Checked
-    requires ready { Ready job.now }
-    requires keyed { Keyed job.now found.now }
-    requires indexed { Indexed skinds.old sends.old spool.old index.old fill }
-    requires job_in_bounds { (sizes_of job.now).expressions + (sizes_of job.now).expressions < length memo.old }
+pub fn check_fact_matches_proposition(scope: &Scope<'_>, store: &mut Store<'_>, fill: Fill, memo: &mut [u32], i: u32, q: Proposition) -> Checked
+    requires ready { Ready scope.now.job.now }
+    requires keyed { Keyed scope.now.job.now scope.now.found.now }
+    requires indexed { Indexed store.old.kinds.now store.old.ends.now store.old.pool.now store.old.index.now fill }
+    requires job_in_bounds { (sizes_of scope.now.job.now).expressions + (sizes_of scope.now.job.now).expressions < length memo.old }
     requires past { Past memo.old }
-    requires i_bound { i < (sizes_of job.now).facts }
-    ensures { Checks skinds.old sends.old spool.old index.old fill skinds.new sends.new spool.new index.new result.fill result.refusal tt memo.new (model.check_fact_matches_proposition (room_of skinds.old spool.old) (program_for job.now) rule (bindings_in bound.now pairs.now globals.now) (fact_for job.now i) (proposition_of q) (terms_in skinds.old sends.old spool.old fill)) }
+    requires i_bound { i < (sizes_of scope.now.job.now).facts }
+    ensures does { Checks store.old.kinds.now store.old.ends.now store.old.pool.now store.old.index.now fill store.new.kinds.now store.new.ends.now store.new.pool.now store.new.index.now result.fill result.refusal tt memo.new (model.check_fact_matches_proposition (room_of store.old.kinds.now store.old.pool.now) (program_for scope.now.job.now) scope.now.rule (bindings_in scope.now.bound.now scope.now.pairs.now scope.now.globals.now) (fact_for scope.now.job.now i) (proposition_of q) (terms_in store.old.kinds.now store.old.ends.now store.old.pool.now fill)) }
+    ensures loans { SameLoans store.old store.new }
 {
-    let w = wanted(
-        job, found, bound, pairs, globals, rule, skinds, sends, spool, index, fill, memo, i,
-    );
+    let w = wanted(scope, store, fill, memo, i);
     let first = w.refusal;
     let have = w.fill;
     if first.number != 0 {
@@ -461,7 +321,7 @@ pub fn check_fact_matches_proposition(
             fill: have,
         };
     }
-    let refusal = matches(job, rule, i, w.pair, q);
+    let refusal = matches(scope.job, scope.rule, i, w.pair, q);
     Checked {
         refusal,
         value: 0,

@@ -2,6 +2,7 @@
 #![tactic(auto)]
 
 ghost use Rattle.std.specs.Prelude.{◌≡◌, true, List, [], ◌∷◌, map, ℕ, ◌≤◌, ◌<◌, length, get_or};
+ghost use Rattle.index.specs.Loans.{SameLoans};
 ghost use Rattle.std.proofs.Math.Option.{none};
 ghost use Rattle.model.specs.Layout.{sizes_of};
 ghost use Rattle.model.specs.Term.{Term};
@@ -21,8 +22,8 @@ ghost use Rattle.heads.specs.Heading.{cleared_if, claimed_by, LoneRun, Heads, Pr
 use actions::{Effect, process_action, push_binding, yield_value};
 use cells::wide;
 use decode::{Action, Name, Proposition};
-use evaluate::{evaluate, lookup};
-use index::Fill;
+use evaluate::{Scope, evaluate, lookup};
+use index::{Fill, Store};
 use lookups::merge_of;
 use outcome::{Checked, Refusal, pass, refuse1};
 use pairs::mark_values;
@@ -59,66 +60,33 @@ fn is_none(l: Option<u32>) -> bool
 }
 
 // After an action the values noted stand: it bound no name, or one that was not bound.
-fn is_steady(effect: Effect, bound: &[u32], pairs: &[u32], globals: &[u32]) -> bool
-    ensures { result ≡ true → Steady effect (bindings_in bound.now pairs.now globals.now) }
+fn is_steady(scope: &Scope<'_>, effect: Effect) -> bool
+    ensures { result ≡ true → Steady effect (bindings_in scope.now.bound.now scope.now.pairs.now scope.now.globals.now) }
 {
     match effect {
-        Effect::Bind(x, _) => is_none(lookup(bound, pairs, globals, x)),
+        Effect::Bind(x, _) => is_none(lookup(scope, x)),
         Effect::Union(_, _) => true,
         Effect::Nothing => true,
     }
 }
 
 // `process_actions` for a head. The actions share a round of the memo, up to a let that binds a name anew.
-fn head_actions(
-    job: &[u32],
-    found: &[u32],
-    bound: &[u32],
-    pairs: &[u32],
-    globals: &[u32],
-    rule: u32,
-    skinds: &mut [u32],
-    sends: &mut [u32],
-    spool: &mut [u32],
-    index: &mut [u32],
-    fill: Fill,
-    memo: &mut [u32],
-    marking: bool,
-    marks: &mut [u32],
-    actions: &[u32],
-    q: Proposition,
-) -> Headed
-    requires standing { Standing job.now found.now (bindings_in bound.now pairs.now globals.now) skinds.old sends.old spool.old index.old fill memo.old marks.old }
-    requires bound_len_bound { length bound.now ≤ 32 }
+fn head_actions(scope: &Scope<'_>, store: &mut Store<'_>, fill: Fill, memo: &mut [u32], marking: bool, marks: &mut [u32], actions: &[u32], q: Proposition) -> Headed
+    requires standing { Standing scope.now.job.now scope.now.found.now (bindings_in scope.now.bound.now scope.now.pairs.now scope.now.globals.now) store.old.kinds.now store.old.ends.now store.old.pool.now store.old.index.now fill memo.old marks.old }
+    requires bound_len_bound { length scope.now.bound.now ≤ 32 }
     requires actions_len_bound { length actions.now ≤ 64 }
-    requires by_index { (i : ℕ) → i < length actions.now → get_or actions.now i 0 < (sizes_of job.now).actions }
-    ensures { Heads (program_for job.now) rule (map (action_for job.now) actions.now) (bindings_in bound.now pairs.now globals.now) (proposition_of q) marking skinds.old sends.old spool.old index.old fill marks.old skinds.new sends.new spool.new index.new result memo.new marks.new }
+    requires by_index { (i : ℕ) → i < length actions.now → get_or actions.now i 0 < (sizes_of scope.now.job.now).actions }
+    ensures does { Heads (program_for scope.now.job.now) scope.now.rule (map (action_for scope.now.job.now) actions.now) (bindings_in scope.now.bound.now scope.now.pairs.now scope.now.globals.now) (proposition_of q) marking store.old.kinds.now store.old.ends.now store.old.pool.now store.old.index.now fill marks.old store.new.kinds.now store.new.ends.now store.new.pool.now store.new.index.now result memo.new marks.new }
+    ensures loans { SameLoans store.old store.new }
 {
     let mut table = [0u32; 160];
-    let mut at = 160 - bound.len();
-    cells::copy(&mut table, at, bound);
+    let mut at = 160 - scope.bound.len();
+    cells::copy(&mut table, at, scope.bound);
     let mut have = fill;
     let mut seen = false;
     let mut kept = false;
     for action in actions {
-        let r = process_action(
-            job,
-            found,
-            &table[at..],
-            pairs,
-            globals,
-            rule,
-            skinds,
-            sends,
-            spool,
-            index,
-            have,
-            memo,
-            kept,
-            marking,
-            marks,
-            *action,
-        );
+        let r = process_action(&Scope { job: scope.job, found: scope.found, bound: &table[at..], scope.pairs, scope.globals, scope.rule }, store, have, memo, kept, marking, marks, *action);
         have = r.fill;
         if r.refusal.number != 0 {
             let refusal = r.refusal;
@@ -130,7 +98,7 @@ fn head_actions(
         }
         let effect = r.effect;
         seen = seen | has_pair(effect, q);
-        kept = is_steady(effect, &table[at..], pairs, globals);
+        kept = is_steady(&Scope { job: scope.job, found: scope.found, bound: &table[at..], scope.pairs, scope.globals, scope.rule }, effect);
         at = push_binding(&mut table, at, effect);
     }
     Headed {
@@ -155,42 +123,26 @@ pub fn clear_if(marking: bool, marks: &mut [u32])
 }
 
 // A reflexive pair is among the pairs that the marks stand for: its term is marked, or is once they are closed.
-fn is_covered(
-    kinds: &[u32],
-    ends: &[u32],
-    pool: &[u32],
-    fill: Fill,
-    marks: &mut [u32],
-    t: u32,
-) -> bool
-    requires { Stored kinds.now ends.now pool.now fill }
-    ensures { result ≡ closing.is_marked (closing.close (terms_in kinds.now ends.now pool.now fill) fill.cells marks.old) t }
+fn is_covered(store: &Store<'_>, fill: Fill, marks: &mut [u32], t: u32) -> bool
+    requires { Stored store.now.kinds.now store.now.ends.now store.now.pool.now fill }
+    ensures { result ≡ closing.is_marked (closing.close (terms_in store.now.kinds.now store.now.ends.now store.now.pool.now fill) fill.cells marks.old) t }
 {
     if marks::is_marked(marks, t) {
         return true;
     }
-    marks::close(kinds, ends, pool, fill, marks);
+    marks::close(store, fill, marks);
     marks::is_marked(marks, t)
 }
 
 // The claimed pair is among the pairs: by the marks where it is reflexive, else by the unions.
-pub fn is_claimed(
-    kinds: &[u32],
-    ends: &[u32],
-    pool: &[u32],
-    fill: Fill,
-    marking: bool,
-    marks: &mut [u32],
-    found: bool,
-    t: u32,
-) -> bool
-    requires { Stored kinds.now ends.now pool.now fill }
-    ensures { result ≡ claimed_by marking found (closing.is_marked (closing.close (terms_in kinds.now ends.now pool.now fill) fill.cells marks.old) t) }
+pub fn is_claimed(store: &Store<'_>, fill: Fill, marking: bool, marks: &mut [u32], found: bool, t: u32) -> bool
+    requires { Stored store.now.kinds.now store.now.ends.now store.now.pool.now fill }
+    ensures { result ≡ claimed_by marking found (closing.is_marked (closing.close (terms_in store.now.kinds.now store.now.ends.now store.now.pool.now fill) fill.cells marks.old) t) }
 {
     if !marking {
         return found;
     }
-    is_covered(kinds, ends, pool, fill, marks, t)
+    is_covered(store, fill, marks, t)
 }
 
 // 31, where the claimed pair is not among the pairs.
@@ -234,31 +186,14 @@ fn lone_run(job: &[u32], marking: bool, actions: &[u32]) -> Option<u32>
 }
 
 // A head of one such action, for a reflexive claim: its value is compared first, and marked with those below it only where it is another.
-fn run_produces(
-    job: &[u32],
-    found: &[u32],
-    bound: &[u32],
-    pairs: &[u32],
-    globals: &[u32],
-    rule: u32,
-    skinds: &mut [u32],
-    sends: &mut [u32],
-    spool: &mut [u32],
-    index: &mut [u32],
-    fill: Fill,
-    memo: &mut [u32],
-    marks: &mut [u32],
-    e: u32,
-    q: Proposition,
-) -> Checked
-    requires standing { Standing job.now found.now (bindings_in bound.now pairs.now globals.now) skinds.old sends.old spool.old index.old fill memo.old marks.old }
-    requires e_bound { e < (sizes_of job.now).expressions }
+fn run_produces(scope: &Scope<'_>, store: &mut Store<'_>, fill: Fill, memo: &mut [u32], marks: &mut [u32], e: u32, q: Proposition) -> Checked
+    requires standing { Standing scope.now.job.now scope.now.found.now (bindings_in scope.now.bound.now scope.now.pairs.now scope.now.globals.now) store.old.kinds.now store.old.ends.now store.old.pool.now store.old.index.now fill memo.old marks.old }
+    requires e_bound { e < (sizes_of scope.now.job.now).expressions }
     requires lhs_value { q.lhs ≡ q.rhs }
-    ensures { (t : Rule) → rule ≡ t.name → run (expr_for job.now e) ∷ [] ≡ t.actions → Produces (program_for job.now) t (bindings_in bound.now pairs.now globals.now) (proposition_of q) skinds.old sends.old spool.old index.old fill skinds.new sends.new spool.new index.new result memo.new }
+    ensures does { (t : Rule) → scope.now.rule ≡ t.name → run (expr_for scope.now.job.now e) ∷ [] ≡ t.actions → Produces (program_for scope.now.job.now) t (bindings_in scope.now.bound.now scope.now.pairs.now scope.now.globals.now) (proposition_of q) store.old.kinds.now store.old.ends.now store.old.pool.now store.old.index.now fill store.new.kinds.now store.new.ends.now store.new.pool.now store.new.index.now result memo.new }
+    ensures loans { SameLoans store.old store.new }
 {
-    let v = evaluate(
-        job, found, bound, pairs, globals, rule, false, skinds, sends, spool, index, fill, memo, e,
-    );
+    let v = evaluate(scope, false, store, fill, memo, e);
     if v.refusal.number != 0 {
         return v;
     }
@@ -267,48 +202,28 @@ fn run_produces(
         return pass(0, have);
     }
     marks::clear(marks);
-    mark_values(memo, size(job, EXPRESSIONS), marks);
-    let claimed = is_covered(skinds, sends, spool, have, marks, q.lhs);
-    produced(claimed, rule, q, have)
+    mark_values(memo, size(scope.job, EXPRESSIONS), marks);
+    let claimed = is_covered(store, have, marks, q.lhs);
+    produced(claimed, scope.rule, q, have)
 }
 
 // `check_rule_produces_equality` for rule r.
-pub fn check_rule_produces_equality(
-    job: &[u32],
-    found: &[u32],
-    bound: &[u32],
-    pairs: &[u32],
-    globals: &[u32],
-    skinds: &mut [u32],
-    sends: &mut [u32],
-    spool: &mut [u32],
-    index: &mut [u32],
-    fill: Fill,
-    memo: &mut [u32],
-    marks: &mut [u32],
-    r: usize,
-    q: Proposition,
-) -> Checked
-    requires standing { Standing job.now found.now (bindings_in bound.now pairs.now globals.now) skinds.old sends.old spool.old index.old fill memo.old marks.old }
-    requires bound_len_bound { length bound.now ≤ 32 }
-    requires r_bound { r < (sizes_of job.now).rules }
-    ensures { Produces (program_for job.now) (rule_for job.now r) (bindings_in bound.now pairs.now globals.now) (proposition_of q) skinds.old sends.old spool.old index.old fill skinds.new sends.new spool.new index.new result memo.new }
+pub fn check_rule_produces_equality(scope: &Scope<'_>, store: &mut Store<'_>, fill: Fill, memo: &mut [u32], marks: &mut [u32], r: usize, q: Proposition) -> Checked
+    requires standing { Standing scope.now.job.now scope.now.found.now (bindings_in scope.now.bound.now scope.now.pairs.now scope.now.globals.now) store.old.kinds.now store.old.ends.now store.old.pool.now store.old.index.now fill memo.old marks.old }
+    requires bound_len_bound { length scope.now.bound.now ≤ 32 }
+    requires r_bound { r < (sizes_of scope.now.job.now).rules }
+    ensures does { Produces (program_for scope.now.job.now) (rule_for scope.now.job.now r) (bindings_in scope.now.bound.now scope.now.pairs.now scope.now.globals.now) (proposition_of q) store.old.kinds.now store.old.ends.now store.old.pool.now store.old.index.now fill store.new.kinds.now store.new.ends.now store.new.pool.now store.new.index.now result memo.new }
+    ensures loans { SameLoans store.old store.new }
 {
     let marking = q.lhs == q.rhs;
-    let rule = rule_name_at(job, r);
-    let actions = rule_actions_at(job, r);
-    let lone = lone_run(job, marking, actions);
+    let rule = rule_name_at(scope.job, r);
+    let actions = rule_actions_at(scope.job, r);
+    let lone = lone_run(scope.job, marking, actions);
     if let Some(e) = lone {
-        return run_produces(
-            job, found, bound, pairs, globals, rule, skinds, sends, spool, index, fill, memo,
-            marks, e, q,
-        );
+        return run_produces(scope, store, fill, memo, marks, e, q);
     }
     clear_if(marking, marks);
-    let h = head_actions(
-        job, found, bound, pairs, globals, rule, skinds, sends, spool, index, fill, memo, marking,
-        marks, actions, q,
-    );
+    let h = head_actions(scope, store, fill, memo, marking, marks, actions, q);
     let have = h.fill;
     if h.refusal.number != 0 {
         let refusal = h.refusal;
@@ -318,28 +233,15 @@ pub fn check_rule_produces_equality(
             fill: have,
         };
     }
-    let claimed = is_claimed(skinds, sends, spool, have, marking, marks, h.found, q.lhs);
+    let claimed = is_claimed(store, have, marking, marks, h.found, q.lhs);
     produced(claimed, rule, q, have)
 }
 
 // `run_merge`: with `old` and `new` alone.
-pub fn run_merge(
-    job: &[u32],
-    found: &[u32],
-    skinds: &mut [u32],
-    sends: &mut [u32],
-    spool: &mut [u32],
-    index: &mut [u32],
-    fill: Fill,
-    memo: &mut [u32],
-    marking: bool,
-    marks: &mut [u32],
-    function: u32,
-    old: u32,
-    new: u32,
-) -> Checked
-    requires { Standing job.now found.now (model.merge_bindings old new) skinds.old sends.old spool.old index.old fill memo.old marks.old }
-    ensures { Yields (program_for job.now) (model.merge_bindings old new) (model.run_merge (room_of skinds.old spool.old) (program_for job.now) function old new (terms_in skinds.old sends.old spool.old fill)) marking skinds.old sends.old spool.old index.old fill marks.old skinds.new sends.new spool.new index.new result memo.new marks.new }
+pub fn run_merge(job: &[u32], found: &[u32], store: &mut Store<'_>, fill: Fill, memo: &mut [u32], marking: bool, marks: &mut [u32], function: u32, old: u32, new: u32) -> Checked
+    requires { Standing job.now found.now (model.merge_bindings old new) store.old.kinds.now store.old.ends.now store.old.pool.now store.old.index.now fill memo.old marks.old }
+    ensures does { Yields (program_for job.now) (model.merge_bindings old new) (model.run_merge (room_of store.old.kinds.now store.old.pool.now) (program_for job.now) function old new (terms_in store.old.kinds.now store.old.ends.now store.old.pool.now fill)) marking store.old.kinds.now store.old.ends.now store.old.pool.now store.old.index.now fill marks.old store.new.kinds.now store.new.ends.now store.new.pool.now store.new.index.now result memo.new marks.new }
+    ensures loans { SameLoans store.old store.new }
 {
     let merge = merge_of(job, found, function);
     let bound = [Name::OLD.number, old, Name::NEW.number, new];
@@ -348,23 +250,7 @@ pub fn run_merge(
         None => refuse1(43, function, fill),
         Some(e) => {
             memo::new_round(memo);
-            yield_value(
-                job,
-                found,
-                &bound,
-                &none,
-                &none,
-                Name::MERGE_FUNCTION.number,
-                skinds,
-                sends,
-                spool,
-                index,
-                fill,
-                memo,
-                marking,
-                marks,
-                e,
-            )
+            yield_value(&Scope { job, found, bound: &bound, pairs: &none, globals: &none, rule: Name::MERGE_FUNCTION.number }, store, fill, memo, marking, marks, e)
         }
     }
 }

@@ -2,6 +2,7 @@
 #![tactic(auto)]
 
 ghost use Rattle.std.specs.Prelude.{◌≡◌, ◌+◌, ◌*◌, ◌%◌, ◌^◌, ◌<◌, ◌≤◌, length, replicate, slice_index, slice_set};
+ghost use Rattle.index.specs.Loans.{SameLoans};
 ghost use Rattle.model.specs.Cell.{cell_at, cells_of};
 ghost use Rattle.cells.specs.Table.{Formed, Once, add_cell, table_of};
 ghost use Rattle.index.specs.Mixing.{golden, multiplier_of, times, stirred, spread, mix_of, slot_of};
@@ -16,6 +17,15 @@ pub struct Fill {
     pub cells: usize,
     pub words: usize,
     pub multiplier: u32,
+}
+
+// The lent arrays of a table of cells, and of its index.
+#[derive(Drop)]
+pub struct Store<'a> {
+    pub kinds: &'a mut [u32],
+    pub ends: &'a mut [u32],
+    pub pool: &'a mut [u32],
+    pub index: &'a mut [u32],
 }
 
 // The number of a cell, or none where the table was full, and the fill after.
@@ -219,18 +229,15 @@ fn with_multiplier(a: cells::Added, multiplier: u32) -> Added
 }
 
 // The number of an equal cell, else of the cell appended, which the index then lists.
-pub fn add(
-    kinds: &mut [u32],
-    ends: &mut [u32],
-    pool: &mut [u32],
-    index: &mut [u32],
-    fill: Fill,
-    kind: u32,
-    ws: &[u32],
-) -> Added
-    requires { Ready kinds.old ends.old pool.old index.old fill }
-    ensures { Kept kinds.old ends.old pool.old index.old fill kinds.new ends.new pool.new index.new result (add_cell (record { kind = kind; words = ws.now }) (table_of kinds.old ends.old pool.old (table_fill fill))) }
+pub fn add(store: &mut Store<'_>, fill: Fill, kind: u32, ws: &[u32]) -> Added
+    requires { Ready store.old.kinds.now store.old.ends.now store.old.pool.now store.old.index.now fill }
+    ensures does { Kept store.old.kinds.now store.old.ends.now store.old.pool.now store.old.index.now fill store.new.kinds.now store.new.ends.now store.new.pool.now store.new.index.now result (add_cell (record { kind = kind; words = ws.now }) (table_of store.old.kinds.now store.old.ends.now store.old.pool.now (table_fill fill))) }
+    ensures loans { SameLoans store.old store.new }
 {
+    let kinds = &mut *store.kinds;
+    let ends = &mut *store.ends;
+    let pool = &mut *store.pool;
+    let index = &mut *store.index;
     let n = fill.cells;
     let x = fill.multiplier;
     let have = cells::Fill {

@@ -19,7 +19,7 @@ ghost use Rattle.lookups.specs.Keyed.{words_in, ChainedTable, Keyed};
 use cell_tests::words::at;
 use cells::{same_words, wide};
 use decode::{Term, read_function, read_normaliser, read_row, row_arguments, rule_name};
-use index::Fill;
+use index::{Fill, Store};
 use program::job::{
     FUNCTIONS, NORMALISERS, ROWS, RULES, cell_count, cell_words, ends, fill, first, kind_at, kinds,
     nearest_first, pool, size, words_at,
@@ -321,24 +321,16 @@ fn normalize_app(job: &[u32], found: &[u32], t: u32, head: u32, args: &[u32]) ->
 }
 
 // A container's normal form, in the store of terms; what is no application stays as it is.
-pub fn normalize_container(
-    job: &[u32],
-    found: &[u32],
-    skinds: &[u32],
-    sends: &[u32],
-    spool: &[u32],
-    sfill: Fill,
-    t: u32,
-) -> u32
+pub fn normalize_container(job: &[u32], found: &[u32], store: &Store<'_>, sfill: Fill, t: u32) -> u32
     requires ready { Ready job.now }
     requires keyed { Keyed job.now found.now }
-    requires stored { Stored skinds.now sends.now spool.now sfill }
+    requires stored { Stored store.now.kinds.now store.now.ends.now store.now.pool.now sfill }
     requires t_lt_cells { t < sfill.cells }
-    ensures { (room : Room) → normalize_container room (program_for job.now) t (terms_in skinds.now sends.now spool.now sfill) ≡ ok result (terms_in skinds.now sends.now spool.now sfill) }
+    ensures { (room : Room) → normalize_container room (program_for job.now) t (terms_in store.now.kinds.now store.now.ends.now store.now.pool.now sfill) ≡ ok result (terms_in store.now.kinds.now store.now.ends.now store.now.pool.now sfill) }
 {
     let n = wide(t);
-    let term = termdag::get(skinds, sends, spool, sfill, n);
-    let args = termdag::children(skinds, sends, spool, sfill, n);
+    let term = termdag::get(store, sfill, n);
+    let args = termdag::children(store, sfill, n);
     match term {
         Term::Lit(_) => t,
         Term::Var(_) => t,

@@ -6,7 +6,7 @@ ghost use Rattle.termdag.specs.Store.{terms_in, Stored};
 ghost use Rattle.marks.specs.Marks.{zeros, words_for, is_marked, with_mark, mark_all, close_at, close};
 
 use cells::wide;
-use index::Fill;
+use index::{Fill, Store};
 
 // The words that hold a mark for each of so many terms.
 pub fn words_for(terms: usize) -> usize
@@ -55,15 +55,15 @@ pub fn mark_all(marks: &mut [u32], xs: &[u32])
 }
 
 // If term i is marked, marks its children.
-fn close_at(kinds: &[u32], ends: &[u32], pool: &[u32], fill: Fill, i: usize, marks: &mut [u32])
-    requires stored { Stored kinds.now ends.now pool.now fill }
+fn close_at(store: &Store<'_>, fill: Fill, i: usize, marks: &mut [u32])
+    requires stored { Stored store.now.kinds.now store.now.ends.now store.now.pool.now fill }
     requires i_lt_cells { i < fill.cells }
-    ensures { marks.new ≡ close_at (terms_in kinds.now ends.now pool.now fill) i marks.old (is_marked marks.old i) }
+    ensures { marks.new ≡ close_at (terms_in store.now.kinds.now store.now.ends.now store.now.pool.now fill) i marks.old (is_marked marks.old i) }
 {
     if !is_marked(marks, i as u32) {
         return;
     }
-    let xs = termdag::children(kinds, ends, pool, fill, i);
+    let xs = termdag::children(store, fill, i);
     mark_all(marks, xs);
 }
 
@@ -83,9 +83,9 @@ fn is_bare(marks: &[u32], i: usize) -> bool
 }
 
 // From the top number down, each marked term marks its children; a word without a mark is stepped over.
-pub fn close(kinds: &[u32], ends: &[u32], pool: &[u32], fill: Fill, marks: &mut [u32])
-    requires { Stored kinds.now ends.now pool.now fill }
-    ensures { marks.new ≡ close (terms_in kinds.now ends.now pool.now fill) fill.cells marks.old }
+pub fn close(store: &Store<'_>, fill: Fill, marks: &mut [u32])
+    requires { Stored store.now.kinds.now store.now.ends.now store.now.pool.now fill }
+    ensures { marks.new ≡ close (terms_in store.now.kinds.now store.now.ends.now store.now.pool.now fill) fill.cells marks.old }
 {
     let mut i = fill.cells;
     // a `for` would be no plainer: it goes by 1 or by 32
@@ -95,6 +95,6 @@ pub fn close(kinds: &[u32], ends: &[u32], pool: &[u32], fill: Fill, marks: &mut 
             continue;
         }
         i -= 1;
-        close_at(kinds, ends, pool, fill, i, marks);
+        close_at(store, fill, i, marks);
     }
 }

@@ -2,6 +2,7 @@
 #![tactic(auto)]
 
 ghost use Rattle.std.specs.Prelude.{◌≡◌, List, [], ◌∷◌, false, ◌||◌, ◌<◌, eqb, length, set};
+ghost use Rattle.index.specs.Loans.{SameLoans};
 ghost use Rattle.model.specs.Term as terms;
 ghost use Rattle.model.specs.Check.{check_that, add_node};
 ghost use Rattle.model.specs.Evaluate as evaluate;
@@ -22,7 +23,7 @@ ghost use Rattle.merges.specs.Step.{refused_unless, app_with, Small, merging_of,
 use cells::wide;
 use decode::{Proposition, Term};
 use heads::{clear_if, is_claimed, run_merge};
-use index::Fill;
+use index::{Fill, Store};
 use outcome::{Checked, Refusal, add_app};
 use termdag::children;
 
@@ -50,12 +51,12 @@ pub fn check_that(test: bool, refusal: Refusal) -> Refusal
 }
 
 // The head of a term, if it is an application.
-pub fn app_head(kinds: &[u32], ends: &[u32], pool: &[u32], fill: Fill, t: u32) -> Option<u32>
-    requires stored { Stored kinds.now ends.now pool.now fill }
+pub fn app_head(store: &Store<'_>, fill: Fill, t: u32) -> Option<u32>
+    requires stored { Stored store.now.kinds.now store.now.ends.now store.now.pool.now fill }
     requires t_lt_cells { t < fill.cells }
-    ensures { app_with (option_of result) (evaluate.children (terms.get_term (terms_in kinds.now ends.now pool.now fill) t)) ≡ as_app (terms.get_term (terms_in kinds.now ends.now pool.now fill) t) }
+    ensures { app_with (option_of result) (evaluate.children (terms.get_term (terms_in store.now.kinds.now store.now.ends.now store.now.pool.now fill) t)) ≡ as_app (terms.get_term (terms_in store.now.kinds.now store.now.ends.now store.now.pool.now fill) t) }
 {
-    let term = termdag::get(kinds, ends, pool, fill, wide(t));
+    let term = termdag::get(store, fill, wide(t));
     match term {
         Term::Lit(_) => None,
         Term::Var(_) => None,
@@ -64,28 +65,19 @@ pub fn app_head(kinds: &[u32], ends: &[u32], pool: &[u32], fill: Fill, t: u32) -
 }
 
 // The application of a head to the children of t, of which child i is replaced by x.
-pub fn replace_child(
-    kinds: &mut [u32],
-    ends: &mut [u32],
-    pool: &mut [u32],
-    index: &mut [u32],
-    fill: Fill,
-    t: u32,
-    head: u32,
-    i: usize,
-    x: u32,
-) -> Checked
-    requires indexed { Indexed kinds.old ends.old pool.old index.old fill }
-    requires small { Small (terms_in kinds.old ends.old pool.old fill) t }
-    requires i_in_bounds { i < length (evaluate.children (terms.get_term (terms_in kinds.old ends.old pool.old fill) t)) }
-    ensures { Does kinds.old ends.old pool.old index.old fill kinds.new ends.new pool.new index.new result.fill result.refusal result.value (add_node (room_of kinds.old pool.old) (terms.app head (set (evaluate.children (terms.get_term (terms_in kinds.old ends.old pool.old fill) t)) i x)) (terms_in kinds.old ends.old pool.old fill)) }
+pub fn replace_child(store: &mut Store<'_>, fill: Fill, t: u32, head: u32, i: usize, x: u32) -> Checked
+    requires indexed { Indexed store.old.kinds.now store.old.ends.now store.old.pool.now store.old.index.now fill }
+    requires small { Small (terms_in store.old.kinds.now store.old.ends.now store.old.pool.now fill) t }
+    requires i_in_bounds { i < length (evaluate.children (terms.get_term (terms_in store.old.kinds.now store.old.ends.now store.old.pool.now fill) t)) }
+    ensures does { Does store.old.kinds.now store.old.ends.now store.old.pool.now store.old.index.now fill store.new.kinds.now store.new.ends.now store.new.pool.now store.new.index.now result.fill result.refusal result.value (add_node (room_of store.old.kinds.now store.old.pool.now) (terms.app head (set (evaluate.children (terms.get_term (terms_in store.old.kinds.now store.old.ends.now store.old.pool.now fill) t)) i x)) (terms_in store.old.kinds.now store.old.ends.now store.old.pool.now fill)) }
+    ensures loans { SameLoans store.old store.new }
 {
     let mut args = [0u32; 17];
-    let xs = children(kinds, ends, pool, fill, wide(t));
+    let xs = children(store, fill, wide(t));
     let n = xs.len();
     cells::copy(&mut args, 0, xs);
     args[i] = x;
-    add_app(kinds, ends, pool, index, fill, head, &args[..n])
+    add_app(store, fill, head, &args[..n])
 }
 
 // Two claims that are reflexive.
@@ -171,26 +163,18 @@ fn compare_views(xs: &[u32], ys: &[u32], p: u32, f: u32, g: u32) -> Views
 }
 
 // The views that two claims are of.
-fn read_views(
-    kinds: &[u32],
-    ends: &[u32],
-    pool: &[u32],
-    fill: Fill,
-    p: u32,
-    a: Proposition,
-    b: Proposition,
-) -> Views
-    requires stored { Stored kinds.now ends.now pool.now fill }
+fn read_views(store: &Store<'_>, fill: Fill, p: u32, a: Proposition, b: Proposition) -> Views
+    requires stored { Stored store.now.kinds.now store.now.ends.now store.now.pool.now fill }
     requires rhs_lt_cells { a.rhs < fill.cells }
     requires rhs_lt_cells_2 { b.rhs < fill.cells }
-    ensures { outcome_of result.refusal (merging_of result (front (evaluate.children (terms.get_term (terms_in kinds.now ends.now pool.now fill) a.rhs)))) (terms_in kinds.now ends.now pool.now fill) ≡ read_views p (proposition_of a) (proposition_of b) (terms_in kinds.now ends.now pool.now fill) }
+    ensures { outcome_of result.refusal (merging_of result (front (evaluate.children (terms.get_term (terms_in store.now.kinds.now store.now.ends.now store.now.pool.now fill) a.rhs)))) (terms_in store.now.kinds.now store.now.ends.now store.now.pool.now fill) ≡ read_views p (proposition_of a) (proposition_of b) (terms_in store.now.kinds.now store.now.ends.now store.now.pool.now fill) }
 {
     let first = both_reflexive(p, a, b);
     if first.number != 0 {
         return refused_views(first);
     }
-    let x = app_head(kinds, ends, pool, fill, a.rhs);
-    let y = app_head(kinds, ends, pool, fill, b.rhs);
+    let x = app_head(store, fill, a.rhs);
+    let y = app_head(store, fill, b.rhs);
     let none = Refusal {
         number: 37,
         count: 3,
@@ -202,27 +186,18 @@ fn read_views(
     let Some(g) = y else {
         return refused_views(none);
     };
-    let xs = children(kinds, ends, pool, fill, wide(a.rhs));
-    let ys = children(kinds, ends, pool, fill, wide(b.rhs));
+    let xs = children(store, fill, wide(a.rhs));
+    let ys = children(store, fill, wide(b.rhs));
     compare_views(xs, ys, p, f, g)
 }
 
 // The claimed pair is the view, equal to itself, or one that the marks stand for.
-fn view_claimed(
-    kinds: &[u32],
-    ends: &[u32],
-    pool: &[u32],
-    fill: Fill,
-    marks: &mut [u32],
-    p: u32,
-    q: Proposition,
-    view: u32,
-) -> Refusal
-    requires { Stored kinds.now ends.now pool.now fill }
-    ensures { (s : List terms.Term) → outcome_of result tt s ≡ check_that (same_proposition (proposition_of q) (evaluate.same view) || claimed_by (eqb q.lhs q.rhs) false (closing.is_marked (closing.close (terms_in kinds.now ends.now pool.now fill) fill.cells marks.old) q.lhs)) 38 (p ∷ q.lhs ∷ q.rhs ∷ []) s }
+fn view_claimed(store: &Store<'_>, fill: Fill, marks: &mut [u32], p: u32, q: Proposition, view: u32) -> Refusal
+    requires { Stored store.now.kinds.now store.now.ends.now store.now.pool.now fill }
+    ensures { (s : List terms.Term) → outcome_of result tt s ≡ check_that (same_proposition (proposition_of q) (evaluate.same view) || claimed_by (eqb q.lhs q.rhs) false (closing.is_marked (closing.close (terms_in store.now.kinds.now store.now.ends.now store.now.pool.now fill) fill.cells marks.old) q.lhs)) 38 (p ∷ q.lhs ∷ q.rhs ∷ []) s }
 {
     let marking = q.lhs == q.rhs;
-    let covered = is_claimed(kinds, ends, pool, fill, marking, marks, false, q.lhs);
+    let covered = is_claimed(store, fill, marking, marks, false, q.lhs);
     check_that(
         ((q.lhs == view) & (q.rhs == view)) | covered,
         Refusal {
@@ -234,31 +209,20 @@ fn view_claimed(
 }
 
 // The view of a merged value is added, with the inputs of t, and the claimed pair looked for.
-fn add_view(
-    kinds: &mut [u32],
-    ends: &mut [u32],
-    pool: &mut [u32],
-    index: &mut [u32],
-    fill: Fill,
-    marks: &mut [u32],
-    p: u32,
-    q: Proposition,
-    t: u32,
-    head: u32,
-    value: u32,
-) -> Checked
-    requires indexed { Indexed kinds.old ends.old pool.old index.old fill }
-    requires small { Small (terms_in kinds.old ends.old pool.old fill) t }
-    requires nonzero { 0 < length (evaluate.children (terms.get_term (terms_in kinds.old ends.old pool.old fill) t)) }
-    ensures { AddsView p (proposition_of q) t head value kinds.old ends.old pool.old index.old fill marks.old kinds.new ends.new pool.new index.new result }
+fn add_view(store: &mut Store<'_>, fill: Fill, marks: &mut [u32], p: u32, q: Proposition, t: u32, head: u32, value: u32) -> Checked
+    requires indexed { Indexed store.old.kinds.now store.old.ends.now store.old.pool.now store.old.index.now fill }
+    requires small { Small (terms_in store.old.kinds.now store.old.ends.now store.old.pool.now fill) t }
+    requires nonzero { 0 < length (evaluate.children (terms.get_term (terms_in store.old.kinds.now store.old.ends.now store.old.pool.now fill) t)) }
+    ensures does { AddsView p (proposition_of q) t head value store.old.kinds.now store.old.ends.now store.old.pool.now store.old.index.now fill marks.old store.new.kinds.now store.new.ends.now store.new.pool.now store.new.index.now result }
+    ensures loans { SameLoans store.old store.new }
 {
-    let n = children(kinds, ends, pool, fill, wide(t)).len();
-    let r = replace_child(kinds, ends, pool, index, fill, t, head, n - 1, value);
+    let n = children(store, fill, wide(t)).len();
+    let r = replace_child(store, fill, t, head, n - 1, value);
     if r.refusal.number != 0 {
         return r;
     }
     let have = r.fill;
-    let refusal = view_claimed(kinds, ends, pool, have, marks, p, q, r.value);
+    let refusal = view_claimed(store, have, marks, p, q, r.value);
     Checked {
         refusal,
         value: 0,
@@ -267,28 +231,14 @@ fn add_view(
 }
 
 // `MergeFn`: the views of a and b, merged by the function named.
-pub fn merge_step(
-    job: &[u32],
-    found: &[u32],
-    skinds: &mut [u32],
-    sends: &mut [u32],
-    spool: &mut [u32],
-    index: &mut [u32],
-    fill: Fill,
-    memo: &mut [u32],
-    marks: &mut [u32],
-    p: u32,
-    q: Proposition,
-    function: u32,
-    a: Proposition,
-    b: Proposition,
-) -> Checked
-    requires standing { Standing job.now found.now [] skinds.old sends.old spool.old index.old fill memo.old marks.old }
-    requires small { Small (terms_in skinds.old sends.old spool.old fill) a.rhs }
-    requires small_2 { Small (terms_in skinds.old sends.old spool.old fill) b.rhs }
-    ensures { Checks skinds.old sends.old spool.old index.old fill skinds.new sends.new spool.new index.new result.fill result.refusal tt memo.new (merge_step (room_of skinds.old spool.old) (program_for job.now) p (proposition_of q) function (proposition_of a) (proposition_of b) (terms_in skinds.old sends.old spool.old fill)) }
+pub fn merge_step(job: &[u32], found: &[u32], store: &mut Store<'_>, fill: Fill, memo: &mut [u32], marks: &mut [u32], p: u32, q: Proposition, function: u32, a: Proposition, b: Proposition) -> Checked
+    requires standing { Standing job.now found.now [] store.old.kinds.now store.old.ends.now store.old.pool.now store.old.index.now fill memo.old marks.old }
+    requires small { Small (terms_in store.old.kinds.now store.old.ends.now store.old.pool.now fill) a.rhs }
+    requires small_2 { Small (terms_in store.old.kinds.now store.old.ends.now store.old.pool.now fill) b.rhs }
+    ensures does { Checks store.old.kinds.now store.old.ends.now store.old.pool.now store.old.index.now fill store.new.kinds.now store.new.ends.now store.new.pool.now store.new.index.now result.fill result.refusal tt memo.new (merge_step (room_of store.old.kinds.now store.old.pool.now) (program_for job.now) p (proposition_of q) function (proposition_of a) (proposition_of b) (terms_in store.old.kinds.now store.old.ends.now store.old.pool.now fill)) }
+    ensures loans { SameLoans store.old store.new }
 {
-    let v = read_views(skinds, sends, spool, fill, p, a, b);
+    let v = read_views(store, fill, p, a, b);
     let first = v.refusal;
     if first.number != 0 {
         return Checked {
@@ -300,12 +250,12 @@ pub fn merge_step(
     let marking = q.lhs == q.rhs;
     clear_if(marking, marks);
     let m = run_merge(
-        job, found, skinds, sends, spool, index, fill, memo, marking, marks, function, v.old, v.new,
+        job, found, store, fill, memo, marking, marks, function, v.old, v.new,
     );
     if m.refusal.number != 0 {
         return m;
     }
     add_view(
-        skinds, sends, spool, index, m.fill, marks, p, q, a.rhs, v.head, m.value,
+        store, m.fill, marks, p, q, a.rhs, v.head, m.value,
     )
 }

@@ -2,6 +2,7 @@
 #![tactic(auto)]
 
 ghost use Rattle.std.specs.Prelude.{◌≡◌, [], ◌∷◌, ◌≤◌, ◌<◌, ◌^◌, length};
+ghost use Rattle.index.specs.Loans.{SameLoans};
 ghost use Rattle.model.specs.Term.{lit, app};
 ghost use Rattle.model.specs.Check.{add_node};
 ghost use Rattle.decode.specs.View.{literal_of};
@@ -9,7 +10,7 @@ ghost use Rattle.termdag.specs.Store.{terms_in, Indexed, room_of};
 ghost use Rattle.outcome.specs.Does.{passed, refusal, checked_of, Does};
 
 use decode::Literal;
-use index::{Added, Fill};
+use index::{Added, Fill, Store};
 
 // A refusal: its number, and its fields, of which the first `count` are used. The number 0 is none.
 #[derive(Clone, Copy)]
@@ -84,35 +85,22 @@ fn added(a: Added) -> Checked
 }
 
 // `lit`: the number of a literal, added if there is none equal.
-pub fn add_lit(
-    kinds: &mut [u32],
-    ends: &mut [u32],
-    pool: &mut [u32],
-    index: &mut [u32],
-    fill: Fill,
-    l: Literal,
-) -> Checked
-    requires { Indexed kinds.old ends.old pool.old index.old fill }
-    ensures { Does kinds.old ends.old pool.old index.old fill kinds.new ends.new pool.new index.new result.fill result.refusal result.value (add_node (room_of kinds.old pool.old) (lit (literal_of l)) (terms_in kinds.old ends.old pool.old fill)) }
+pub fn add_lit(store: &mut Store<'_>, fill: Fill, l: Literal) -> Checked
+    requires { Indexed store.old.kinds.now store.old.ends.now store.old.pool.now store.old.index.now fill }
+    ensures does { Does store.old.kinds.now store.old.ends.now store.old.pool.now store.old.index.now fill store.new.kinds.now store.new.ends.now store.new.pool.now store.new.index.now result.fill result.refusal result.value (add_node (room_of store.old.kinds.now store.old.pool.now) (lit (literal_of l)) (terms_in store.old.kinds.now store.old.ends.now store.old.pool.now fill)) }
+    ensures loans { SameLoans store.old store.new }
 {
-    let a = termdag::lit(kinds, ends, pool, index, fill, l);
+    let a = termdag::lit(store, fill, l);
     added(a)
 }
 
 // `app`: the number of an application, added if there is none equal.
-pub fn add_app(
-    kinds: &mut [u32],
-    ends: &mut [u32],
-    pool: &mut [u32],
-    index: &mut [u32],
-    fill: Fill,
-    f: u32,
-    args: &[u32],
-) -> Checked
-    requires indexed { Indexed kinds.old ends.old pool.old index.old fill }
+pub fn add_app(store: &mut Store<'_>, fill: Fill, f: u32, args: &[u32]) -> Checked
+    requires indexed { Indexed store.old.kinds.now store.old.ends.now store.old.pool.now store.old.index.now fill }
     requires args_len_bound { length args.now ≤ 17 }
-    ensures { Does kinds.old ends.old pool.old index.old fill kinds.new ends.new pool.new index.new result.fill result.refusal result.value (add_node (room_of kinds.old pool.old) (app f args.now) (terms_in kinds.old ends.old pool.old fill)) }
+    ensures does { Does store.old.kinds.now store.old.ends.now store.old.pool.now store.old.index.now fill store.new.kinds.now store.new.ends.now store.new.pool.now store.new.index.now result.fill result.refusal result.value (add_node (room_of store.old.kinds.now store.old.pool.now) (app f args.now) (terms_in store.old.kinds.now store.old.ends.now store.old.pool.now fill)) }
+    ensures loans { SameLoans store.old store.new }
 {
-    let a = termdag::app(kinds, ends, pool, index, fill, f, args);
+    let a = termdag::app(store, fill, f, args);
     added(a)
 }

@@ -2,12 +2,13 @@
 #![tactic(auto)]
 
 ghost use Rattle.std.specs.Prelude.{◌≡◌, [], ◌∷◌};
+ghost use Rattle.index.specs.Loans.{SameLoans};
 ghost use Rattle.model.specs.Layout.{sizes_of, kinds_of, ends_of, pool_of};
 ghost use Rattle.termdag.specs.Store.{Loaded as TermsLoaded};
 ghost use Rattle.outcome.specs.Does.{passed, refusal};
 ghost use Rattle.prepare.specs.Prepares.{Loads, Prepares};
 
-use index::{Fill, multiplier};
+use index::{Fill, Store, multiplier};
 use load::{Rejection, load};
 use outcome::Refusal;
 use program::job::load_terms;
@@ -38,12 +39,13 @@ fn refused(number: u32, count: usize, field: u32) -> Prepared
 }
 
 // The terms of a job that loads, copied into the lent arrays; x is the multiplier.
-fn start(job: &[u32], x: u32, kinds: &mut [u32], ends: &mut [u32], pool: &mut [u32]) -> Prepared
-    requires { Loads job.now kinds.old ends.old pool.old }
+fn start(job: &[u32], x: u32, store: &mut Store<'_>) -> Prepared
+    requires { Loads job.now store.old.kinds.now store.old.ends.now store.old.pool.now }
     ensures is { result.refusal ≡ passed }
-    ensures begun { TermsLoaded (kinds_of job.now) (ends_of job.now) (pool_of job.now) (sizes_of job.now).terms x kinds.old ends.old pool.old kinds.new ends.new pool.new result.fill }
+    ensures begun { TermsLoaded (kinds_of job.now) (ends_of job.now) (pool_of job.now) (sizes_of job.now).terms x store.old.kinds.now store.old.ends.now store.old.pool.now store.new.kinds.now store.new.ends.now store.new.pool.now result.fill }
+    ensures loans { SameLoans store.old store.new }
 {
-    let have = load_terms(job, x, kinds, ends, pool);
+    let have = load_terms(job, x, store);
     Prepared {
         refusal: Refusal {
             number: 0,
@@ -55,32 +57,24 @@ fn start(job: &[u32], x: u32, kinds: &mut [u32], ends: &mut [u32], pool: &mut [u
 }
 
 // Loads a job's words for an asked proof in a mode, and its terms into the lent arrays and the lent index.
-pub fn prepare(
-    job: &[u32],
-    asked: u32,
-    mode: u32,
-    kinds: &mut [u32],
-    ends: &mut [u32],
-    pool: &mut [u32],
-    index: &mut [u32],
-    scratch: usize,
-) -> Prepared
-    ensures { Prepares job.now asked mode kinds.old ends.old pool.old index.old scratch kinds.new ends.new pool.new index.new result }
+pub fn prepare(job: &[u32], asked: u32, mode: u32, store: &mut Store<'_>, scratch: usize) -> Prepared
+    ensures does { Prepares job.now asked mode store.old.kinds.now store.old.ends.now store.old.pool.now store.old.index.now scratch store.new.kinds.now store.new.ends.now store.new.pool.now store.new.index.now result }
+    ensures loans { SameLoans store.old store.new }
 {
     let x = multiplier(index);
     let loaded = load(
         job,
         asked,
         mode,
-        kinds.len(),
-        ends.len(),
-        pool.len(),
+        store.kinds.len(),
+        store.ends.len(),
+        store.pool.len(),
         index,
         x,
         scratch,
     );
     let Err(rejection) = loaded else {
-        return start(job, x, kinds, ends, pool);
+        return start(job, x, store);
     };
     match rejection {
         Rejection::Host(number) => refused(number, 0, 0),

@@ -2,6 +2,7 @@
 #![tactic(auto)]
 
 ghost use Rattle.std.specs.Prelude.{◌≡◌, List, cond, ◌≤◌, ◌<◌, length};
+ghost use Rattle.index.specs.Loans.{SameLoans};
 ghost use Rattle.model.specs.Layout.{sizes_of};
 ghost use Rattle.model.specs.Check.{Room};
 ghost use Rattle.model.specs.Term as terms;
@@ -23,7 +24,7 @@ ghost use Rattle.steps.specs.Step.{TermsFirst, PlainStep, SecondPart, Prepared, 
 use cells::wide;
 use context::is_global_pair;
 use decode::{Justification, Proposition, Term};
-use index::Fill;
+use index::{Fill, Store};
 use lookups::normalize_container;
 use marks::words_for;
 use merges::{app_head, check_that, merge_step, replace_child};
@@ -71,12 +72,12 @@ fn sym_step(p: u32, q: Proposition, a: Proposition) -> Refusal
 }
 
 // A term is a literal.
-fn is_literal(kinds: &[u32], ends: &[u32], pool: &[u32], fill: Fill, t: u32) -> bool
-    requires stored { Stored kinds.now ends.now pool.now fill }
+fn is_literal(store: &Store<'_>, fill: Fill, t: u32) -> bool
+    requires stored { Stored store.now.kinds.now store.now.ends.now store.now.pool.now fill }
     requires t_lt_cells { t < fill.cells }
-    ensures { result ≡ is_literal (terms.get_term (terms_in kinds.now ends.now pool.now fill) t) }
+    ensures { result ≡ is_literal (terms.get_term (terms_in store.now.kinds.now store.now.ends.now store.now.pool.now fill) t) }
 {
-    let term = termdag::get(kinds, ends, pool, fill, wide(t));
+    let term = termdag::get(store, fill, wide(t));
     match term {
         Term::Lit(_) => true,
         Term::Var(_) => false,
@@ -85,21 +86,12 @@ fn is_literal(kinds: &[u32], ends: &[u32], pool: &[u32], fill: Fill, t: u32) -> 
 }
 
 // `Fiat`: a literal, equal to itself, or a global pair.
-fn fiat_step(
-    kinds: &[u32],
-    ends: &[u32],
-    pool: &[u32],
-    fill: Fill,
-    unions: &[u32],
-    gmarks: &[u32],
-    p: u32,
-    q: Proposition,
-) -> Refusal
-    requires stored { Stored kinds.now ends.now pool.now fill }
+fn fiat_step(store: &Store<'_>, fill: Fill, unions: &[u32], gmarks: &[u32], p: u32, q: Proposition) -> Refusal
+    requires stored { Stored store.now.kinds.now store.now.ends.now store.now.pool.now fill }
     requires lhs_lt_cells { q.lhs < fill.cells }
-    ensures { (ps : List program.Proposition) → GlobalPairs ps unions.now gmarks.now → outcome_of result tt (terms_in kinds.now ends.now pool.now fill) ≡ fiat_step ps p (proposition_of q) (terms_in kinds.now ends.now pool.now fill) }
+    ensures { (ps : List program.Proposition) → GlobalPairs ps unions.now gmarks.now → outcome_of result tt (terms_in store.now.kinds.now store.now.ends.now store.now.pool.now fill) ≡ fiat_step ps p (proposition_of q) (terms_in store.now.kinds.now store.now.ends.now store.now.pool.now fill) }
 {
-    let literal = is_literal(kinds, ends, pool, fill, q.lhs);
+    let literal = is_literal(store, fill, q.lhs);
     let global = is_global_pair(unions, gmarks, q);
     check_that(
         (literal & (q.lhs == q.rhs)) | global,
@@ -122,24 +114,14 @@ fn flag(test: bool) -> u32
 }
 
 // `ContainerNormalize`: the right side of a has the normal form that is claimed.
-fn normalize_step(
-    job: &[u32],
-    found: &[u32],
-    skinds: &[u32],
-    sends: &[u32],
-    spool: &[u32],
-    fill: Fill,
-    p: u32,
-    q: Proposition,
-    a: Proposition,
-) -> Refusal
+fn normalize_step(job: &[u32], found: &[u32], store: &Store<'_>, fill: Fill, p: u32, q: Proposition, a: Proposition) -> Refusal
     requires ready { Ready job.now }
     requires keyed { Keyed job.now found.now }
-    requires stored { Stored skinds.now sends.now spool.now fill }
+    requires stored { Stored store.now.kinds.now store.now.ends.now store.now.pool.now fill }
     requires rhs_lt_cells { a.rhs < fill.cells }
-    ensures { (room : Room) → outcome_of result tt (terms_in skinds.now sends.now spool.now fill) ≡ normalize_step room (program_for job.now) p (proposition_of q) (proposition_of a) (terms_in skinds.now sends.now spool.now fill) }
+    ensures { (room : Room) → outcome_of result tt (terms_in store.now.kinds.now store.now.ends.now store.now.pool.now fill) ≡ normalize_step room (program_for job.now) p (proposition_of q) (proposition_of a) (terms_in store.now.kinds.now store.now.ends.now store.now.pool.now fill) }
 {
-    let n = normalize_container(job, found, skinds, sends, spool, fill, a.rhs);
+    let n = normalize_container(job, found, store, fill, a.rhs);
     let same = q.lhs == a.lhs;
     check_that(
         same & (q.rhs == n),
@@ -203,28 +185,18 @@ fn congr_claims(p: u32, q: Proposition, lhs: u32, t: u32) -> Refusal
 }
 
 // `Congr`: child i of the right side of a is replaced, by b.
-fn congr_step(
-    kinds: &mut [u32],
-    ends: &mut [u32],
-    pool: &mut [u32],
-    index: &mut [u32],
-    fill: Fill,
-    p: u32,
-    q: Proposition,
-    a: Proposition,
-    i: u32,
-    b: Proposition,
-) -> Checked
-    requires indexed { Indexed kinds.old ends.old pool.old index.old fill }
-    requires small { Small (terms_in kinds.old ends.old pool.old fill) a.rhs }
-    ensures { Does kinds.old ends.old pool.old index.old fill kinds.new ends.new pool.new index.new result.fill result.refusal tt (congr_step (room_of kinds.old pool.old) p (proposition_of q) (proposition_of a) i (proposition_of b) (terms_in kinds.old ends.old pool.old fill)) }
+fn congr_step(store: &mut Store<'_>, fill: Fill, p: u32, q: Proposition, a: Proposition, i: u32, b: Proposition) -> Checked
+    requires indexed { Indexed store.old.kinds.now store.old.ends.now store.old.pool.now store.old.index.now fill }
+    requires small { Small (terms_in store.old.kinds.now store.old.ends.now store.old.pool.now fill) a.rhs }
+    ensures does { Does store.old.kinds.now store.old.ends.now store.old.pool.now store.old.index.now fill store.new.kinds.now store.new.ends.now store.new.pool.now store.new.index.now result.fill result.refusal tt (congr_step (room_of store.old.kinds.now store.old.pool.now) p (proposition_of q) (proposition_of a) i (proposition_of b) (terms_in store.old.kinds.now store.old.ends.now store.old.pool.now fill)) }
+    ensures loans { SameLoans store.old store.new }
 {
     let t = a.rhs;
-    let head = app_head(kinds, ends, pool, fill, t);
+    let head = app_head(store, fill, t);
     let Some(f) = head else {
         return refuse1(22, p, fill);
     };
-    let args = children(kinds, ends, pool, fill, wide(t));
+    let args = children(store, fill, wide(t));
     let first = child_matches(args, p, i, b.lhs);
     if first.number != 0 {
         return Checked {
@@ -233,7 +205,7 @@ fn congr_step(
             fill,
         };
     }
-    let r = replace_child(kinds, ends, pool, index, fill, t, f, wide(i), b.rhs);
+    let r = replace_child(store, fill, t, f, wide(i), b.rhs);
     if r.refusal.number != 0 {
         return r;
     }
@@ -247,30 +219,18 @@ fn congr_step(
 }
 
 // What the step of proof p concludes that adds no term; one of another kind is refused.
-fn plain_step(
-    job: &[u32],
-    found: &[u32],
-    unions: &[u32],
-    gmarks: &[u32],
-    skinds: &[u32],
-    sends: &[u32],
-    spool: &[u32],
-    fill: Fill,
-    p: u32,
-    q: Proposition,
-    j: Justification,
-) -> Refusal
+fn plain_step(job: &[u32], found: &[u32], unions: &[u32], gmarks: &[u32], store: &Store<'_>, fill: Fill, p: u32, q: Proposition, j: Justification) -> Refusal
     requires ready { Ready job.now }
     requires keyed { Keyed job.now found.now }
-    requires stored { Stored skinds.now sends.now spool.now fill }
+    requires stored { Stored store.now.kinds.now store.now.ends.now store.now.pool.now fill }
     requires job_bound { (sizes_of job.now).terms ≤ fill.cells }
     requires p_bound { p < (sizes_of job.now).proofs }
     requires claim_at { ClaimAt job.now p q }
     requires justification_at { JustificationAt job.now p j }
-    ensures { PlainStep job.now unions.now gmarks.now (terms_in skinds.now sends.now spool.now fill) p (proposition_of q) j result }
+    ensures { PlainStep job.now unions.now gmarks.now (terms_in store.now.kinds.now store.now.ends.now store.now.pool.now fill) p (proposition_of q) j result }
 {
     match j {
-        Justification::Fiat => fiat_step(skinds, sends, spool, fill, unions, gmarks, p, q),
+        Justification::Fiat => fiat_step(store, fill, unions, gmarks, p, q),
         Justification::Trans(x, y) => {
             let a = claim_at(job, wide(x));
             let b = claim_at(job, wide(y));
@@ -282,7 +242,7 @@ fn plain_step(
         }
         Justification::ContainerNormalize(x) => {
             let a = claim_at(job, wide(x));
-            normalize_step(job, found, skinds, sends, spool, fill, p, q, a)
+            normalize_step(job, found, store, fill, p, q, a)
         }
         _ => Refusal {
             number: 41,
@@ -293,65 +253,37 @@ fn plain_step(
 }
 
 // `Congr`, with the claims of proofs x and y.
-fn congr_at(
-    job: &[u32],
-    skinds: &mut [u32],
-    sends: &mut [u32],
-    spool: &mut [u32],
-    index: &mut [u32],
-    fill: Fill,
-    p: u32,
-    q: Proposition,
-    x: u32,
-    i: u32,
-    y: u32,
-) -> Checked
+fn congr_at(job: &[u32], store: &mut Store<'_>, fill: Fill, p: u32, q: Proposition, x: u32, i: u32, y: u32) -> Checked
     requires ready { Ready job.now }
-    requires indexed { Indexed skinds.old sends.old spool.old index.old fill }
-    requires terms_first { TermsFirst job.now (terms_in skinds.old sends.old spool.old fill) }
+    requires indexed { Indexed store.old.kinds.now store.old.ends.now store.old.pool.now store.old.index.now fill }
+    requires terms_first { TermsFirst job.now (terms_in store.old.kinds.now store.old.ends.now store.old.pool.now fill) }
     requires x_bound { x < (sizes_of job.now).proofs }
     requires y_bound { y < (sizes_of job.now).proofs }
-    ensures { Does skinds.old sends.old spool.old index.old fill skinds.new sends.new spool.new index.new result.fill result.refusal tt (congr_step (room_of skinds.old spool.old) p (proposition_of q) (claim_at (proofs_for job.now) x) i (claim_at (proofs_for job.now) y) (terms_in skinds.old sends.old spool.old fill)) }
+    ensures does { Does store.old.kinds.now store.old.ends.now store.old.pool.now store.old.index.now fill store.new.kinds.now store.new.ends.now store.new.pool.now store.new.index.now result.fill result.refusal tt (congr_step (room_of store.old.kinds.now store.old.pool.now) p (proposition_of q) (claim_at (proofs_for job.now) x) i (claim_at (proofs_for job.now) y) (terms_in store.old.kinds.now store.old.ends.now store.old.pool.now fill)) }
+    ensures loans { SameLoans store.old store.new }
 {
     let a = claim_at(job, wide(x));
     let b = claim_at(job, wide(y));
-    congr_step(skinds, sends, spool, index, fill, p, q, a, i, b)
+    congr_step(store, fill, p, q, a, i, b)
 }
 
 // `MergeFn`, with the claims of proofs x and y, and marks in the second part of the scratch.
-fn merge_at(
-    job: &[u32],
-    found: &[u32],
-    skinds: &mut [u32],
-    sends: &mut [u32],
-    spool: &mut [u32],
-    index: &mut [u32],
-    fill: Fill,
-    memo: &mut [u32],
-    scratch: &mut [u32],
-    p: u32,
-    q: Proposition,
-    function: u32,
-    x: u32,
-    y: u32,
-) -> Checked
-    requires prepared { Prepared job.now found.now skinds.old sends.old spool.old index.old fill memo.old scratch.old }
+fn merge_at(job: &[u32], found: &[u32], store: &mut Store<'_>, fill: Fill, memo: &mut [u32], scratch: &mut [u32], p: u32, q: Proposition, function: u32, x: u32, y: u32) -> Checked
+    requires prepared { Prepared job.now found.now store.old.kinds.now store.old.ends.now store.old.pool.now store.old.index.now fill memo.old scratch.old }
     requires x_bound { x < (sizes_of job.now).proofs }
     requires y_bound { y < (sizes_of job.now).proofs }
-    ensures checks { Checks skinds.old sends.old spool.old index.old fill skinds.new sends.new spool.new index.new result.fill result.refusal tt memo.new (merge_step (room_of skinds.old spool.old) (program_for job.now) p (proposition_of q) function (claim_at (proofs_for job.now) x) (claim_at (proofs_for job.now) y) (terms_in skinds.old sends.old spool.old fill)) }
-    ensures second_part { SecondPart (length skinds.old) scratch.old scratch.new }
+    ensures checks { Checks store.old.kinds.now store.old.ends.now store.old.pool.now store.old.index.now fill store.new.kinds.now store.new.ends.now store.new.pool.now store.new.index.now result.fill result.refusal tt memo.new (merge_step (room_of store.old.kinds.now store.old.pool.now) (program_for job.now) p (proposition_of q) function (claim_at (proofs_for job.now) x) (claim_at (proofs_for job.now) y) (terms_in store.old.kinds.now store.old.ends.now store.old.pool.now fill)) }
+    ensures second_part { SecondPart (length store.old.kinds.now) scratch.old scratch.new }
+    ensures loans { SameLoans store.old store.new }
 {
     let a = claim_at(job, wide(x));
     let b = claim_at(job, wide(y));
-    let c = skinds.len();
+    let c = store.kinds.len();
     let d = c + words_for(c);
     merge_step(
         job,
         found,
-        skinds,
-        sends,
-        spool,
-        index,
+        store,
         fill,
         memo,
         &mut scratch[c..d],
@@ -364,22 +296,11 @@ fn merge_at(
 }
 
 // What the step of proof p concludes, once the proofs that it refers to are checked. A rule's step is checked elsewhere; here it is refused.
-pub fn conclude(
-    job: &[u32],
-    found: &[u32],
-    unions: &[u32],
-    skinds: &mut [u32],
-    sends: &mut [u32],
-    spool: &mut [u32],
-    index: &mut [u32],
-    fill: Fill,
-    memo: &mut [u32],
-    scratch: &mut [u32],
-    p: u32,
-) -> Checked
-    requires prepared { Prepared job.now found.now skinds.old sends.old spool.old index.old fill memo.old scratch.old }
+pub fn conclude(job: &[u32], found: &[u32], unions: &[u32], store: &mut Store<'_>, fill: Fill, memo: &mut [u32], scratch: &mut [u32], p: u32) -> Checked
+    requires prepared { Prepared job.now found.now store.old.kinds.now store.old.ends.now store.old.pool.now store.old.index.now fill memo.old scratch.old }
     requires p_bound { p < (sizes_of job.now).proofs }
-    ensures { Concludes job.now unions.now skinds.old sends.old spool.old index.old fill scratch.old p skinds.new sends.new spool.new index.new result memo.new scratch.new }
+    ensures does { Concludes job.now unions.now store.old.kinds.now store.old.ends.now store.old.pool.now store.old.index.now fill scratch.old p store.new.kinds.now store.new.ends.now store.new.pool.now store.new.index.now result memo.new scratch.new }
+    ensures loans { SameLoans store.old store.new }
 {
     let n = wide(p);
     let q = claim_at(job, n);
@@ -388,10 +309,7 @@ pub fn conclude(
         Justification::MergeFn(s) => merge_at(
             job,
             found,
-            skinds,
-            sends,
-            spool,
-            index,
+            store,
             fill,
             memo,
             scratch,
@@ -403,10 +321,7 @@ pub fn conclude(
         ),
         Justification::Congr(s) => congr_at(
             job,
-            skinds,
-            sends,
-            spool,
-            index,
+            store,
             fill,
             p,
             q,
@@ -415,15 +330,13 @@ pub fn conclude(
             s.child_proof,
         ),
         _ => {
-            let c = skinds.len();
+            let c = store.kinds.len();
             let refusal = plain_step(
                 job,
                 found,
                 unions,
                 &scratch[..c],
-                skinds,
-                sends,
-                spool,
+                store,
                 fill,
                 p,
                 q,

@@ -2,6 +2,7 @@
 #![tactic(auto)]
 
 ghost use Rattle.std.specs.Prelude.{◌≡◌, None, ◌≤◌, ◌<◌, length, get_or, drop};
+ghost use Rattle.index.specs.Loans.{SameLoans};
 ghost use Rattle.std.proofs.Math.Option.{none, some};
 ghost use Rattle.model.specs.Cell.{cells_of};
 ghost use Rattle.model.specs.Term.{lit, app, find_term, get_term};
@@ -12,96 +13,75 @@ ghost use Rattle.decode.specs.View.{literal_of, term_of};
 ghost use Rattle.termdag.specs.Store.{terms_in, Stored, Indexed, room_of, Adds, Known, Loadable, Loaded};
 
 use decode::{Literal, Term};
-use index::{Added, Fill};
+use index::{Added, Fill, Store};
 
 // The term of a number; `children` has its children.
-pub fn get(kinds: &[u32], ends: &[u32], pool: &[u32], fill: Fill, t: usize) -> Term
-    requires stored { Stored kinds.now ends.now pool.now fill }
+pub fn get(store: &Store<'_>, fill: Fill, t: usize) -> Term
+    requires stored { Stored store.now.kinds.now store.now.ends.now store.now.pool.now fill }
     requires t_lt_cells { t < fill.cells }
-    ensures { get_term (terms_in kinds.now ends.now pool.now fill) t ≡ some (term_of result (children (get_term (terms_in kinds.now ends.now pool.now fill) t))) }
+    ensures { get_term (terms_in store.now.kinds.now store.now.ends.now store.now.pool.now fill) t ≡ some (term_of result (children (get_term (terms_in store.now.kinds.now store.now.ends.now store.now.pool.now fill) t))) }
 {
     let have = cells::Fill {
         cells: fill.cells,
         words: fill.words,
     };
-    let ws = cells::words(kinds, ends, pool, have, t);
-    decode::read_term(kinds[t], ws)
+    let ws = cells::words(store.kinds, store.ends, store.pool, have, t);
+    decode::read_term(store.kinds[t], ws)
 }
 
 // The children of a term: a literal and a variable have none.
-pub fn children<'a>(kinds: &[u32], ends: &[u32], pool: &'a [u32], fill: Fill, t: usize) -> &'a [u32]
-    requires stored { Stored kinds.now ends.now pool.now fill }
+pub fn children<'a>(store: &'a Store<'_>, fill: Fill, t: usize) -> &'a [u32]
+    requires stored { Stored store.now.kinds.now store.now.ends.now store.now.pool.now fill }
     requires t_lt_cells { t < fill.cells }
-    ensures { result.now ≡ children (get_term (terms_in kinds.now ends.now pool.now fill) t) }
+    ensures { result.now ≡ children (get_term (terms_in store.now.kinds.now store.now.ends.now store.now.pool.now fill) t) }
 {
     let have = cells::Fill {
         cells: fill.cells,
         words: fill.words,
     };
-    let ws = cells::words(kinds, ends, pool, have, t);
-    decode::read_arguments(kinds[t], ws)
+    let ws = cells::words(store.kinds, store.ends, store.pool, have, t);
+    decode::read_arguments(store.kinds[t], ws)
 }
 
 // The number of a literal, added if there is none equal.
-pub fn lit(
-    kinds: &mut [u32],
-    ends: &mut [u32],
-    pool: &mut [u32],
-    index: &mut [u32],
-    fill: Fill,
-    l: Literal,
-) -> Added
-    requires { Indexed kinds.old ends.old pool.old index.old fill }
-    ensures { Adds kinds.old ends.old pool.old index.old fill kinds.new ends.new pool.new index.new result (add_node (room_of kinds.old pool.old) (lit (literal_of l)) (terms_in kinds.old ends.old pool.old fill)) }
+pub fn lit(store: &mut Store<'_>, fill: Fill, l: Literal) -> Added
+    requires { Indexed store.old.kinds.now store.old.ends.now store.old.pool.now store.old.index.now fill }
+    ensures does { Adds store.old.kinds.now store.old.ends.now store.old.pool.now store.old.index.now fill store.new.kinds.now store.new.ends.now store.new.pool.now store.new.index.now result (add_node (room_of store.old.kinds.now store.old.pool.now) (lit (literal_of l)) (terms_in store.old.kinds.now store.old.ends.now store.old.pool.now fill)) }
+    ensures loans { SameLoans store.old store.new }
 {
     let ws = [l.kind, l.low, l.high];
-    index::add(kinds, ends, pool, index, fill, 0, &ws)
+    index::add(store, fill, 0, &ws)
 }
 
 // The number of an application, added if there is none equal.
-pub fn app(
-    kinds: &mut [u32],
-    ends: &mut [u32],
-    pool: &mut [u32],
-    index: &mut [u32],
-    fill: Fill,
-    f: u32,
-    args: &[u32],
-) -> Added
-    requires indexed { Indexed kinds.old ends.old pool.old index.old fill }
+pub fn app(store: &mut Store<'_>, fill: Fill, f: u32, args: &[u32]) -> Added
+    requires indexed { Indexed store.old.kinds.now store.old.ends.now store.old.pool.now store.old.index.now fill }
     requires args_len_bound { length args.now ≤ 17 }
-    ensures { Adds kinds.old ends.old pool.old index.old fill kinds.new ends.new pool.new index.new result (add_node (room_of kinds.old pool.old) (app f args.now) (terms_in kinds.old ends.old pool.old fill)) }
+    ensures does { Adds store.old.kinds.now store.old.ends.now store.old.pool.now store.old.index.now fill store.new.kinds.now store.new.ends.now store.new.pool.now store.new.index.now result (add_node (room_of store.old.kinds.now store.old.pool.now) (app f args.now) (terms_in store.old.kinds.now store.old.ends.now store.old.pool.now fill)) }
+    ensures loans { SameLoans store.old store.new }
 {
     let mut ws = [0u32; 18];
     ws[0] = f;
     cells::copy(&mut ws, 1, args);
     let e = args.len() + 1;
-    index::add(kinds, ends, pool, index, fill, 2, &ws[..e])
+    index::add(store, fill, 2, &ws[..e])
 }
 
 // The number of an equal term, if there is one; the store stays as it is.
-fn find(
-    kinds: &[u32],
-    ends: &[u32],
-    pool: &[u32],
-    index: &[u32],
-    fill: Fill,
-    kind: u32,
-    ws: &[u32],
-) -> Option<u32>
-    requires { Indexed kinds.now ends.now pool.now index.now fill }
-    ensures { result ≡ find_cell (cells_of kinds.now ends.now pool.now fill.cells) (record { kind = kind; words = ws.now }) }
+fn find(store: &Store<'_>, fill: Fill, kind: u32, ws: &[u32]) -> Option<u32>
+    requires { Indexed store.now.kinds.now store.now.ends.now store.now.pool.now store.now.index.now fill }
+    ensures { result ≡ find_cell (cells_of store.now.kinds.now store.now.ends.now store.now.pool.now fill.cells) (record { kind = kind; words = ws.now }) }
 {
     let have = cells::Fill {
         cells: fill.cells,
         words: fill.words,
     };
     let p = index::find(
-        index,
+        store.index,
         fill.multiplier,
-        kinds,
-        ends,
-        pool,
+        store.kinds,
+        store.ends,
+        store.pool,
         have,
         fill.cells,
         kind,
@@ -111,37 +91,23 @@ fn find(
 }
 
 // The number of a literal, if there is one equal.
-pub fn find_lit(
-    kinds: &[u32],
-    ends: &[u32],
-    pool: &[u32],
-    index: &[u32],
-    fill: Fill,
-    l: Literal,
-) -> Option<u32>
-    requires { Indexed kinds.now ends.now pool.now index.now fill }
-    ensures known { Known result (add_node (room_of kinds.now pool.now) (lit (literal_of l)) (terms_in kinds.now ends.now pool.now fill)) (terms_in kinds.now ends.now pool.now fill) }
-    ensures none { result ≡ None → find_term (terms_in kinds.now ends.now pool.now fill) (lit (literal_of l)) 0 ≡ none }
+pub fn find_lit(store: &Store<'_>, fill: Fill, l: Literal) -> Option<u32>
+    requires { Indexed store.now.kinds.now store.now.ends.now store.now.pool.now store.now.index.now fill }
+    ensures known { Known result (add_node (room_of store.now.kinds.now store.now.pool.now) (lit (literal_of l)) (terms_in store.now.kinds.now store.now.ends.now store.now.pool.now fill)) (terms_in store.now.kinds.now store.now.ends.now store.now.pool.now fill) }
+    ensures none { result ≡ None → find_term (terms_in store.now.kinds.now store.now.ends.now store.now.pool.now fill) (lit (literal_of l)) 0 ≡ none }
 {
     let ws = [l.kind, l.low, l.high];
-    find(kinds, ends, pool, index, fill, 0, &ws)
+    find(store, fill, 0, &ws)
 }
 
 // The number of an application, if there is one equal; ws is the name and the arguments.
-pub fn find_app(
-    kinds: &[u32],
-    ends: &[u32],
-    pool: &[u32],
-    index: &[u32],
-    fill: Fill,
-    ws: &[u32],
-) -> Option<u32>
-    requires indexed { Indexed kinds.now ends.now pool.now index.now fill }
+pub fn find_app(store: &Store<'_>, fill: Fill, ws: &[u32]) -> Option<u32>
+    requires indexed { Indexed store.now.kinds.now store.now.ends.now store.now.pool.now store.now.index.now fill }
     requires ws_nonzero { 0 < length ws.now }
-    ensures none { result ≡ None → find_term (terms_in kinds.now ends.now pool.now fill) (app (get_or ws.now 0 0) (drop 1 ws.now)) 0 ≡ none }
-    ensures known { Known result (add_node (room_of kinds.now pool.now) (app (get_or ws.now 0 0) (drop 1 ws.now)) (terms_in kinds.now ends.now pool.now fill)) (terms_in kinds.now ends.now pool.now fill) }
+    ensures none { result ≡ None → find_term (terms_in store.now.kinds.now store.now.ends.now store.now.pool.now fill) (app (get_or ws.now 0 0) (drop 1 ws.now)) 0 ≡ none }
+    ensures known { Known result (add_node (room_of store.now.kinds.now store.now.pool.now) (app (get_or ws.now 0 0) (drop 1 ws.now)) (terms_in store.now.kinds.now store.now.ends.now store.now.pool.now fill)) (terms_in store.now.kinds.now store.now.ends.now store.now.pool.now fill) }
 {
-    find(kinds, ends, pool, index, fill, 2, ws)
+    find(store, fill, 2, ws)
 }
 
 // Copies the first terms cells of the job into the lent arrays; the fill has the multiplier.
@@ -152,17 +118,16 @@ pub fn load_terms(
     jfill: cells::Fill,
     terms: usize,
     multiplier: u32,
-    kinds: &mut [u32],
-    ends: &mut [u32],
-    pool: &mut [u32],
+    store: &mut Store<'_>,
 ) -> Fill
-    requires { Loadable jkinds.now jends.now jpool.now jfill terms kinds.old ends.old pool.old }
-    ensures { Loaded jkinds.now jends.now jpool.now terms multiplier kinds.old ends.old pool.old kinds.new ends.new pool.new result }
+    requires { Loadable jkinds.now jends.now jpool.now jfill terms store.old.kinds.now store.old.ends.now store.old.pool.now }
+    ensures does { Loaded jkinds.now jends.now jpool.now terms multiplier store.old.kinds.now store.old.ends.now store.old.pool.now store.new.kinds.now store.new.ends.now store.new.pool.now result }
+    ensures loans { SameLoans store.old store.new }
 {
     let words = cells::start(jends, terms);
-    cells::copy(kinds, 0, &jkinds[..terms]);
-    cells::copy(ends, 0, &jends[..terms]);
-    cells::copy(pool, 0, &jpool[..words]);
+    cells::copy(store.kinds, 0, &jkinds[..terms]);
+    cells::copy(store.ends, 0, &jends[..terms]);
+    cells::copy(store.pool, 0, &jpool[..words]);
     Fill {
         cells: terms,
         words,

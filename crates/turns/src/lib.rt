@@ -2,6 +2,7 @@
 #![tactic(auto)]
 
 ghost use Rattle.std.specs.Prelude.{◌≡◌, ◌+◌, ◌≤◌, ◌<◌, true, false, length, get_or, drop};
+ghost use Rattle.index.specs.Loans.{SameLoans};
 ghost use Rattle.model.specs.Fact.{is_container_side_condition};
 ghost use Rattle.model.specs.Layout.{sizes_of};
 ghost use Rattle.termdag.specs.Store.{terms_in, Indexed, room_of};
@@ -23,7 +24,7 @@ use conditions::{Bound, check_side_condition};
 use decode::Justification;
 use facts::check_fact_matches_proposition;
 use heads::check_rule_produces_equality;
-use index::Fill;
+use index::{Fill, Store};
 use lookups::rule_of;
 use marks::words_for;
 use normal_form::{assert_body_proof_normal_form, is_container_side_condition};
@@ -239,36 +240,22 @@ pub fn reference(
 }
 
 // Fact i of a rule before its premise: normal form, and a side condition.
-fn before_premise(
-    job: &[u32],
-    strict: bool,
-    found: &[u32],
-    globals: &[u32],
-    bound: &[u32],
-    pairs: &[u32],
-    name: u32,
-    skinds: &mut [u32],
-    sends: &mut [u32],
-    spool: &mut [u32],
-    index: &mut [u32],
-    fill: Fill,
-    memo: &mut [u32],
-    i: u32,
-) -> Stage
-    requires ready { Ready job.now }
-    requires keyed { Keyed job.now found.now }
-    requires searched { Searched job.now found.now }
-    requires indexed { Indexed skinds.old sends.old spool.old index.old fill }
-    requires job_in_bounds { (sizes_of job.now).expressions + (sizes_of job.now).expressions < length memo.old }
+fn before_premise(scope: &Scope<'_>, strict: bool, store: &mut Store<'_>, fill: Fill, memo: &mut [u32], i: u32) -> Stage
+    requires ready { Ready scope.now.job.now }
+    requires keyed { Keyed scope.now.job.now scope.now.found.now }
+    requires searched { Searched scope.now.job.now scope.now.found.now }
+    requires indexed { Indexed store.old.kinds.now store.old.ends.now store.old.pool.now store.old.index.now fill }
+    requires job_in_bounds { (sizes_of scope.now.job.now).expressions + (sizes_of scope.now.job.now).expressions < length memo.old }
     requires past { Past memo.old }
-    requires i_bound { i < (sizes_of job.now).facts }
-    requires sane { Sane (program_for job.now) (bindings_in bound.now pairs.now globals.now) (terms_in skinds.old sends.old spool.old fill) }
-    ensures does { Checks skinds.old sends.old spool.old index.old fill skinds.new sends.new spool.new index.new result.fill result.refusal (bound_over result.binds (bindings_in bound.now pairs.now globals.now)) memo.new (before_proof (room_of skinds.old spool.old) (program_for job.now) (proofs_for job.now) strict name (of_fact (fact_for job.now i) 0) (bindings_in bound.now pairs.now globals.now) (terms_in skinds.old sends.old spool.old fill)) }
-    ensures over { result.refusal.number ≡ 0 → result.settled ≡ is_container_side_condition (program_for job.now) (fact_for job.now i) }
-    ensures kept { result.refusal.number ≡ 0 → Extends (terms_in skinds.old sends.old spool.old fill) (terms_in skinds.new sends.new spool.new result.fill) × Sane (program_for job.now) (bound_over result.binds (bindings_in bound.now pairs.now globals.now)) (terms_in skinds.new sends.new spool.new result.fill) }
+    requires i_bound { i < (sizes_of scope.now.job.now).facts }
+    requires sane { Sane (program_for scope.now.job.now) (bindings_in scope.now.bound.now scope.now.pairs.now scope.now.globals.now) (terms_in store.old.kinds.now store.old.ends.now store.old.pool.now fill) }
+    ensures does { Checks store.old.kinds.now store.old.ends.now store.old.pool.now store.old.index.now fill store.new.kinds.now store.new.ends.now store.new.pool.now store.new.index.now result.fill result.refusal (bound_over result.binds (bindings_in scope.now.bound.now scope.now.pairs.now scope.now.globals.now)) memo.new (before_proof (room_of store.old.kinds.now store.old.pool.now) (program_for scope.now.job.now) (proofs_for scope.now.job.now) strict scope.now.rule (of_fact (fact_for scope.now.job.now i) 0) (bindings_in scope.now.bound.now scope.now.pairs.now scope.now.globals.now) (terms_in store.old.kinds.now store.old.ends.now store.old.pool.now fill)) }
+    ensures over { result.refusal.number ≡ 0 → result.settled ≡ is_container_side_condition (program_for scope.now.job.now) (fact_for scope.now.job.now i) }
+    ensures kept { result.refusal.number ≡ 0 → Extends (terms_in store.old.kinds.now store.old.ends.now store.old.pool.now fill) (terms_in store.new.kinds.now store.new.ends.now store.new.pool.now result.fill) × Sane (program_for scope.now.job.now) (bound_over result.binds (bindings_in scope.now.bound.now scope.now.pairs.now scope.now.globals.now)) (terms_in store.new.kinds.now store.new.ends.now store.new.pool.now result.fill) }
     ensures waits { result.settled ≡ false → result.binds ≡ None }
+    ensures loans { SameLoans store.old store.new }
 {
-    let offence = assert_body_proof_normal_form(job, found, name, i);
+    let offence = assert_body_proof_normal_form(scope.job, scope.found, scope.rule, i);
     if offence.number != 0 {
         return Stage {
             refusal: offence,
@@ -277,7 +264,7 @@ fn before_premise(
             fill,
         };
     }
-    if !is_container_side_condition(job, found, wide(i)) {
+    if !is_container_side_condition(scope.job, scope.found, wide(i)) {
         return Stage {
             refusal: offence,
             settled: false,
@@ -285,9 +272,7 @@ fn before_premise(
             fill,
         };
     }
-    let c = check_side_condition(
-        job, found, strict, bound, pairs, globals, name, skinds, sends, spool, index, fill, memo, i,
-    );
+    let c = check_side_condition(scope, strict, store, fill, memo, i);
     let refusal = c.refusal;
     let binds = c.binds;
     let after = c.fill;
@@ -314,91 +299,45 @@ fn over(c: Checked) -> Stage
 }
 
 // Fact i of a rule after its premise, if there is one.
-fn after_premise(
-    job: &[u32],
-    found: &[u32],
-    globals: &[u32],
-    bound: &[u32],
-    pairs: &[u32],
-    skinds: &mut [u32],
-    sends: &mut [u32],
-    spool: &mut [u32],
-    index: &mut [u32],
-    fill: Fill,
-    memo: &mut [u32],
-    p: u32,
-    r: usize,
-    name: u32,
-    second: u32,
-    count: usize,
-    i: usize,
-) -> Checked
-    requires ready { Ready job.now }
-    requires keyed { Keyed job.now found.now }
-    requires indexed { Indexed skinds.old sends.old spool.old index.old fill }
-    requires job_in_bounds { (sizes_of job.now).expressions + (sizes_of job.now).expressions < length memo.old }
+fn after_premise(scope: &Scope<'_>, store: &mut Store<'_>, fill: Fill, memo: &mut [u32], p: u32, r: usize, second: u32, count: usize, i: usize) -> Checked
+    requires ready { Ready scope.now.job.now }
+    requires keyed { Keyed scope.now.job.now scope.now.found.now }
+    requires indexed { Indexed store.old.kinds.now store.old.ends.now store.old.pool.now store.old.index.now fill }
+    requires job_in_bounds { (sizes_of scope.now.job.now).expressions + (sizes_of scope.now.job.now).expressions < length memo.old }
     requires past { Past memo.old }
-    requires p_bound { p < (sizes_of job.now).proofs }
-    requires planned { Planned job.now p true r name second count }
-    ensures { Checks skinds.old sends.old spool.old index.old fill skinds.new sends.new spool.new index.new result.fill result.refusal tt memo.new (after_turn (room_of skinds.old spool.old) (program_for job.now) (proofs_for job.now) name (drop i (turns_by job.now p true r name second count)) (bindings_in bound.now pairs.now globals.now) (terms_in skinds.old sends.old spool.old fill)) }
+    requires p_bound { p < (sizes_of scope.now.job.now).proofs }
+    requires planned { Planned scope.now.job.now p true r scope.now.rule second count }
+    ensures does { Checks store.old.kinds.now store.old.ends.now store.old.pool.now store.old.index.now fill store.new.kinds.now store.new.ends.now store.new.pool.now store.new.index.now result.fill result.refusal tt memo.new (after_turn (room_of store.old.kinds.now store.old.pool.now) (program_for scope.now.job.now) (proofs_for scope.now.job.now) scope.now.rule (drop i (turns_by scope.now.job.now p true r scope.now.rule second count)) (bindings_in scope.now.bound.now scope.now.pairs.now scope.now.globals.now) (terms_in store.old.kinds.now store.old.ends.now store.old.pool.now fill)) }
+    ensures loans { SameLoans store.old store.new }
 {
     if count <= i {
         return pass(0, fill);
     }
-    let facts = rule_facts_at(job, r);
-    let premises = premises_at(job, wide(p));
-    let q = claim_at(job, wide(premises[i]));
-    check_fact_matches_proposition(
-        job, found, bound, pairs, globals, name, skinds, sends, spool, index, fill, memo, facts[i],
-        q,
-    )
+    let facts = rule_facts_at(scope.job, r);
+    let premises = premises_at(scope.job, wide(p));
+    let q = claim_at(scope.job, wide(premises[i]));
+    check_fact_matches_proposition(scope, store, fill, memo, facts[i], q)
 }
 
 // Turn i of a rule's step: a fact before its premise or after it; after the last, and where there is none, the head.
-fn advance_rule(
-    job: &[u32],
-    strict: bool,
-    found: &[u32],
-    globals: &[u32],
-    bound: &[u32],
-    skinds: &mut [u32],
-    sends: &mut [u32],
-    spool: &mut [u32],
-    index: &mut [u32],
-    fill: Fill,
-    memo: &mut [u32],
-    scratch: &mut [u32],
-    unions: &[u32],
-    p: u32,
-    r: usize,
-    name: u32,
-    second: u32,
-    count: usize,
-    i: usize,
-    walked: usize,
-) -> Stage
-    requires ground { Ground job.now found.now globals.now skinds.old sends.old spool.old index.old fill memo.old scratch.old }
+fn advance_rule(job: &[u32], strict: bool, found: &[u32], globals: &[u32], bound: &[u32], store: &mut Store<'_>, fill: Fill, memo: &mut [u32], scratch: &mut [u32], unions: &[u32], p: u32, r: usize, name: u32, second: u32, count: usize, i: usize, walked: usize) -> Stage
+    requires ground { Ground job.now found.now globals.now store.old.kinds.now store.old.ends.now store.old.pool.now store.old.index.now fill memo.old scratch.old }
     requires p_bound { p < (sizes_of job.now).proofs }
     requires planned { Planned job.now p true r name second count }
-    requires sane { true ≡ true → Sane (program_for job.now) (bindings_by job.now p true bound.now globals.now) (terms_in skinds.old sends.old spool.old fill) }
+    requires sane { true ≡ true → Sane (program_for job.now) (bindings_by job.now p true bound.now globals.now) (terms_in store.old.kinds.now store.old.ends.now store.old.pool.now fill) }
     requires bound_len_bound { length bound.now ≤ 32 }
     requires i_le_count { i ≤ count }
-    ensures { Advances job.now strict found.now globals.now unions.now p true r name second count bound.now skinds.old sends.old spool.old index.old fill scratch.old i walked skinds.new sends.new spool.new index.new result memo.new scratch.new }
+    ensures does { Advances job.now strict found.now globals.now unions.now p true r name second count bound.now store.old.kinds.now store.old.ends.now store.old.pool.now store.old.index.now fill scratch.old i walked store.new.kinds.now store.new.ends.now store.new.pool.now store.new.index.now result memo.new scratch.new }
+    ensures loans { SameLoans store.old store.new }
 {
     let pairs = substitution_at(job, wide(p));
     if (walked == 0) & (i < count) {
         let facts = rule_facts_at(job, r);
-        return before_premise(
-            job, strict, found, globals, bound, pairs, name, skinds, sends, spool, index, fill,
-            memo, facts[i],
-        );
+        return before_premise(&Scope { job, found, bound, pairs, globals, rule: name }, strict, store, fill, memo, facts[i]);
     }
-    let cells = skinds.len();
+    let cells = store.kinds.len();
     let d = cells + words_for(cells);
-    let c = after_premise(
-        job, found, globals, bound, pairs, skinds, sends, spool, index, fill, memo, p, r, name,
-        second, count, i,
-    );
+    let c = after_premise(&Scope { job, found, bound, pairs, globals, rule: name }, store, fill, memo, p, r, second, count, i);
     let have = c.fill;
     if c.refusal.number != 0 {
         return over(c);
@@ -407,64 +346,28 @@ fn advance_rule(
         return over(c);
     }
     let q = claim_at(job, wide(p));
-    over(check_rule_produces_equality(
-        job,
-        found,
-        bound,
-        pairs,
-        globals,
-        skinds,
-        sends,
-        spool,
-        index,
-        have,
-        memo,
-        &mut scratch[cells..d],
-        r,
-        q,
-    ))
+    over(check_rule_produces_equality(&Scope { job, found, bound, pairs, globals, rule }, store, have, memo, &mut scratch[cells..d], r, q))
 }
 
 // Turn i of a rule's step, or the end of another.
-pub fn advance(
-    job: &[u32],
-    strict: bool,
-    found: &[u32],
-    globals: &[u32],
-    unions: &[u32],
-    bound: &[u32],
-    skinds: &mut [u32],
-    sends: &mut [u32],
-    spool: &mut [u32],
-    index: &mut [u32],
-    fill: Fill,
-    memo: &mut [u32],
-    scratch: &mut [u32],
-    p: u32,
-    rule: bool,
-    r: usize,
-    first: u32,
-    second: u32,
-    count: usize,
-    i: usize,
-    walked: usize,
-) -> Stage
-    requires ground { Ground job.now found.now globals.now skinds.old sends.old spool.old index.old fill memo.old scratch.old }
+pub fn advance(job: &[u32], strict: bool, found: &[u32], globals: &[u32], unions: &[u32], bound: &[u32], store: &mut Store<'_>, fill: Fill, memo: &mut [u32], scratch: &mut [u32], p: u32, rule: bool, r: usize, first: u32, second: u32, count: usize, i: usize, walked: usize) -> Stage
+    requires ground { Ground job.now found.now globals.now store.old.kinds.now store.old.ends.now store.old.pool.now store.old.index.now fill memo.old scratch.old }
     requires p_bound { p < (sizes_of job.now).proofs }
     requires planned { Planned job.now p rule r first second count }
-    requires sane { rule ≡ true → Sane (program_for job.now) (bindings_by job.now p rule bound.now globals.now) (terms_in skinds.old sends.old spool.old fill) }
+    requires sane { rule ≡ true → Sane (program_for job.now) (bindings_by job.now p rule bound.now globals.now) (terms_in store.old.kinds.now store.old.ends.now store.old.pool.now fill) }
     requires bound_len_bound { length bound.now ≤ 32 }
     requires i_le_count { i ≤ count }
     requires count_le_i { rule ≡ false → count ≤ i }
-    ensures { Advances job.now strict found.now globals.now unions.now p rule r first second count bound.now skinds.old sends.old spool.old index.old fill scratch.old i walked skinds.new sends.new spool.new index.new result memo.new scratch.new }
+    ensures does { Advances job.now strict found.now globals.now unions.now p rule r first second count bound.now store.old.kinds.now store.old.ends.now store.old.pool.now store.old.index.now fill scratch.old i walked store.new.kinds.now store.new.ends.now store.new.pool.now store.new.index.now result memo.new scratch.new }
+    ensures loans { SameLoans store.old store.new }
 {
     if rule {
         return advance_rule(
-            job, strict, found, globals, bound, skinds, sends, spool, index, fill, memo, scratch,
+            job, strict, found, globals, bound, store, fill, memo, scratch,
             unions, p, r, first, second, count, i, walked,
         );
     }
     over(conclude(
-        job, found, unions, skinds, sends, spool, index, fill, memo, scratch, p,
+        job, found, unions, store, fill, memo, scratch, p,
     ))
 }

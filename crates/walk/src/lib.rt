@@ -2,6 +2,7 @@
 #![tactic(auto)]
 
 ghost use Rattle.std.specs.Prelude.{◌≡◌, true, List, suc, ◌+◌, ◌<◌, ◌≤◌, max, length, get_or, set};
+ghost use Rattle.index.specs.Loans.{SameLoans};
 ghost use Rattle.model.specs.Layout.{sizes_of};
 ghost use Rattle.model.specs.Program.{Binding};
 ghost use Rattle.model.specs.Walk.{no_proof, claim_at, check_justification, check_proof_with_context};
@@ -17,7 +18,7 @@ ghost use Rattle.walk.specs.Start.{Starts, Follows, fact_numbers, StartsFact};
 use actions::{Effect, push_binding};
 use cells::wide;
 use conditions::Bound;
-use index::Fill;
+use index::{Fill, Store};
 use normal_form::is_ordinary;
 use outcome::{Checked, pass};
 use program::read::rule_facts_at;
@@ -108,25 +109,12 @@ fn fact_state(job: &[u32], found: &[u32], r: usize, count: usize, i: usize) -> u
 // The step of proof p, a rule's too, turn by turn: each proof that it needs is walked, between what is done before it and after it. The value is the height: one more than
 // the greatest among the proofs walked. The walk and this check call each other, with a falling proof number; all else is done in `advance`, outside of their frames.
 #[cycle(justify_walk)]
-fn justify(
-    job: &[u32],
-    strict: bool,
-    found: &[u32],
-    globals: &[u32],
-    unions: &[u32],
-    skinds: &mut [u32],
-    sends: &mut [u32],
-    spool: &mut [u32],
-    index: &mut [u32],
-    fill: Fill,
-    memo: &mut [u32],
-    scratch: &mut [u32],
-    p: u32,
-) -> Checked
-    requires ground { Ground job.now found.now globals.now skinds.old sends.old spool.old index.old fill memo.old scratch.old }
+fn justify(job: &[u32], strict: bool, found: &[u32], globals: &[u32], unions: &[u32], store: &mut Store<'_>, fill: Fill, memo: &mut [u32], scratch: &mut [u32], p: u32) -> Checked
+    requires ground { Ground job.now found.now globals.now store.old.kinds.now store.old.ends.now store.old.pool.now store.old.index.now fill memo.old scratch.old }
     requires p_bound { p < (sizes_of job.now).proofs }
-    ensures does { Walks job.now found.now globals.now unions.now skinds.old sends.old spool.old index.old fill scratch.old skinds.new sends.new spool.new index.new result.fill result.refusal memo.new scratch.new (λ d. d) (λ room ps done. check_justification room (program_for job.now) (proofs_for job.now) (context_of globals.now ps) (check_proof_with_context room (program_for job.now) (proofs_for job.now) (context_of globals.now ps) strict p) strict p (claim_at (proofs_for job.now) p) (get_or (proofs_for job.now) p no_proof).justification done) }
+    ensures does { Walks job.now found.now globals.now unions.now store.old.kinds.now store.old.ends.now store.old.pool.now store.old.index.now fill scratch.old store.new.kinds.now store.new.ends.now store.new.pool.now store.new.index.now result.fill result.refusal memo.new scratch.new (λ d. d) (λ room ps done. check_justification room (program_for job.now) (proofs_for job.now) (context_of globals.now ps) (check_proof_with_context room (program_for job.now) (proofs_for job.now) (context_of globals.now ps) strict p) strict p (claim_at (proofs_for job.now) p) (get_or (proofs_for job.now) p no_proof).justification done) }
     ensures high { result.refusal.number ≡ 0 → result.value ≡ height (program_for job.now) (proofs_for job.now) p }
+    ensures loans { SameLoans store.old store.new }
 {
     let s = plan_step(job, found, p);
     if s.refusal.number != 0 {
@@ -150,7 +138,7 @@ fn justify(
     while i <= count {
         if state == 1 {
             let next = reference(job, p, s.rule, s.r, s.first, s.second, count, i);
-            let cells = skinds.len();
+            let cells = store.kinds.len();
             let noted = height_noted(scratch, cells + cells + wide(next));
             if noted != 0 {
                 most = greater(most, noted);
@@ -163,7 +151,7 @@ fn justify(
                 continue;
             }
             let w = walk(
-                job, strict, found, globals, unions, skinds, sends, spool, index, have, memo,
+                job, strict, found, globals, unions, store, have, memo,
                 scratch, next,
             );
             if w.refusal.number != 0 {
@@ -186,10 +174,7 @@ fn justify(
             globals,
             unions,
             &bound[at..],
-            skinds,
-            sends,
-            spool,
-            index,
+            store,
             have,
             memo,
             scratch,
@@ -228,31 +213,18 @@ fn justify(
 
 // `check_proof_with_context` for a proof that is not checked yet: one that is, is not walked. The value is the proof's height.
 #[cycle(justify_walk)]
-pub fn walk(
-    job: &[u32],
-    strict: bool,
-    found: &[u32],
-    globals: &[u32],
-    unions: &[u32],
-    skinds: &mut [u32],
-    sends: &mut [u32],
-    spool: &mut [u32],
-    index: &mut [u32],
-    fill: Fill,
-    memo: &mut [u32],
-    scratch: &mut [u32],
-    p: u32,
-) -> Checked
-    requires ground { Ground job.now found.now globals.now skinds.old sends.old spool.old index.old fill memo.old scratch.old }
+pub fn walk(job: &[u32], strict: bool, found: &[u32], globals: &[u32], unions: &[u32], store: &mut Store<'_>, fill: Fill, memo: &mut [u32], scratch: &mut [u32], p: u32) -> Checked
+    requires ground { Ground job.now found.now globals.now store.old.kinds.now store.old.ends.now store.old.pool.now store.old.index.now fill memo.old scratch.old }
     requires p_bound { p < (sizes_of job.now).proofs }
-    requires p_value { get_or scratch.old (length skinds.old + length skinds.old + p) 0 ≡ 0 }
-    ensures does { Walks job.now found.now globals.now unions.now skinds.old sends.old spool.old index.old fill scratch.old skinds.new sends.new spool.new index.new result.fill result.refusal memo.new scratch.new (λ d. d) (λ room ps done. check_proof_with_context room (program_for job.now) (proofs_for job.now) (context_of globals.now ps) strict (suc p) p done) }
+    requires p_value { get_or scratch.old (length store.old.kinds.now + length store.old.kinds.now + p) 0 ≡ 0 }
+    ensures does { Walks job.now found.now globals.now unions.now store.old.kinds.now store.old.ends.now store.old.pool.now store.old.index.now fill scratch.old store.new.kinds.now store.new.ends.now store.new.pool.now store.new.index.now result.fill result.refusal memo.new scratch.new (λ d. d) (λ room ps done. check_proof_with_context room (program_for job.now) (proofs_for job.now) (context_of globals.now ps) strict (suc p) p done) }
     ensures high { result.refusal.number ≡ 0 → result.value ≡ height (program_for job.now) (proofs_for job.now) p }
+    ensures loans { SameLoans store.old store.new }
 {
-    let cells = skinds.len();
+    let cells = store.kinds.len();
     let at = cells + cells + wide(p);
     let r = justify(
-        job, strict, found, globals, unions, skinds, sends, spool, index, fill, memo, scratch, p,
+        job, strict, found, globals, unions, store, fill, memo, scratch, p,
     );
     if r.refusal.number != 0 {
         return r;

@@ -17,13 +17,13 @@ pub act_run-requires : goal.act_run-requires
 act_run-requires c = record { standing = c.requires.standing; going_2 = c.requires.going_2; e_bound = c.action_at-action.ensures.run _ c.in-Run.is }
 
 pub returns-in-Let : goal.returns-in-Let
-returns-in-Let c = let a = c.args in record { acts = acts-as (acted-as (expr_for a.job.now) c.in-Let.is (c.action_at-action.ensures.is ∙ ap (action_for a.job.now) c.wide.ensures)) c.act_let.ensures.acts; going = c.act_let.ensures.going }
+returns-in-Let c = let a = c.args in record { acts = acts-as (acted-as (expr_for a.scope.now.job.now) c.in-Let.is (c.action_at-action.ensures.is ∙ ap (action_for a.scope.now.job.now) c.wide.ensures)) c.act_let.ensures.acts; going = c.act_let.ensures.going }
 
 pub returns-in-Union : goal.returns-in-Union
-returns-in-Union c = let a = c.args in record { acts = acts-as (acted-as (expr_for a.job.now) c.in-Union.is (c.action_at-action.ensures.is ∙ ap (action_for a.job.now) c.wide.ensures)) c.act_union.ensures.acts; going = c.act_union.ensures.going }
+returns-in-Union c = let a = c.args in record { acts = acts-as (acted-as (expr_for a.scope.now.job.now) c.in-Union.is (c.action_at-action.ensures.is ∙ ap (action_for a.scope.now.job.now) c.wide.ensures)) c.act_union.ensures.acts; going = c.act_union.ensures.going }
 
 pub returns-in-Run : goal.returns-in-Run
-returns-in-Run c = let a = c.args in record { acts = acts-as (acted-as (expr_for a.job.now) c.in-Run.is (c.action_at-action.ensures.is ∙ ap (action_for a.job.now) c.wide.ensures)) c.act_run.ensures.acts; going = c.act_run.ensures.going }
+returns-in-Run c = let a = c.args in record { acts = acts-as (acted-as (expr_for a.scope.now.job.now) c.in-Run.is (c.action_at-action.ensures.is ∙ ap (action_for a.scope.now.job.now) c.wide.ensures)) c.act_run.ensures.acts; going = c.act_run.ensures.going }
 
 pub returns-in-Idle : goal.returns-in-Idle
-returns-in-Idle c = let a = c.args in record { acts = acts-as (acted-as (expr_for a.job.now) c.in-Idle.is (c.action_at-action.ensures.is ∙ ap (action_for a.job.now) c.wide.ensures)) (acts-idle c.requires.standing); going = λ _. c.requires.going_2 }
+returns-in-Idle c = let a = c.args in record { acts = acts-as (acted-as (expr_for a.scope.now.job.now) c.in-Idle.is (c.action_at-action.ensures.is ∙ ap (action_for a.scope.now.job.now) c.wide.ensures)) (acts-idle c.requires.standing); going = λ _. c.requires.going_2 }

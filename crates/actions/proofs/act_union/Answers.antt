@@ -8,22 +8,10 @@ pub yield_value-a-requires : goal.yield_value-a-requires
 yield_value-a-requires c = record { standing = c.requires.standing; going_2 = c.requires.going_2; e_bound = c.requires.left_bound }
 
 pub returns-then-a-ne0 : goal.returns-then-a-ne0
-returns-then-a-ne0 c = let a = c.args in record { acts = union-stops a.rule (expr_for a.job.now a.left) (expr_for a.job.now a.right) c.yield_value-a.ensures.yields (search rules); going = λ n. absurd (c.if-a-ne0.true n) }
+returns-then-a-ne0 c = let a = c.args in record { acts = union-stops a.scope.now.rule (expr_for a.scope.now.job.now a.left) (expr_for a.scope.now.job.now a.right) c.yield_value-a.ensures.yields (search rules); going = λ n. absurd (c.if-a-ne0.true n) }
 
 pub yield_value-b-requires : goal.yield_value-b-requires
 yield_value-b-requires c = let y = c.yield_value-a.ensures.yields in let n : c.yield_value-a.result.refusal.number ≡ 0 = search rules in record { standing = standing-after c.requires.standing y.does.grown (y.sane n) (y.past n) (search rules) (search rules); going_2 = c.yield_value-a.ensures.going n; e_bound = c.requires.right_bound }
-
-pub shape_of-skinds : goal.shape_of-skinds
-shape_of-skinds c = c.yield_value-b.ensures.yields.does.grown.len_k ∙ c.yield_value-a.ensures.yields.does.grown.len_k
-
-pub shape_of-sends : goal.shape_of-sends
-shape_of-sends c = c.yield_value-b.ensures.yields.does.grown.len_e ∙ c.yield_value-a.ensures.yields.does.grown.len_e
-
-pub shape_of-spool : goal.shape_of-spool
-shape_of-spool c = c.yield_value-b.ensures.yields.does.grown.len_p ∙ c.yield_value-a.ensures.yields.does.grown.len_p
-
-pub shape_of-index : goal.shape_of-index
-shape_of-index c = c.yield_value-b.ensures.yields.does.grown.len_i ∙ c.yield_value-a.ensures.yields.does.grown.len_i
 
 pub shape_of-memo : goal.shape_of-memo
 shape_of-memo c = c.yield_value-b.auto.memo ∙ c.yield_value-a.auto.memo
@@ -32,4 +20,4 @@ pub shape_of-marks : goal.shape_of-marks
 shape_of-marks c = c.yield_value-b.auto.marks ∙ c.yield_value-a.auto.marks
 
 pub returns : goal.returns
-returns c = let a = c.args in record { acts = acts-union a.rule (expr_for a.job.now a.left) (expr_for a.job.now a.right) c.yield_value-a.ensures.yields (search rules) c.yield_value-b.ensures.yields; going = c.yield_value-b.ensures.going }
+returns c = let a = c.args in record { acts = acts-union a.scope.now.rule (expr_for a.scope.now.job.now a.left) (expr_for a.scope.now.job.now a.right) c.yield_value-a.ensures.yields (search rules) c.yield_value-b.ensures.yields; going = c.yield_value-b.ensures.going }

@@ -19,34 +19,22 @@ pub new_context-g-requires : goal.new_context-g-requires
 new_context-g-requires c = let a = c.args in let pre = c.requires in let G = pre.given in let h = G.long in let x = G.ready.held.limits.expressions in record { standing = record { ready = G.ready; keyed = pre.keyed; indexed = G.indexed; sane = G.sane; fits = omega (arith, length-replicate {A = ℕ} 8193 0); past = past-cleared 8193; cells = simp length-take (omega arith) }; table_len = refl; unions_len = refl }
 
 pub returns-then-g-ne0 : goal.returns-then-g-ne0
-returns-then-g-ne0 c = let a = c.args in let pre = c.requires in record { does = check-stops pre.given a.strict a.asked pre.asked_bound c.new_context-g.ensures c.if-g-ne0.true; high = λ u. absurd (c.if-g-ne0.true u) }
+returns-then-g-ne0 c = let a = c.args in let pre = c.requires in record { does = check-stops pre.given a.strict a.asked pre.asked_bound c.new_context-g.ensures.does c.if-g-ne0.true; high = λ u. absurd (c.if-g-ne0.true u) }
 
 pub slice_bounds-clear-end : goal.slice_bounds-clear-end
-slice_bounds-clear-end c = let a = c.args in let pre = c.requires in let h = pre.given.long in let l = c.new_context-g.auto.marks in let q = length-take (length a.skinds.now) a.scratch.now in let lt : length (take (length a.skinds.now) a.scratch.now) ≡ length a.skinds.now = length-take-le (length a.skinds.now) a.scratch.now (omega arith) in simp (length-append, length-drop) (omega (arith, c.size.ensures))
+slice_bounds-clear-end c = let a = c.args in let pre = c.requires in let h = pre.given.long in let l = c.new_context-g.auto.marks in let q = length-take (length a.store.now.kinds.now) a.scratch.now in let lt : length (take (length a.store.now.kinds.now) a.scratch.now) ≡ length a.store.now.kinds.now = length-take-le (length a.store.now.kinds.now) a.scratch.now (omega arith) in simp (length-append, length-drop) (omega (arith, c.size.ensures))
 
 pub slice_bounds-unions-end : goal.slice_bounds-unions-end
-slice_bounds-unions-end c = let u = c.new_context-g.ensures.unions in let l = c.new_context-g.auto.unions in omega arith
+slice_bounds-unions-end c = let u = c.new_context-g.ensures.does.unions in let l = c.new_context-g.auto.unions in omega arith
 
 pub slice_bounds-walk-end-2 : goal.slice_bounds-walk-end-2
-slice_bounds-walk-end-2 c = let u = c.new_context-g.ensures.unions in let l = c.new_context-g.auto.unions in simp length-take (omega arith)
+slice_bounds-walk-end-2 c = let u = c.new_context-g.ensures.does.unions in let l = c.new_context-g.auto.unions in simp length-take (omega arith)
 
 pub walk-requires : goal.walk-requires
-walk-requires c = let a = c.args in let pre = c.requires in let h = pre.given.long in let k : ℕ = length a.skinds.now + length a.skinds.now + c.size.result - (length a.skinds.now + length a.skinds.now) in let l = c.new_context-g.auto.marks in let q = length-take (length a.skinds.now) a.scratch.now in let lt : length (take (length a.skinds.now) a.scratch.now) ≡ length a.skinds.now = length-take-le (length a.skinds.now) a.scratch.now (omega arith) in let C = c.new_context-g.ensures in let x = pre.given.ready.held.limits.expressions in let b : length (c.new_context-g.new.marks ++ drop (length a.skinds.now) a.scratch.now) ≡ length a.scratch.now = simp (length-append, length-drop) (omega arith) in let lm = c.new_context-g.auto.memo in let flags = start-flags a.scratch.now c.new_context-g.new.marks c.clear.new.marks (length a.skinds.now) _ k (l ∙ lt) (omega (arith, c.size.ensures)) C.does.grown.len_k {n = (sizes_of a.job.now).proofs} (omega (arith, c.size.ensures)) c.clear.ensures in record { ground = check-ground pre.given a.strict a.asked pre.asked_bound C c.if-g-ne0.false (part-is c.new_context-g.new.table c.new_context-g.result.bindings c.new_context-g.auto.table) pre.searched pre.keyed refl (omega (arith, length-replicate {A = ℕ} 8193 0)) (start-long a.scratch.now c.new_context-g.new.marks c.clear.new.marks (length a.skinds.now) (length a.skinds.now) k (l ∙ lt) (omega (arith, c.size.ensures)) refl (omega arith) c.clear.auto.marks) flags; p_bound = pre.asked_bound; p_value = height-none flags pre.asked_bound }
-
-pub shape_of-skinds : goal.shape_of-skinds
-shape_of-skinds c = c.walk.ensures.does.grown.len_k ∙ c.new_context-g.ensures.does.grown.len_k
-
-pub shape_of-sends : goal.shape_of-sends
-shape_of-sends c = c.walk.ensures.does.grown.len_e ∙ c.new_context-g.ensures.does.grown.len_e
-
-pub shape_of-spool : goal.shape_of-spool
-shape_of-spool c = c.walk.ensures.does.grown.len_p ∙ c.new_context-g.ensures.does.grown.len_p
-
-pub shape_of-index : goal.shape_of-index
-shape_of-index c = c.walk.ensures.does.grown.len_i ∙ c.new_context-g.ensures.does.grown.len_i
+walk-requires c = let a = c.args in let pre = c.requires in let h = pre.given.long in let k : ℕ = length a.store.now.kinds.now + length a.store.now.kinds.now + c.size.result - (length a.store.now.kinds.now + length a.store.now.kinds.now) in let l = c.new_context-g.auto.marks in let q = length-take (length a.store.now.kinds.now) a.scratch.now in let lt : length (take (length a.store.now.kinds.now) a.scratch.now) ≡ length a.store.now.kinds.now = length-take-le (length a.store.now.kinds.now) a.scratch.now (omega arith) in let C = c.new_context-g.ensures.does in let x = pre.given.ready.held.limits.expressions in let b : length (c.new_context-g.new.marks ++ drop (length a.store.now.kinds.now) a.scratch.now) ≡ length a.scratch.now = simp (length-append, length-drop) (omega arith) in let lm = c.new_context-g.auto.memo in let flags = start-flags a.scratch.now c.new_context-g.new.marks c.clear.new.marks (length a.store.now.kinds.now) _ k (l ∙ lt) (omega (arith, c.size.ensures)) C.does.grown.len_k {n = (sizes_of a.job.now).proofs} (omega (arith, c.size.ensures)) c.clear.ensures in record { ground = check-ground pre.given a.strict a.asked pre.asked_bound C c.if-g-ne0.false (part-is c.new_context-g.new.table c.new_context-g.result.bindings c.new_context-g.auto.table) pre.searched pre.keyed refl (omega (arith, length-replicate {A = ℕ} 8193 0)) (start-long a.scratch.now c.new_context-g.new.marks c.clear.new.marks (length a.store.now.kinds.now) (length a.store.now.kinds.now) k (l ∙ lt) (omega (arith, c.size.ensures)) refl (omega arith) c.clear.auto.marks) flags; p_bound = pre.asked_bound; p_value = height-none flags pre.asked_bound }
 
 pub shape_of-scratch : goal.shape_of-scratch
-shape_of-scratch c = let a = c.args in let pre = c.requires in let h = pre.given.long in let k : ℕ = length a.skinds.now + length a.skinds.now + c.size.result - (length a.skinds.now + length a.skinds.now) in let l = c.new_context-g.auto.marks in let q = length-take (length a.skinds.now) a.scratch.now in let lt : length (take (length a.skinds.now) a.scratch.now) ≡ length a.skinds.now = length-take-le (length a.skinds.now) a.scratch.now (omega arith) in let b : length (c.new_context-g.new.marks ++ drop (length a.skinds.now) a.scratch.now) ≡ length a.scratch.now = simp (length-append, length-drop) (omega arith) in c.walk.auto.scratch ∙ start-long a.scratch.now c.new_context-g.new.marks c.clear.new.marks (length a.skinds.now) (length a.skinds.now) k (l ∙ lt) (omega (arith, c.size.ensures)) refl (omega arith) c.clear.auto.marks
+shape_of-scratch c = let a = c.args in let pre = c.requires in let h = pre.given.long in let k : ℕ = length a.store.now.kinds.now + length a.store.now.kinds.now + c.size.result - (length a.store.now.kinds.now + length a.store.now.kinds.now) in let l = c.new_context-g.auto.marks in let q = length-take (length a.store.now.kinds.now) a.scratch.now in let lt : length (take (length a.store.now.kinds.now) a.scratch.now) ≡ length a.store.now.kinds.now = length-take-le (length a.store.now.kinds.now) a.scratch.now (omega arith) in let b : length (c.new_context-g.new.marks ++ drop (length a.store.now.kinds.now) a.scratch.now) ≡ length a.scratch.now = simp (length-append, length-drop) (omega arith) in c.walk.auto.scratch ∙ start-long a.scratch.now c.new_context-g.new.marks c.clear.new.marks (length a.store.now.kinds.now) (length a.store.now.kinds.now) k (l ∙ lt) (omega (arith, c.size.ensures)) refl (omega arith) c.clear.auto.marks
 
 pub returns : goal.returns
-returns c = let a = c.args in let pre = c.requires in let h = pre.given.long in let k : ℕ = length a.skinds.now + length a.skinds.now + c.size.result - (length a.skinds.now + length a.skinds.now) in let l = c.new_context-g.auto.marks in let q = length-take (length a.skinds.now) a.scratch.now in let lt : length (take (length a.skinds.now) a.scratch.now) ≡ length a.skinds.now = length-take-le (length a.skinds.now) a.scratch.now (omega arith) in let C = c.new_context-g.ensures in let b : length (c.new_context-g.new.marks ++ drop (length a.skinds.now) a.scratch.now) ≡ length a.scratch.now = simp (length-append, length-drop) (omega arith) in record { does = check-walks pre.given a.strict a.asked pre.asked_bound C c.if-g-ne0.false (part-is c.new_context-g.new.table c.new_context-g.result.bindings c.new_context-g.auto.table) (start-marks a.scratch.now c.new_context-g.new.marks c.clear.new.marks (length a.skinds.now) _ k (l ∙ lt) (omega (arith, c.size.ensures)) C.does.grown.len_k) (start-flags a.scratch.now c.new_context-g.new.marks c.clear.new.marks (length a.skinds.now) _ k (l ∙ lt) (omega (arith, c.size.ensures)) C.does.grown.len_k {n = (sizes_of a.job.now).proofs} (omega (arith, c.size.ensures)) c.clear.ensures) c.walk.ensures.does; high = c.walk.ensures.high }
+returns c = let a = c.args in let pre = c.requires in let h = pre.given.long in let k : ℕ = length a.store.now.kinds.now + length a.store.now.kinds.now + c.size.result - (length a.store.now.kinds.now + length a.store.now.kinds.now) in let l = c.new_context-g.auto.marks in let q = length-take (length a.store.now.kinds.now) a.scratch.now in let lt : length (take (length a.store.now.kinds.now) a.scratch.now) ≡ length a.store.now.kinds.now = length-take-le (length a.store.now.kinds.now) a.scratch.now (omega arith) in let C = c.new_context-g.ensures.does in let b : length (c.new_context-g.new.marks ++ drop (length a.store.now.kinds.now) a.scratch.now) ≡ length a.scratch.now = simp (length-append, length-drop) (omega arith) in record { does = check-walks pre.given a.strict a.asked pre.asked_bound C c.if-g-ne0.false (part-is c.new_context-g.new.table c.new_context-g.result.bindings c.new_context-g.auto.table) (start-marks a.scratch.now c.new_context-g.new.marks c.clear.new.marks (length a.store.now.kinds.now) _ k (l ∙ lt) (omega (arith, c.size.ensures)) C.does.grown.len_k) (start-flags a.scratch.now c.new_context-g.new.marks c.clear.new.marks (length a.store.now.kinds.now) _ k (l ∙ lt) (omega (arith, c.size.ensures)) C.does.grown.len_k {n = (sizes_of a.job.now).proofs} (omega (arith, c.size.ensures)) c.clear.ensures) c.walk.ensures.does; high = c.walk.ensures.high }

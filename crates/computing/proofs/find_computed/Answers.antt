@@ -6,7 +6,7 @@ use Rattle.computing.proofs.Laws.{not_known, count-found}
 use Rattle.computing.proofs.find_computed.Goals as goal
 
 pub returns-in-Some : goal.returns-in-Some
-returns-in-Some c = let a = c.args in let s = terms_in a.kinds.now a.ends.now a.pool.now a.fill in λ name. count-found (room_of a.kinds.now a.pool.now) s (count_value (kind_of a.operation) (counts_in s a.args.now)) name c.counted_value.result _ c.find_lit.result c.in-Some.is c.counted_value.ensures c.find_lit.ensures.known
+returns-in-Some c = let a = c.args in let s = terms_in a.store.now.kinds.now a.store.now.ends.now a.store.now.pool.now a.fill in λ name. count-found (room_of a.store.now.kinds.now a.store.now.pool.now) s (count_value (kind_of a.operation) (counts_in s a.args.now)) name c.counted_value.result _ c.find_lit.result c.in-Some.is c.counted_value.ensures c.find_lit.ensures.known
 
 pub returns-in-None : goal.returns-in-None
 returns-in-None c = λ name. not_known

@@ -7,8 +7,8 @@ use Rattle.conditions.proofs.check_bare_condition.Goals as goal
 pub eval_side-requires : goal.eval_side-requires
 eval_side-requires c = let p = c.requires in record { ready = p.ready; keyed = p.keyed; indexed = p.indexed; job_in_bounds = p.job_in_bounds; past = p.past; e_bound = p.e_bound }
 
-pub returns-then-strict : goal.returns-then-strict
-returns-then-strict c = let a = c.args in bare-evaluated (program_for a.job.now) a.rule (bindings_in a.bound.now a.pairs.now a.globals.now) a.i (expr_for a.job.now a.e) c.eval_side.result c.if-strict.true c.eval_side.ensures c.binds_nothing.ensures
+pub returns-then-strict-clause-does : goal.returns-then-strict-clause-does
+returns-then-strict-clause-does c = let a = c.args in bare-evaluated (program_for a.scope.now.job.now) a.scope.now.rule (bindings_in a.scope.now.bound.now a.scope.now.pairs.now a.scope.now.globals.now) a.i (expr_for a.scope.now.job.now a.e) c.eval_side.result c.if-strict.true c.eval_side.ensures.does c.binds_nothing.ensures
 
-pub returns : goal.returns
-returns c = let a = c.args in let pre = c.requires in bare-passes (program_for a.job.now) a.rule (bindings_in a.bound.now a.pairs.now a.globals.now) a.i (expr_for a.job.now a.e) c.if-strict.false pre.indexed pre.past
+pub returns-clause-does : goal.returns-clause-does
+returns-clause-does c = let a = c.args in let pre = c.requires in bare-passes (program_for a.scope.now.job.now) a.scope.now.rule (bindings_in a.scope.now.bound.now a.scope.now.pairs.now a.scope.now.globals.now) a.i (expr_for a.scope.now.job.now a.e) c.if-strict.false pre.indexed pre.past

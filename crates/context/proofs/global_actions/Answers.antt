@@ -16,18 +16,6 @@ overflow_cast-i c = let w = c.requires.standing.ready.held.limits.globals in let
 pub global_action-r-requires : goal.global_action-r-requires
 global_action-r-requires c = let w = c.requires.standing.ready.held.limits in let h = c.loop-i-test.true in let v = c.loop-i.invariant in let f = w.globals in let g = w.first in let l = v.low in let t = v.table in let b = v.high in let u = v.unions in let n = v.few in record { standing = v.standing; i_bound = omega arith; le_at = omega arith; at_in_bounds = omega arith; n_in_bounds = omega arith; even = v.even }
 
-pub shape_of-skinds-then-r-ne0 : goal.shape_of-skinds-then-r-ne0
-shape_of-skinds-then-r-ne0 c = (c.global_action-r.ensures.does []).grown.len_k ∙ c.loop-i.invariant.grown.len_k
-
-pub shape_of-sends-then-r-ne0 : goal.shape_of-sends-then-r-ne0
-shape_of-sends-then-r-ne0 c = (c.global_action-r.ensures.does []).grown.len_e ∙ c.loop-i.invariant.grown.len_e
-
-pub shape_of-spool-then-r-ne0 : goal.shape_of-spool-then-r-ne0
-shape_of-spool-then-r-ne0 c = (c.global_action-r.ensures.does []).grown.len_p ∙ c.loop-i.invariant.grown.len_p
-
-pub shape_of-index-then-r-ne0 : goal.shape_of-index-then-r-ne0
-shape_of-index-then-r-ne0 c = (c.global_action-r.ensures.does []).grown.len_i ∙ c.loop-i.invariant.grown.len_i
-
 pub shape_of-memo-then-r-ne0 : goal.shape_of-memo-then-r-ne0
 shape_of-memo-then-r-ne0 c = c.global_action-r.auto.memo ∙ c.loop-i.invariant.len_memo
 
@@ -40,23 +28,11 @@ shape_of-table-then-r-ne0 c = c.global_action-r.auto.table ∙ c.loop-i.invarian
 pub shape_of-unions-then-r-ne0 : goal.shape_of-unions-then-r-ne0
 shape_of-unions-then-r-ne0 c = c.global_action-r.auto.unions ∙ c.loop-i.invariant.unions ∙ sym c.requires.unions_len
 
-pub returns-then-r-ne0 : goal.returns-then-r-ne0
-returns-then-r-ne0 c = let a = c.args in stops a.job.now a.found.now c.loop-i.invariant (omega (arith, c.loop-i-test.true, c.globals-count.ensures)) c.global_action-r.ensures c.requires.standing.ready.held.limits c.if-r-ne0.true
+pub returns-then-r-ne0-clause-does : goal.returns-then-r-ne0-clause-does
+returns-then-r-ne0-clause-does c = let a = c.args in stops a.job.now a.found.now c.loop-i.invariant (omega (arith, c.loop-i-test.true, c.globals-count.ensures)) c.global_action-r.ensures.does c.requires.standing.ready.held.limits c.if-r-ne0.true
 
 pub loop-i-preserved : goal.loop-i-preserved
-loop-i-preserved c = let a = c.args in turns a.job.now a.found.now c.loop-i.invariant (omega (arith, c.loop-i-test.true, c.globals-count.ensures)) c.global_action-r.ensures c.if-r-ne0.false c.global_action-r.auto.memo c.global_action-r.auto.marks c.global_action-r.auto.table c.global_action-r.auto.unions
-
-pub shape_of-skinds : goal.shape_of-skinds
-shape_of-skinds c = c.loop-i.invariant.grown.len_k
-
-pub shape_of-sends : goal.shape_of-sends
-shape_of-sends c = c.loop-i.invariant.grown.len_e
-
-pub shape_of-spool : goal.shape_of-spool
-shape_of-spool c = c.loop-i.invariant.grown.len_p
-
-pub shape_of-index : goal.shape_of-index
-shape_of-index c = c.loop-i.invariant.grown.len_i
+loop-i-preserved c = let a = c.args in turns a.job.now a.found.now c.loop-i.invariant (omega (arith, c.loop-i-test.true, c.globals-count.ensures)) c.global_action-r.ensures.does c.if-r-ne0.false c.global_action-r.auto.memo c.global_action-r.auto.marks c.global_action-r.auto.table c.global_action-r.auto.unions
 
 pub shape_of-memo : goal.shape_of-memo
 shape_of-memo c = c.loop-i.invariant.len_memo
@@ -70,5 +46,5 @@ shape_of-table c = c.loop-i.invariant.table ∙ sym c.requires.table_len
 pub shape_of-unions : goal.shape_of-unions
 shape_of-unions c = c.loop-i.invariant.unions ∙ sym c.requires.unions_len
 
-pub returns : goal.returns
-returns c = let a = c.args in finishes a.job.now a.found.now c.loop-i.invariant c.requires.standing.ready.held.limits (omega (arith, c.loop-i-test.false, c.globals-count.ensures))
+pub returns-clause-does : goal.returns-clause-does
+returns-clause-does c = let a = c.args in finishes a.job.now a.found.now c.loop-i.invariant c.requires.standing.ready.held.limits (omega (arith, c.loop-i-test.false, c.globals-count.ensures))

@@ -8,5 +8,5 @@ returns-then-fact c = finds-none refl
 
 pub returns : goal.returns
 returns c = let a = c.args in
-    let s = terms_in a.skinds.now a.sends.now a.spool.now a.fill in
-    custom-found a.fact (room_of a.skinds.now a.spool.now) a.f a.args.now s c.if-fact.false c.find_call.ensures
+    let s = terms_in a.store.now.kinds.now a.store.now.ends.now a.store.now.pool.now a.fill in
+    custom-found a.fact (room_of a.store.now.kinds.now a.store.now.pool.now) a.f a.args.now s c.if-fact.false c.find_call.ensures

@@ -15,7 +15,7 @@ pub returns-in_default : goal.returns-in_default
 returns-in_default c = unknown (ap (is_noted c.args.memo.now) (sym c.wide-at.ensures) ∙ sym c.is_noted.ensures ∙ c.if-is_noted.false) refl refl
 
 pub returns-in-Some : goal.returns-in-Some
-returns-in-Some c = let a = c.args in let t = c.in-Some.t in bound _ t (ap head_of (sym c.in-Var.is) ∙ c.head_at-head.ensures.is ∙ ap (head_for a.job.now) c.wide-at.ensures) (ap option_of (sym c.in-Some.is) ∙ c.lookup.ensures) refl (c.note.ensures ∙ ap (λ (k : ℕ). note_at a.memo.now k t) c.wide-at.ensures)
+returns-in-Some c = let a = c.args in let t = c.in-Some.t in bound _ t (ap head_of (sym c.in-Var.is) ∙ c.head_at-head.ensures.is ∙ ap (head_for a.scope.now.job.now) c.wide-at.ensures) (ap option_of (sym c.in-Some.is) ∙ c.lookup.ensures) refl (c.note.ensures ∙ ap (λ (k : ℕ). note_at a.memo.now k t) c.wide-at.ensures)
 
 pub returns-in-None : goal.returns-in-None
 returns-in-None c = unknown (ap (is_noted c.args.memo.now) (sym c.wide-at.ensures) ∙ sym c.is_noted.ensures ∙ c.if-is_noted.false) refl refl

@@ -8,7 +8,7 @@ use Rattle.evaluate.specs.Evaluation.{KnowsFirst}
 use Rattle.evaluate.proofs.known_values.Given as goal
 
 abbrev pub invariant-loop-i : goal.invariant-loop-i
-invariant-loop-i l = ((vals₀ : List ℕ) → KnowsFirst (head_for l.job) (bindings_in l.bound l.pairs l.globals) l.args l.initial.memo vals₀ l.initial.i l.initial.memo l.initial.vals → KnowsFirst (head_for l.job) (bindings_in l.bound l.pairs l.globals) l.args l.initial.memo vals₀ l.i l.memo l.vals) × (length l.memo ≡ length l.initial.memo)
+invariant-loop-i l = ((vals₀ : List ℕ) → KnowsFirst (head_for l.scope.job.now) (bindings_in l.scope.bound.now l.scope.pairs.now l.scope.globals.now) l.args l.initial.memo vals₀ l.initial.i l.initial.memo l.initial.vals → KnowsFirst (head_for l.scope.job.now) (bindings_in l.scope.bound.now l.scope.pairs.now l.scope.globals.now) l.args l.initial.memo vals₀ l.i l.memo l.vals) × (length l.memo ≡ length l.initial.memo)
 
 abbrev pub decreases-loop-i : goal.decreases-loop-i
 decreases-loop-i l = length l.args - l.i

@@ -13,22 +13,10 @@ pub new_round-requires : goal.new_round-requires
 new_round-requires c = let p = c.requires in let l = p.job_in_bounds in record { memo_nonzero = omega arith; past = p.past }
 
 pub loop-i-init : goal.loop-i-init
-loop-i-init c = let a = c.args in let p = c.requires in arguments-start a.job.now a.rule (bindings_in a.bound.now a.pairs.now a.globals.now) (c.arguments_at-args.ensures.is ∙ ap (arguments_for a.job.now) c.wide.ensures) p.indexed (let k = c.new_round.auto.memo in let l = p.job_in_bounds in omega arith) c.new_round.ensures
+loop-i-init c = let a = c.args in let p = c.requires in arguments-start a.scope.now.job.now a.scope.now.rule (bindings_in a.scope.now.bound.now a.scope.now.pairs.now a.scope.now.globals.now) (c.arguments_at-args.ensures.is ∙ ap (arguments_for a.scope.now.job.now) c.wide.ensures) p.indexed (let k = c.new_round.auto.memo in let l = p.job_in_bounds in omega arith) c.new_round.ensures
 
 pub eval-r-requires : goal.eval-r-requires
 eval-r-requires c = let a = c.args in let p = c.requires in let l = c.loop-i in let inv = l.invariant in let x = c.arguments_at-args.ensures.lower l.i (search rules) in let h = p.e_bound in record { ready = p.ready; keyed = p.keyed; indexed = inv.run.grown.indexed; e_bound = omega arith; memo = inv.memo }
-
-pub shape_of-skinds-then-r-ne0 : goal.shape_of-skinds-then-r-ne0
-shape_of-skinds-then-r-ne0 c = c.eval-r.ensures.does.grown.len_k ∙ c.loop-i.invariant.run.grown.len_k
-
-pub shape_of-sends-then-r-ne0 : goal.shape_of-sends-then-r-ne0
-shape_of-sends-then-r-ne0 c = c.eval-r.ensures.does.grown.len_e ∙ c.loop-i.invariant.run.grown.len_e
-
-pub shape_of-spool-then-r-ne0 : goal.shape_of-spool-then-r-ne0
-shape_of-spool-then-r-ne0 c = c.eval-r.ensures.does.grown.len_p ∙ c.loop-i.invariant.run.grown.len_p
-
-pub shape_of-index-then-r-ne0 : goal.shape_of-index-then-r-ne0
-shape_of-index-then-r-ne0 c = c.eval-r.ensures.does.grown.len_i ∙ c.loop-i.invariant.run.grown.len_i
 
 pub shape_of-memo-then-r-ne0 : goal.shape_of-memo-then-r-ne0
 shape_of-memo-then-r-ne0 c = c.eval-r.auto.memo ∙ c.loop-i.invariant.len_m ∙ c.new_round.auto.memo
@@ -36,26 +24,14 @@ shape_of-memo-then-r-ne0 c = c.eval-r.auto.memo ∙ c.loop-i.invariant.len_m ∙
 pub shape_of-values-then-r-ne0 : goal.shape_of-values-then-r-ne0
 shape_of-values-then-r-ne0 c = c.loop-i.invariant.len_v
 
-pub returns-then-r-ne0 : goal.returns-then-r-ne0
-returns-then-r-ne0 c = let a = c.args in let p = c.requires in arguments-stop a.job.now a.rule (bindings_in a.bound.now a.pairs.now a.globals.now) c.loop-i.invariant (omega arith) c.eval-r.ensures _ c.if-r-ne0.true
+pub returns-then-r-ne0-clause-does : goal.returns-then-r-ne0-clause-does
+returns-then-r-ne0-clause-does c = let a = c.args in let p = c.requires in arguments-stop a.scope.now.job.now a.scope.now.rule (bindings_in a.scope.now.bound.now a.scope.now.pairs.now a.scope.now.globals.now) c.loop-i.invariant (omega arith) c.eval-r.ensures.does _ c.if-r-ne0.true
 
 pub bounds-values-i : goal.bounds-values-i
 bounds-values-i c = let f = c.arguments_at-args.ensures.few in let v = c.loop-i.invariant.len_v in let h = c.requires.in_bounds in omega arith
 
 pub loop-i-preserved : goal.loop-i-preserved
-loop-i-preserved c = let a = c.args in let p = c.requires in arguments-turn a.job.now a.rule (bindings_in a.bound.now a.pairs.now a.globals.now) c.loop-i.invariant (omega arith) c.eval-r.ensures (let f = c.arguments_at-args.ensures.few in let v = c.loop-i.invariant.len_v in let h = p.in_bounds in omega arith) c.eval-r.auto.memo c.if-r-ne0.false
-
-pub shape_of-skinds : goal.shape_of-skinds
-shape_of-skinds c = c.loop-i.invariant.run.grown.len_k
-
-pub shape_of-sends : goal.shape_of-sends
-shape_of-sends c = c.loop-i.invariant.run.grown.len_e
-
-pub shape_of-spool : goal.shape_of-spool
-shape_of-spool c = c.loop-i.invariant.run.grown.len_p
-
-pub shape_of-index : goal.shape_of-index
-shape_of-index c = c.loop-i.invariant.run.grown.len_i
+loop-i-preserved c = let a = c.args in let p = c.requires in arguments-turn a.scope.now.job.now a.scope.now.rule (bindings_in a.scope.now.bound.now a.scope.now.pairs.now a.scope.now.globals.now) c.loop-i.invariant (omega arith) c.eval-r.ensures.does (let f = c.arguments_at-args.ensures.few in let v = c.loop-i.invariant.len_v in let h = p.in_bounds in omega arith) c.eval-r.auto.memo c.if-r-ne0.false
 
 pub shape_of-memo : goal.shape_of-memo
 shape_of-memo c = c.loop-i.invariant.len_m ∙ c.new_round.auto.memo
@@ -63,5 +39,5 @@ shape_of-memo c = c.loop-i.invariant.len_m ∙ c.new_round.auto.memo
 pub shape_of-values : goal.shape_of-values
 shape_of-values c = c.loop-i.invariant.len_v
 
-pub returns : goal.returns
-returns c = let a = c.args in let p = c.requires in arguments-done a.job.now a.rule (bindings_in a.bound.now a.pairs.now a.globals.now) c.loop-i.invariant (c.arguments_at-args.ensures.is ∙ ap (arguments_for a.job.now) c.wide.ensures) (omega arith) c.pass.ensures
+pub returns-clause-does : goal.returns-clause-does
+returns-clause-does c = let a = c.args in let p = c.requires in arguments-done a.scope.now.job.now a.scope.now.rule (bindings_in a.scope.now.bound.now a.scope.now.pairs.now a.scope.now.globals.now) c.loop-i.invariant (c.arguments_at-args.ensures.is ∙ ap (arguments_for a.scope.now.job.now) c.wide.ensures) (omega arith) c.pass.ensures

@@ -4,4 +4,4 @@ use Rattle.facts.proofs.evaluate_arguments.Given as goal
 
 abbrev pub invariant-loop-i : goal.invariant-loop-i
 invariant-loop-i l =
-    Turn l.job l.rule (bindings_in l.bound l.pairs l.globals) l.e l.args l.initial.skinds l.initial.sends l.initial.spool l.initial.index l.initial.have l.initial.memo l.initial.values l.skinds l.sends l.spool l.index l.have l.memo l.values l.i
+    Turn l.scope.job.now l.scope.rule (bindings_in l.scope.bound.now l.scope.pairs.now l.scope.globals.now) l.e l.args l.initial.store.kinds.now l.initial.store.ends.now l.initial.store.pool.now l.initial.store.index.now l.initial.have l.initial.memo l.initial.values l.store.kinds.now l.store.ends.now l.store.pool.now l.store.index.now l.have l.memo l.values l.i

@@ -11,8 +11,8 @@ wanted_equality-requires c = let p = c.requires in let b = c.fact_at-fact.ensure
 pub wanted_bare-requires : goal.wanted_bare-requires
 wanted_bare-requires c = let p = c.requires in record { ready = p.ready; keyed = p.keyed; indexed = p.indexed; job_in_bounds = p.job_in_bounds; past = p.past; e_bound = c.fact_at-fact.ensures.bare c.in-Bare.e c.in-Bare.is }
 
-pub returns-in-Equal : goal.returns-in-Equal
-returns-in-Equal c = let a = c.args in let pre = c.requires in let prog = program_for a.job.now in let σ = bindings_in a.bound.now a.pairs.now a.globals.now in let expr = expr_for a.job.now in wanted-as prog a.rule σ (fact-by c.fact_at-fact.ensures c.wide.ensures c.in-Equal.is) c.wanted_equality.ensures
+pub returns-in-Equal-clause-does : goal.returns-in-Equal-clause-does
+returns-in-Equal-clause-does c = let a = c.args in let pre = c.requires in let prog = program_for a.scope.now.job.now in let σ = bindings_in a.scope.now.bound.now a.scope.now.pairs.now a.scope.now.globals.now in let expr = expr_for a.scope.now.job.now in wanted-as prog a.scope.now.rule σ (fact-by c.fact_at-fact.ensures c.wide.ensures c.in-Equal.is) c.wanted_equality.ensures.does
 
-pub returns-in-Bare : goal.returns-in-Bare
-returns-in-Bare c = let a = c.args in let pre = c.requires in let prog = program_for a.job.now in let σ = bindings_in a.bound.now a.pairs.now a.globals.now in let expr = expr_for a.job.now in wanted-as prog a.rule σ (fact-by c.fact_at-fact.ensures c.wide.ensures c.in-Bare.is) c.wanted_bare.ensures
+pub returns-in-Bare-clause-does : goal.returns-in-Bare-clause-does
+returns-in-Bare-clause-does c = let a = c.args in let pre = c.requires in let prog = program_for a.scope.now.job.now in let σ = bindings_in a.scope.now.bound.now a.scope.now.pairs.now a.scope.now.globals.now in let expr = expr_for a.scope.now.job.now in wanted-as prog a.scope.now.rule σ (fact-by c.fact_at-fact.ensures c.wide.ensures c.in-Bare.is) c.wanted_bare.ensures.does

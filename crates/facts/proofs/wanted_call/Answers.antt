@@ -9,14 +9,14 @@ use mathlib.Core.Path.{sym, ap, ◌∙◌}
 use Rattle.facts.proofs.Wants.{call-unbound, call-refused, call_asks, with-last}
 use Rattle.facts.proofs.wanted_call.Goals as goal
 
-pub returns-then-v-ne0 : goal.returns-then-v-ne0
-returns-then-v-ne0 c = let a = c.args in let pre = c.requires in let prog = program_for a.job.now in let σ = bindings_in a.bound.now a.pairs.now a.globals.now in let expr = expr_for a.job.now in λ right. call-unbound prog a.rule σ (expr a.e) right a.function a.variable pre.indexed pre.past c.variable-v.result (c.variable-v.ensures.fill_value, c.variable-v.ensures.s_value) c.if-v-ne0.true c.asks.ensures
+pub returns-then-v-ne0-clause-does : goal.returns-then-v-ne0-clause-does
+returns-then-v-ne0-clause-does c = let a = c.args in let pre = c.requires in let prog = program_for a.scope.now.job.now in let σ = bindings_in a.scope.now.bound.now a.scope.now.pairs.now a.scope.now.globals.now in let expr = expr_for a.scope.now.job.now in λ right. call-unbound prog a.scope.now.rule σ (expr a.e) right a.function a.variable pre.indexed pre.past c.variable-v.result (c.variable-v.ensures.fill_value, c.variable-v.ensures.s_value) c.if-v-ne0.true c.asks.ensures
 
 pub evaluate_arguments-r-requires : goal.evaluate_arguments-r-requires
 evaluate_arguments-r-requires c = let p = c.requires in record { ready = p.ready; keyed = p.keyed; indexed = p.indexed; job_in_bounds = p.job_in_bounds; past = p.past; e_bound = p.e_bound; in_bounds = omega arith }
 
-pub returns-then-r-ne0 : goal.returns-then-r-ne0
-returns-then-r-ne0 c = let a = c.args in let pre = c.requires in let prog = program_for a.job.now in let σ = bindings_in a.bound.now a.pairs.now a.globals.now in let expr = expr_for a.job.now in λ right. call-refused prog a.rule σ (expr a.e) right a.function a.variable pre.indexed pre.past c.variable-v.result (c.variable-v.ensures.fill_value, c.variable-v.ensures.s_value) c.if-v-ne0.false (sym (ap args_of (node-for pre.ready a.e))) c.evaluate_arguments-r.result c.evaluate_arguments-r.ensures c.if-r-ne0.true c.asks-then-r-ne0.ensures
+pub returns-then-r-ne0-clause-does : goal.returns-then-r-ne0-clause-does
+returns-then-r-ne0-clause-does c = let a = c.args in let pre = c.requires in let prog = program_for a.scope.now.job.now in let σ = bindings_in a.scope.now.bound.now a.scope.now.pairs.now a.scope.now.globals.now in let expr = expr_for a.scope.now.job.now in λ right. call-refused prog a.scope.now.rule σ (expr a.e) right a.function a.variable pre.indexed pre.past c.variable-v.result (c.variable-v.ensures.fill_value, c.variable-v.ensures.s_value) c.if-v-ne0.false (sym (ap args_of (node-for pre.ready a.e))) c.evaluate_arguments-r.result c.evaluate_arguments-r.ensures.does c.if-r-ne0.true c.asks-then-r-ne0.ensures
 
 pub arguments_at-count-requires : goal.arguments_at-count-requires
 arguments_at-count-requires c = let p = c.requires in let h = p.e_bound in record { ready = p.ready; e_bound = omega arith }
@@ -28,22 +28,10 @@ pub slice_bounds-add_app-end : goal.slice_bounds-add_app-end
 slice_bounds-add_app-end c = let f = c.arguments_at-count.ensures.few in let k = c.evaluate_arguments-r.auto.values in simp (length-take, length-set) (omega arith)
 
 pub add_app-t-requires : goal.add_app-t-requires
-add_app-t-requires c = let f = c.arguments_at-count.ensures.few in record { indexed = c.evaluate_arguments-r.ensures.does.grown.indexed; args_len_bound = simp length-take (omega arith) }
-
-pub shape_of-skinds : goal.shape_of-skinds
-shape_of-skinds c = c.add_app-t.ensures.grown.len_k ∙ c.evaluate_arguments-r.ensures.does.grown.len_k
-
-pub shape_of-sends : goal.shape_of-sends
-shape_of-sends c = c.add_app-t.ensures.grown.len_e ∙ c.evaluate_arguments-r.ensures.does.grown.len_e
-
-pub shape_of-spool : goal.shape_of-spool
-shape_of-spool c = c.add_app-t.ensures.grown.len_p ∙ c.evaluate_arguments-r.ensures.does.grown.len_p
-
-pub shape_of-index : goal.shape_of-index
-shape_of-index c = c.add_app-t.ensures.grown.len_i ∙ c.evaluate_arguments-r.ensures.does.grown.len_i
+add_app-t-requires c = let f = c.arguments_at-count.ensures.few in record { indexed = c.evaluate_arguments-r.ensures.does.does.grown.indexed; args_len_bound = simp length-take (omega arith) }
 
 pub shape_of-memo : goal.shape_of-memo
 shape_of-memo c = c.evaluate_arguments-r.auto.memo
 
-pub returns : goal.returns
-returns c = let a = c.args in let pre = c.requires in let prog = program_for a.job.now in let σ = bindings_in a.bound.now a.pairs.now a.globals.now in let expr = expr_for a.job.now in λ right. call_asks prog a.rule σ (expr a.e) right a.function a.variable pre.indexed pre.past c.variable-v.result (c.variable-v.ensures.fill_value, c.variable-v.ensures.s_value) c.if-v-ne0.false (sym (ap args_of (node-for pre.ready a.e))) c.evaluate_arguments-r.result c.evaluate_arguments-r.ensures c.add_app-t.result c.if-r-ne0.false (with-last _ _ _ _ (ap length (c.arguments_at-count.ensures.is ∙ ap (arguments_for a.job.now) c.wide.ensures)) (let f = c.arguments_at-count.ensures.few in let k = c.evaluate_arguments-r.auto.values in omega arith)) c.add_app-t.ensures c.asks-2.ensures
+pub returns-clause-does : goal.returns-clause-does
+returns-clause-does c = let a = c.args in let pre = c.requires in let prog = program_for a.scope.now.job.now in let σ = bindings_in a.scope.now.bound.now a.scope.now.pairs.now a.scope.now.globals.now in let expr = expr_for a.scope.now.job.now in λ right. call_asks prog a.scope.now.rule σ (expr a.e) right a.function a.variable pre.indexed pre.past c.variable-v.result (c.variable-v.ensures.fill_value, c.variable-v.ensures.s_value) c.if-v-ne0.false (sym (ap args_of (node-for pre.ready a.e))) c.evaluate_arguments-r.result c.evaluate_arguments-r.ensures.does c.add_app-t.result c.if-r-ne0.false (with-last _ _ _ _ (ap length (c.arguments_at-count.ensures.is ∙ ap (arguments_for a.scope.now.job.now) c.wide.ensures)) (let f = c.arguments_at-count.ensures.few in let k = c.evaluate_arguments-r.auto.values in omega arith)) c.add_app-t.ensures.does c.asks-2.ensures

@@ -7,8 +7,8 @@ use Rattle.facts.proofs.wanted_equality.Goals as goal
 pub wanted_call-requires : goal.wanted_call-requires
 wanted_call-requires c = let p = c.requires in record { ready = p.ready; keyed = p.keyed; indexed = p.indexed; job_in_bounds = p.job_in_bounds; past = p.past; e_bound = p.left_bound }
 
-pub returns-in-Some : goal.returns-in-Some
-returns-in-Some c = let a = c.args in let pre = c.requires in let prog = program_for a.job.now in let σ = bindings_in a.bound.now a.pairs.now a.globals.now in let expr = expr_for a.job.now in equality-asks prog a.rule σ a.i (expr a.left) (expr a.right) c.function_fact-call.ensures c.in-Some.is (c.wanted_call.ensures (expr a.right))
+pub returns-in-Some-clause-does : goal.returns-in-Some-clause-does
+returns-in-Some-clause-does c = let a = c.args in let pre = c.requires in let prog = program_for a.scope.now.job.now in let σ = bindings_in a.scope.now.bound.now a.scope.now.pairs.now a.scope.now.globals.now in let expr = expr_for a.scope.now.job.now in equality-asks prog a.scope.now.rule σ a.i (expr a.left) (expr a.right) c.function_fact-call.ensures c.in-Some.is (c.wanted_call.ensures.does (expr a.right))
 
-pub returns-in-None : goal.returns-in-None
-returns-in-None c = let a = c.args in let pre = c.requires in let prog = program_for a.job.now in let σ = bindings_in a.bound.now a.pairs.now a.globals.now in let expr = expr_for a.job.now in equality-asks prog a.rule σ a.i (expr a.left) (expr a.right) c.function_fact-call.ensures c.in-None.is c.wanted_values.ensures
+pub returns-in-None-clause-does : goal.returns-in-None-clause-does
+returns-in-None-clause-does c = let a = c.args in let pre = c.requires in let prog = program_for a.scope.now.job.now in let σ = bindings_in a.scope.now.bound.now a.scope.now.pairs.now a.scope.now.globals.now in let expr = expr_for a.scope.now.job.now in equality-asks prog a.scope.now.rule σ a.i (expr a.left) (expr a.right) c.function_fact-call.ensures c.in-None.is c.wanted_values.ensures.does

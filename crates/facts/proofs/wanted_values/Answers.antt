@@ -13,26 +13,14 @@ eval-a-requires c = let p = c.requires in record { ready = p.ready; keyed = p.ke
 pub shape_of-memo-then-a-ne0 : goal.shape_of-memo-then-a-ne0
 shape_of-memo-then-a-ne0 c = c.eval-a.auto.memo ∙ c.new_round.auto.memo
 
-pub returns-then-a-ne0 : goal.returns-then-a-ne0
-returns-then-a-ne0 c = let a = c.args in let pre = c.requires in let prog = program_for a.job.now in let σ = bindings_in a.bound.now a.pairs.now a.globals.now in let expr = expr_for a.job.now in values-refused prog a.rule σ (expr a.left) (expr a.right) c.eval-a.result (checks-eval a.job.now a.rule σ c.eval-a.ensures) c.if-a-ne0.true c.asks.ensures
+pub returns-then-a-ne0-clause-does : goal.returns-then-a-ne0-clause-does
+returns-then-a-ne0-clause-does c = let a = c.args in let pre = c.requires in let prog = program_for a.scope.now.job.now in let σ = bindings_in a.scope.now.bound.now a.scope.now.pairs.now a.scope.now.globals.now in let expr = expr_for a.scope.now.job.now in values-refused prog a.scope.now.rule σ (expr a.left) (expr a.right) c.eval-a.result (checks-eval a.scope.now.job.now a.scope.now.rule σ c.eval-a.ensures.does) c.if-a-ne0.true c.asks.ensures
 
 pub eval-b-requires : goal.eval-b-requires
-eval-b-requires c = let a = c.args in let p = c.requires in record { ready = p.ready; keyed = p.keyed; indexed = c.eval-a.ensures.does.grown.indexed; e_bound = p.right_bound; memo = memo-after c.eval-a.ensures c.if-a-ne0.false }
-
-pub shape_of-skinds : goal.shape_of-skinds
-shape_of-skinds c = c.eval-b.ensures.does.grown.len_k ∙ c.eval-a.ensures.does.grown.len_k
-
-pub shape_of-sends : goal.shape_of-sends
-shape_of-sends c = c.eval-b.ensures.does.grown.len_e ∙ c.eval-a.ensures.does.grown.len_e
-
-pub shape_of-spool : goal.shape_of-spool
-shape_of-spool c = c.eval-b.ensures.does.grown.len_p ∙ c.eval-a.ensures.does.grown.len_p
-
-pub shape_of-index : goal.shape_of-index
-shape_of-index c = c.eval-b.ensures.does.grown.len_i ∙ c.eval-a.ensures.does.grown.len_i
+eval-b-requires c = let a = c.args in let p = c.requires in record { ready = p.ready; keyed = p.keyed; indexed = c.eval-a.ensures.does.does.grown.indexed; e_bound = p.right_bound; memo = memo-after c.eval-a.ensures.does c.if-a-ne0.false }
 
 pub shape_of-memo : goal.shape_of-memo
 shape_of-memo c = c.eval-b.auto.memo ∙ c.eval-a.auto.memo ∙ c.new_round.auto.memo
 
-pub returns : goal.returns
-returns c = let a = c.args in let pre = c.requires in let prog = program_for a.job.now in let σ = bindings_in a.bound.now a.pairs.now a.globals.now in let expr = expr_for a.job.now in values-ask prog a.rule σ (expr a.left) (expr a.right) c.eval-a.result (checks-eval a.job.now a.rule σ c.eval-a.ensures) c.eval-b.result c.if-a-ne0.false (checks-eval a.job.now a.rule σ c.eval-b.ensures) c.asks-2.ensures
+pub returns-clause-does : goal.returns-clause-does
+returns-clause-does c = let a = c.args in let pre = c.requires in let prog = program_for a.scope.now.job.now in let σ = bindings_in a.scope.now.bound.now a.scope.now.pairs.now a.scope.now.globals.now in let expr = expr_for a.scope.now.job.now in values-ask prog a.scope.now.rule σ (expr a.left) (expr a.right) c.eval-a.result (checks-eval a.scope.now.job.now a.scope.now.rule σ c.eval-a.ensures.does) c.eval-b.result c.if-a-ne0.false (checks-eval a.scope.now.job.now a.scope.now.rule σ c.eval-b.ensures.does) c.asks-2.ensures

@@ -20,8 +20,8 @@ lone_run-lone-requires c = record { ready = c.requires.standing.ready; by_index 
 pub run_produces-requires : goal.run_produces-requires
 run_produces-requires c = let L = c.lone_run-lone.ensures _ c.in-Some.is in let q = c.args.q in record { standing = c.requires.standing; e_bound = L.within; lhs_value = eqb-true q.lhs q.rhs L.marked }
 
-pub returns-in-Some : goal.returns-in-Some
-returns-in-Some c = let a = c.args in let L = c.lone_run-lone.ensures _ c.in-Some.is in c.run_produces.ensures (rule_for a.job.now a.r) c.rule_name_at-rule.ensures (sym L.is ∙ actions-for a.job.now a.r c.rule_actions_at-actions.ensures.is)
+pub returns-in-Some-clause-does : goal.returns-in-Some-clause-does
+returns-in-Some-clause-does c = let a = c.args in let L = c.lone_run-lone.ensures _ c.in-Some.is in c.run_produces.ensures.does (rule_for a.scope.now.job.now a.r) c.rule_name_at-rule.ensures (sym L.is ∙ actions-for a.scope.now.job.now a.r c.rule_actions_at-actions.ensures.is)
 
 pub head_actions-h-requires : goal.head_actions-h-requires
 head_actions-h-requires c = let P = c.requires in record { standing = standing-cleared P.standing c.clear_if.auto.marks; bound_len_bound = P.bound_len_bound; actions_len_bound = c.rule_actions_at-actions.ensures.few; by_index = c.rule_actions_at-actions.ensures.within }
@@ -29,14 +29,14 @@ head_actions-h-requires c = let P = c.requires in record { standing = standing-c
 pub shape_of-marks-then-h-ne0 : goal.shape_of-marks-then-h-ne0
 shape_of-marks-then-h-ne0 c = c.head_actions-h.auto.marks ∙ c.clear_if.auto.marks
 
-pub returns-then-h-ne0 : goal.returns-then-h-ne0
-returns-then-h-ne0 c = let a = c.args in produce-stops (program_for a.job.now) (rule_for a.job.now a.r) (bindings_in a.bound.now a.pairs.now a.globals.now) (proposition_of a.q) c.rule_name_at-rule.ensures (actions-for a.job.now a.r c.rule_actions_at-actions.ensures.is) c.head_actions-h.ensures c.if-h-ne0.true refl
+pub returns-then-h-ne0-clause-does : goal.returns-then-h-ne0-clause-does
+returns-then-h-ne0-clause-does c = let a = c.args in produce-stops (program_for a.scope.now.job.now) (rule_for a.scope.now.job.now a.r) (bindings_in a.scope.now.bound.now a.scope.now.pairs.now a.scope.now.globals.now) (proposition_of a.q) c.rule_name_at-rule.ensures (actions-for a.scope.now.job.now a.r c.rule_actions_at-actions.ensures.is) c.head_actions-h.ensures.does c.if-h-ne0.true refl
 
 pub is_claimed-claimed-requires : goal.is_claimed-claimed-requires
-is_claimed-claimed-requires c = c.head_actions-h.ensures.does.grown.indexed.stored
+is_claimed-claimed-requires c = c.head_actions-h.ensures.does.does.grown.indexed.stored
 
 pub shape_of-marks : goal.shape_of-marks
 shape_of-marks c = c.is_claimed-claimed.auto.marks ∙ c.head_actions-h.auto.marks ∙ c.clear_if.auto.marks
 
-pub returns : goal.returns
-returns c = let a = c.args in let H = c.head_actions-h.ensures in let n = c.if-h-ne0.false in let x = actions-for a.job.now a.r c.rule_actions_at-actions.ensures.is in let l = c.requires.standing.cells in let g = H.does.grown.len_k in let u = c.head_actions-h.auto.marks in let v = c.clear_if.auto.marks in produce-by (program_for a.job.now) (rule_for a.job.now a.r) (bindings_in a.bound.now a.pairs.now a.globals.now) (proposition_of a.q) c.rule_name_at-rule.ensures x H n (claimed-is (program_for a.job.now) (rule_for a.job.now a.r) (bindings_in a.bound.now a.pairs.now a.globals.now) (proposition_of a.q) c.rule_name_at-rule.ensures x H n refl a.marks.now c.clear_if.ensures (omega arith) c.is_claimed-claimed.ensures) (c.produced.ensures.fill_value, c.produced.ensures.s_value)
+pub returns-clause-does : goal.returns-clause-does
+returns-clause-does c = let a = c.args in let H = c.head_actions-h.ensures.does in let n = c.if-h-ne0.false in let x = actions-for a.scope.now.job.now a.r c.rule_actions_at-actions.ensures.is in let l = c.requires.standing.cells in let g = H.does.grown.len_k in let u = c.head_actions-h.auto.marks in let v = c.clear_if.auto.marks in produce-by (program_for a.scope.now.job.now) (rule_for a.scope.now.job.now a.r) (bindings_in a.scope.now.bound.now a.scope.now.pairs.now a.scope.now.globals.now) (proposition_of a.q) c.rule_name_at-rule.ensures x H n (claimed-is (program_for a.scope.now.job.now) (rule_for a.scope.now.job.now a.r) (bindings_in a.scope.now.bound.now a.scope.now.pairs.now a.scope.now.globals.now) (proposition_of a.q) c.rule_name_at-rule.ensures x H n refl a.marks.now c.clear_if.ensures (omega arith) c.is_claimed-claimed.ensures) (c.produced.ensures.fill_value, c.produced.ensures.s_value)

@@ -8,7 +8,7 @@ use Rattle.std.proofs.lemmas.Bool.{not_from_false, not_from_true}
 use Rattle.heads.proofs.is_claimed.Goals as goal
 
 pub returns-then-not-marking : goal.returns-then-not-marking
-returns-then-not-marking c = let a = c.args in ap (λ (b : Bool). claimed_by b a.found (is_marked (close (terms_in a.kinds.now a.ends.now a.pool.now a.fill) a.fill.cells a.marks.now) a.t)) (sym (not-true c.args.marking (not_from_false _ c.if-not-marking.true)))
+returns-then-not-marking c = let a = c.args in ap (λ (b : Bool). claimed_by b a.found (is_marked (close (terms_in a.store.now.kinds.now a.store.now.ends.now a.store.now.pool.now a.fill) a.fill.cells a.marks.now) a.t)) (sym (not-true c.args.marking (not_from_false _ c.if-not-marking.true)))
 
 pub returns : goal.returns
-returns c = let a = c.args in c.is_covered.ensures ∙ ap (λ (b : Bool). claimed_by b a.found (is_marked (close (terms_in a.kinds.now a.ends.now a.pool.now a.fill) a.fill.cells a.marks.now) a.t)) (sym (not-false c.args.marking (not_from_true _ c.if-not-marking.false)))
+returns c = let a = c.args in c.is_covered.ensures ∙ ap (λ (b : Bool). claimed_by b a.found (is_marked (close (terms_in a.store.now.kinds.now a.store.now.ends.now a.store.now.pool.now a.fill) a.fill.cells a.marks.now) a.t)) (sym (not-false c.args.marking (not_from_true _ c.if-not-marking.false)))

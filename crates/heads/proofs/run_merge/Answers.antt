@@ -17,11 +17,11 @@ new_round-requires c = record { memo_nonzero = omega (arith, c.requires.fits); p
 
 pub yield_value-requires : goal.yield_value-requires
 yield_value-requires c = let a = c.args in let S = c.requires in let l = c.new_round.auto.memo in
-    let G : Going a.job.now 3 (merge_bindings a.old a.new) a.marking a.skinds.now a.sends.now a.spool.now a.fill c.new_round.new.memo a.marks.now = going-enters false {memo = a.memo.now} (omega (arith, l, S.fits)) (λ u. absurd (true≢false (sym u))) (λ _. c.new_round.ensures) (λ u. absurd (true≢false (sym u))) in
+    let G : Going a.job.now 3 (merge_bindings a.old a.new) a.marking a.store.now.kinds.now a.store.now.ends.now a.store.now.pool.now a.fill c.new_round.new.memo a.marks.now = going-enters false {memo = a.memo.now} (omega (arith, l, S.fits)) (λ u. absurd (true≢false (sym u))) (λ _. c.new_round.ensures) (λ u. absurd (true≢false (sym u))) in
     record { standing = standing-after S (grown-same S.indexed) S.sane G.holds.past l refl; going_2 = G; e_bound = c.merge_of-merge.ensures.within _ c.in-Some.is }
 
-pub returns-in-None : goal.returns-in-None
-returns-in-None c = let a = c.args in merged-none (program_for a.job.now) a.function a.old a.new c.requires.indexed (ap (view.merge_of (expr_for a.job.now)) (sym c.in-None.is) ∙ c.merge_of-merge.ensures.is) c.refuse1.ensures
+pub returns-in-None-clause-does : goal.returns-in-None-clause-does
+returns-in-None-clause-does c = let a = c.args in merged-none (program_for a.job.now) a.function a.old a.new c.requires.indexed (ap (view.merge_of (expr_for a.job.now)) (sym c.in-None.is) ∙ c.merge_of-merge.ensures.is) c.refuse1.ensures
 
-pub returns-in-Some : goal.returns-in-Some
-returns-in-Some c = let a = c.args in merged_by (program_for a.job.now) a.function a.old a.new _ (ap (view.merge_of (expr_for a.job.now)) (sym c.in-Some.is) ∙ c.merge_of-merge.ensures.is) c.yield_value.ensures.yields
+pub returns-in-Some-clause-does : goal.returns-in-Some-clause-does
+returns-in-Some-clause-does c = let a = c.args in merged_by (program_for a.job.now) a.function a.old a.new _ (ap (view.merge_of (expr_for a.job.now)) (sym c.in-Some.is) ∙ c.merge_of-merge.ensures.is) c.yield_value.ensures.yields

@@ -6,11 +6,11 @@ use Rattle.heads.proofs.run_produces.Goals as goal
 pub evaluate-v-requires : goal.evaluate-v-requires
 evaluate-v-requires c = let P = c.requires in let S = P.standing in record { ready = S.ready; keyed = S.keyed; indexed = S.indexed; e_bound = P.e_bound; job_in_bounds = S.fits; past = S.past }
 
-pub returns-then-v-ne0 : goal.returns-then-v-ne0
-returns-then-v-ne0 c = let P = c.requires in λ t u w. run-stops P.standing P.e_bound P.lhs_value c.evaluate-v.ensures t u w c.if-v-ne0.true
+pub returns-then-v-ne0-clause-does : goal.returns-then-v-ne0-clause-does
+returns-then-v-ne0-clause-does c = let P = c.requires in λ t u w. run-stops P.standing P.e_bound P.lhs_value c.evaluate-v.ensures.does t u w c.if-v-ne0.true
 
-pub returns-then-v-q : goal.returns-then-v-q
-returns-then-v-q c = let P = c.requires in λ t u w. run_is P.standing P.e_bound P.lhs_value c.evaluate-v.ensures t u w c.if-v-ne0.false c.if-v-q.true c.pass.ensures
+pub returns-then-v-q-clause-does : goal.returns-then-v-q-clause-does
+returns-then-v-q-clause-does c = let P = c.requires in λ t u w. run_is P.standing P.e_bound P.lhs_value c.evaluate-v.ensures.does t u w c.if-v-ne0.false c.if-v-q.true c.pass.ensures
 
 pub size-requires : goal.size-requires
 size-requires c = record { held = c.requires.standing.ready.held; table_bound = omega arith }
@@ -19,22 +19,10 @@ pub mark_values-requires : goal.mark_values-requires
 mark_values-requires c = let f = c.requires.standing.fits in let k = c.evaluate-v.auto.memo in omega arith
 
 pub is_covered-claimed-requires : goal.is_covered-claimed-requires
-is_covered-claimed-requires c = c.evaluate-v.ensures.does.grown.indexed.stored
-
-pub shape_of-skinds : goal.shape_of-skinds
-shape_of-skinds c = c.evaluate-v.auto.skinds
-
-pub shape_of-sends : goal.shape_of-sends
-shape_of-sends c = c.evaluate-v.auto.sends
-
-pub shape_of-spool : goal.shape_of-spool
-shape_of-spool c = c.evaluate-v.auto.spool
-
-pub shape_of-index : goal.shape_of-index
-shape_of-index c = c.evaluate-v.auto.index
+is_covered-claimed-requires c = c.evaluate-v.ensures.does.does.grown.indexed.stored
 
 pub shape_of-memo : goal.shape_of-memo
 shape_of-memo c = c.evaluate-v.auto.memo
 
-pub returns : goal.returns
-returns c = let a = c.args in let P = c.requires in λ t u w. run-marks (standing-cleared P.standing c.clear.auto.marks) P.e_bound P.lhs_value c.evaluate-v.ensures t u w c.if-v-ne0.false (length a.marks.now) c.clear.ensures c.size.ensures c.mark_values.ensures c.mark_values.auto.marks c.is_covered-claimed.ensures (c.produced.ensures.fill_value, c.produced.ensures.s_value)
+pub returns-clause-does : goal.returns-clause-does
+returns-clause-does c = let a = c.args in let P = c.requires in λ t u w. run-marks (standing-cleared P.standing c.clear.auto.marks) P.e_bound P.lhs_value c.evaluate-v.ensures.does t u w c.if-v-ne0.false (length a.marks.now) c.clear.ensures c.size.ensures c.mark_values.ensures c.mark_values.auto.marks c.is_covered-claimed.ensures (c.produced.ensures.fill_value, c.produced.ensures.s_value)

@@ -6,8 +6,8 @@ use Rattle.marks.proofs.close_at.Goals as goal
 
 pub returns-then-not-is_marked : goal.returns-then-not-is_marked
 returns-then-not-is_marked c = let a = c.args in
-    at-no (terms_in a.kinds.now a.ends.now a.pool.now a.fill) a.i a.marks.now _ c.is_marked.ensures (not_from_false _ c.if-not-is_marked.true)
+    at-no (terms_in a.store.now.kinds.now a.store.now.ends.now a.store.now.pool.now a.fill) a.i a.marks.now _ c.is_marked.ensures (not_from_false _ c.if-not-is_marked.true)
 
 pub returns : goal.returns
 returns c = let a = c.args in
-    c.mark_all.ensures ∙ at-yes (terms_in a.kinds.now a.ends.now a.pool.now a.fill) a.i a.marks.now _ c.is_marked.ensures _ (not_from_true _ c.if-not-is_marked.false) c.children-xs.ensures
+    c.mark_all.ensures ∙ at-yes (terms_in a.store.now.kinds.now a.store.now.ends.now a.store.now.pool.now a.fill) a.i a.marks.now _ c.is_marked.ensures _ (not_from_true _ c.if-not-is_marked.false) c.children-xs.ensures

@@ -9,10 +9,10 @@ use Rattle.merges.proofs.TestLaws.{app-by}
 use Rattle.merges.proofs.app_head.Goals as goal
 
 pub returns-in-Lit : goal.returns-in-Lit
-returns-in-Lit c = let a = c.args in app-by _ _ _ (subst (λ (n : ℕ). get_term (terms_in a.kinds.now a.ends.now a.pool.now a.fill) n ≡ some (term_of c.get-term.result (children (get_term (terms_in a.kinds.now a.ends.now a.pool.now a.fill) n)))) c.wide.ensures c.get-term.ensures) _ _ c.in-Lit.is refl
+returns-in-Lit c = let a = c.args in app-by _ _ _ (subst (λ (n : ℕ). get_term (terms_in a.store.now.kinds.now a.store.now.ends.now a.store.now.pool.now a.fill) n ≡ some (term_of c.get-term.result (children (get_term (terms_in a.store.now.kinds.now a.store.now.ends.now a.store.now.pool.now a.fill) n)))) c.wide.ensures c.get-term.ensures) _ _ c.in-Lit.is refl
 
 pub returns-in-Var : goal.returns-in-Var
-returns-in-Var c = let a = c.args in app-by _ _ _ (subst (λ (n : ℕ). get_term (terms_in a.kinds.now a.ends.now a.pool.now a.fill) n ≡ some (term_of c.get-term.result (children (get_term (terms_in a.kinds.now a.ends.now a.pool.now a.fill) n)))) c.wide.ensures c.get-term.ensures) _ _ c.in-Var.is refl
+returns-in-Var c = let a = c.args in app-by _ _ _ (subst (λ (n : ℕ). get_term (terms_in a.store.now.kinds.now a.store.now.ends.now a.store.now.pool.now a.fill) n ≡ some (term_of c.get-term.result (children (get_term (terms_in a.store.now.kinds.now a.store.now.ends.now a.store.now.pool.now a.fill) n)))) c.wide.ensures c.get-term.ensures) _ _ c.in-Var.is refl
 
 pub returns-in-App : goal.returns-in-App
-returns-in-App c = let a = c.args in app-by _ _ _ (subst (λ (n : ℕ). get_term (terms_in a.kinds.now a.ends.now a.pool.now a.fill) n ≡ some (term_of c.get-term.result (children (get_term (terms_in a.kinds.now a.ends.now a.pool.now a.fill) n)))) c.wide.ensures c.get-term.ensures) _ _ c.in-App.is refl
+returns-in-App c = let a = c.args in app-by _ _ _ (subst (λ (n : ℕ). get_term (terms_in a.store.now.kinds.now a.store.now.ends.now a.store.now.pool.now a.fill) n ≡ some (term_of c.get-term.result (children (get_term (terms_in a.store.now.kinds.now a.store.now.ends.now a.store.now.pool.now a.fill) n)))) c.wide.ensures c.get-term.ensures) _ _ c.in-App.is refl

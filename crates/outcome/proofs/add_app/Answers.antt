@@ -3,7 +3,7 @@ use native.Mathlib.Omega.{arith}
 use Rattle.outcome.proofs.add_app.Goals as goal
 
 pub added-requires : goal.added-requires
-added-requires c = let g = c.app-a.ensures.indexed.stored.formed in let x = g.pool in let y = g.small in omega arith
+added-requires c = let g = c.app-a.ensures.does.indexed.stored.formed in let x = g.pool in let y = g.small in omega arith
 
-pub returns : goal.returns
-returns c = added-does _ _ c.app-a.ensures c.added.ensures
+pub returns-clause-does : goal.returns-clause-does
+returns-clause-does c = added-does _ _ c.app-a.ensures.does c.added.ensures

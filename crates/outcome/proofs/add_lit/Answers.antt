@@ -3,7 +3,7 @@ use native.Mathlib.Omega.{arith}
 use Rattle.outcome.proofs.add_lit.Goals as goal
 
 pub added-requires : goal.added-requires
-added-requires c = let g = c.lit-a.ensures.indexed.stored.formed in let x = g.pool in let y = g.small in omega arith
+added-requires c = let g = c.lit-a.ensures.does.indexed.stored.formed in let x = g.pool in let y = g.small in omega arith
 
-pub returns : goal.returns
-returns c = added-does _ _ c.lit-a.ensures c.added.ensures
+pub returns-clause-does : goal.returns-clause-does
+returns-clause-does c = added-does _ _ c.lit-a.ensures.does c.added.ensures

@@ -6,4 +6,4 @@ pub load_terms-have-requires : goal.load_terms-have-requires
 load_terms-have-requires c = let L = c.requires in record { held = (start-ready L).held; loadable = start_loadable L }
 
 pub returns : goal.returns
-returns c = record { is = refl; begun = c.load_terms-have.ensures }
+returns c = record { is = refl; begun = c.load_terms-have.ensures.does }

@@ -8,25 +8,25 @@ use Rattle.steps.proofs.CongrLaws.{congr-none, congr-child, congr-full, congr-cl
 use Rattle.steps.proofs.congr_step.Goals as goal
 
 pub app_head-head-requires : goal.app_head-head-requires
-app_head-head-requires c = let a = c.args in let pre = c.requires in record { stored = pre.indexed.stored; t_lt_cells = small-cells a.kinds.now a.ends.now a.pool.now a.fill pre.small refl }
+app_head-head-requires c = let a = c.args in let pre = c.requires in record { stored = pre.indexed.stored; t_lt_cells = small-cells a.store.now.kinds.now a.store.now.ends.now a.store.now.pool.now a.fill pre.small refl }
 
-pub returns-in_default : goal.returns-in_default
-returns-in_default c = let a = c.args in let pre = c.requires in congr-none a.p (proposition_of a.q) (proposition_of a.a) a.i (proposition_of a.b) pre.indexed c.app_head-head.ensures c.in_default.is c.refuse1.ensures
+pub returns-in_default-clause-does : goal.returns-in_default-clause-does
+returns-in_default-clause-does c = let a = c.args in let pre = c.requires in congr-none a.p (proposition_of a.q) (proposition_of a.a) a.i (proposition_of a.b) pre.indexed c.app_head-head.ensures c.in_default.is c.refuse1.ensures
 
 pub children-args-requires : goal.children-args-requires
-children-args-requires c = let a = c.args in let pre = c.requires in record { stored = pre.indexed.stored; t_lt_cells = small-cells a.kinds.now a.ends.now a.pool.now a.fill pre.small c.wide.ensures }
+children-args-requires c = let a = c.args in let pre = c.requires in record { stored = pre.indexed.stored; t_lt_cells = small-cells a.store.now.kinds.now a.store.now.ends.now a.store.now.pool.now a.fill pre.small c.wide.ensures }
 
 pub child_matches-first-requires : goal.child_matches-first-requires
-child_matches-first-requires c = let a = c.args in let pre = c.requires in few-children (terms_in a.kinds.now a.ends.now a.pool.now a.fill) c.wide.ensures c.children-args.ensures pre.small
+child_matches-first-requires c = let a = c.args in let pre = c.requires in few-children (terms_in a.store.now.kinds.now a.store.now.ends.now a.store.now.pool.now a.fill) c.wide.ensures c.children-args.ensures pre.small
 
-pub returns-then-first-ne0 : goal.returns-then-first-ne0
-returns-then-first-ne0 c = let a = c.args in let pre = c.requires in congr-child a.p (proposition_of a.q) (proposition_of a.a) a.i (proposition_of a.b) pre.indexed c.app_head-head.ensures c.in-Some.is c.child_matches-first.result (children-at (terms_in a.kinds.now a.ends.now a.pool.now a.fill) c.wide.ensures c.children-args.ensures) c.child_matches-first.ensures.s_value c.if-first-ne0.true
+pub returns-then-first-ne0-clause-does : goal.returns-then-first-ne0-clause-does
+returns-then-first-ne0-clause-does c = let a = c.args in let pre = c.requires in congr-child a.p (proposition_of a.q) (proposition_of a.a) a.i (proposition_of a.b) pre.indexed c.app_head-head.ensures c.in-Some.is c.child_matches-first.result (children-at (terms_in a.store.now.kinds.now a.store.now.ends.now a.store.now.pool.now a.fill) c.wide.ensures c.children-args.ensures) c.child_matches-first.ensures.s_value c.if-first-ne0.true
 
 pub replace_child-r-requires : goal.replace_child-r-requires
-replace_child-r-requires c = let a = c.args in let pre = c.requires in let k = c.child_matches-first.ensures.i_in_bounds c.if-first-ne0.false in let e = ap length (children-at (terms_in a.kinds.now a.ends.now a.pool.now a.fill) c.wide.ensures c.children-args.ensures) in record { indexed = pre.indexed; small = pre.small; i_in_bounds = omega arith }
+replace_child-r-requires c = let a = c.args in let pre = c.requires in let k = c.child_matches-first.ensures.i_in_bounds c.if-first-ne0.false in let e = ap length (children-at (terms_in a.store.now.kinds.now a.store.now.ends.now a.store.now.pool.now a.fill) c.wide.ensures c.children-args.ensures) in record { indexed = pre.indexed; small = pre.small; i_in_bounds = omega arith }
 
-pub returns-then-r-ne0 : goal.returns-then-r-ne0
-returns-then-r-ne0 c = let a = c.args in let pre = c.requires in congr-full a.p (proposition_of a.q) (proposition_of a.a) a.i (proposition_of a.b) pre.indexed c.app_head-head.ensures c.in-Some.is c.child_matches-first.result (children-at (terms_in a.kinds.now a.ends.now a.pool.now a.fill) c.wide.ensures c.children-args.ensures) c.child_matches-first.ensures.s_value c.if-first-ne0.false c.replace_child-r.result c.wide-2.ensures c.replace_child-r.ensures c.if-r-ne0.true
+pub returns-then-r-ne0-clause-does : goal.returns-then-r-ne0-clause-does
+returns-then-r-ne0-clause-does c = let a = c.args in let pre = c.requires in congr-full a.p (proposition_of a.q) (proposition_of a.a) a.i (proposition_of a.b) pre.indexed c.app_head-head.ensures c.in-Some.is c.child_matches-first.result (children-at (terms_in a.store.now.kinds.now a.store.now.ends.now a.store.now.pool.now a.fill) c.wide.ensures c.children-args.ensures) c.child_matches-first.ensures.s_value c.if-first-ne0.false c.replace_child-r.result c.wide-2.ensures c.replace_child-r.ensures.does c.if-r-ne0.true
 
-pub returns : goal.returns
-returns c = let a = c.args in let pre = c.requires in congr-claimed a.p (proposition_of a.q) (proposition_of a.a) a.i (proposition_of a.b) pre.indexed c.app_head-head.ensures c.in-Some.is c.child_matches-first.result (children-at (terms_in a.kinds.now a.ends.now a.pool.now a.fill) c.wide.ensures c.children-args.ensures) c.child_matches-first.ensures.s_value c.if-first-ne0.false c.replace_child-r.result c.wide-2.ensures c.replace_child-r.ensures c.congr_claims-refusal.result c.if-r-ne0.false c.congr_claims-refusal.ensures
+pub returns-clause-does : goal.returns-clause-does
+returns-clause-does c = let a = c.args in let pre = c.requires in congr-claimed a.p (proposition_of a.q) (proposition_of a.a) a.i (proposition_of a.b) pre.indexed c.app_head-head.ensures c.in-Some.is c.child_matches-first.result (children-at (terms_in a.store.now.kinds.now a.store.now.ends.now a.store.now.pool.now a.fill) c.wide.ensures c.children-args.ensures) c.child_matches-first.ensures.s_value c.if-first-ne0.false c.replace_child-r.result c.wide-2.ensures c.replace_child-r.ensures.does c.congr_claims-refusal.result c.if-r-ne0.false c.congr_claims-refusal.ensures

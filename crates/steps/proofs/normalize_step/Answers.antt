@@ -5,4 +5,4 @@ use Rattle.steps.proofs.PlainLaws.{normal-tested}
 use Rattle.steps.proofs.normalize_step.Goals as goal
 
 pub returns : goal.returns
-returns c = let a = c.args in λ room. normal-tested room (program_for a.job.now) a.p (proposition_of a.q) (proposition_of a.a) (terms_in a.skinds.now a.sends.now a.spool.now a.fill) (c.normalize_container-n.ensures room) c.flag.ensures c.check_that.ensures
+returns c = let a = c.args in λ room. normal-tested room (program_for a.job.now) a.p (proposition_of a.q) (proposition_of a.a) (terms_in a.store.now.kinds.now a.store.now.ends.now a.store.now.pool.now a.fill) (c.normalize_container-n.ensures room) c.flag.ensures c.check_that.ensures

@@ -3,26 +3,17 @@ use lib.ListN.{length-take}
 use Rattle.termdag.proofs.Loading.{words_inside, front, loaded}
 use Rattle.termdag.proofs.load_terms.Goals as goal
 
-pub slice_bounds-copy-end : goal.slice_bounds-copy-end
-slice_bounds-copy-end c = simp length-take (omega arith)
-
 pub copy-requires : goal.copy-requires
 copy-requires c = simp length-take (omega arith)
-
-pub slice_bounds-copy-end-2 : goal.slice_bounds-copy-end-2
-slice_bounds-copy-end-2 c = simp length-take (omega arith)
 
 pub copy-requires-2 : goal.copy-requires-2
 copy-requires-2 c = simp length-take (omega arith)
 
-pub slice_bounds-copy-end-3 : goal.slice_bounds-copy-end-3
-slice_bounds-copy-end-3 c = simp length-take (omega (arith, words_inside c.requires))
-
 pub copy-requires-3 : goal.copy-requires-3
 copy-requires-3 c = simp length-take (omega arith)
 
-pub returns : goal.returns
-returns c = let s = c in
+pub returns-clause-does : goal.returns-clause-does
+returns-clause-does c = let s = c in
     loaded s.requires c.start-words.ensures
     (front c.copy.ensures (omega arith) (omega arith))
     (front c.copy-2.ensures (omega arith) (omega arith))

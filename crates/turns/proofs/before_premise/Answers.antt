@@ -16,31 +16,19 @@ use mathlib.Core.Bool.{true≢false}
 use Rattle.turns.proofs.before_premise.Goals as goal
 
 pub returns-then-offence-ne0 : goal.returns-then-offence-ne0
-returns-then-offence-ne0 c = let a = c.args in let pre = c.requires in record { does = checks-here pre.indexed pre.past (before_offends (room_of a.skinds.now a.spool.now) (program_for a.job.now) (proofs_for a.job.now) a.strict a.name (fact_for a.job.now a.i) 0 (bindings_in a.bound.now a.pairs.now a.globals.now) (terms_in a.skinds.now a.sends.now a.spool.now a.fill) c.assert_body_proof_normal_form-offence.result (bindings_in a.bound.now a.pairs.now a.globals.now) c.assert_body_proof_normal_form-offence.ensures c.if-offence-ne0.true); over = λ n. absurd (c.if-offence-ne0.true n); kept = λ n. absurd (c.if-offence-ne0.true n); waits = λ _. refl }
+returns-then-offence-ne0 c = let a = c.args in let pre = c.requires in record { does = checks-here pre.indexed pre.past (before_offends (room_of a.store.now.kinds.now a.store.now.pool.now) (program_for a.scope.now.job.now) (proofs_for a.scope.now.job.now) a.strict a.scope.now.rule (fact_for a.scope.now.job.now a.i) 0 (bindings_in a.scope.now.bound.now a.scope.now.pairs.now a.scope.now.globals.now) (terms_in a.store.now.kinds.now a.store.now.ends.now a.store.now.pool.now a.fill) c.assert_body_proof_normal_form-offence.result (bindings_in a.scope.now.bound.now a.scope.now.pairs.now a.scope.now.globals.now) c.assert_body_proof_normal_form-offence.ensures c.if-offence-ne0.true); over = λ n. absurd (c.if-offence-ne0.true n); kept = λ n. absurd (c.if-offence-ne0.true n); waits = λ _. refl }
 
 pub is_container_side_condition-requires : goal.is_container_side_condition-requires
 is_container_side_condition-requires c = let pre = c.requires in let h = pre.i_bound in record { ready = pre.ready; searched = pre.searched; i_bound = omega arith }
 
 pub returns-then-not-is_container_side_condition : goal.returns-then-not-is_container_side_condition
-returns-then-not-is_container_side_condition c = let a = c.args in let pre = c.requires in let b = sym (c.is_container_side_condition.ensures ∙ ap (λ (i : ℕ). is_container_side_condition (program_for a.job.now) (fact_for a.job.now i)) c.wide.ensures) ∙ c.if-not-is_container_side_condition.true in record { does = checks-here pre.indexed pre.past (before-waits (room_of a.skinds.now a.spool.now) (program_for a.job.now) (proofs_for a.job.now) a.strict a.name (fact_for a.job.now a.i) 0 (bindings_in a.bound.now a.pairs.now a.globals.now) (terms_in a.skinds.now a.sends.now a.spool.now a.fill) c.assert_body_proof_normal_form-offence.result c.assert_body_proof_normal_form-offence.ensures c.if-offence-ne0.false b); over = λ _. sym b; kept = λ _. (extends-same, pre.sane); waits = λ _. refl }
+returns-then-not-is_container_side_condition c = let a = c.args in let pre = c.requires in let b = sym (c.is_container_side_condition.ensures ∙ ap (λ (i : ℕ). is_container_side_condition (program_for a.scope.now.job.now) (fact_for a.scope.now.job.now i)) c.wide.ensures) ∙ c.if-not-is_container_side_condition.true in record { does = checks-here pre.indexed pre.past (before-waits (room_of a.store.now.kinds.now a.store.now.pool.now) (program_for a.scope.now.job.now) (proofs_for a.scope.now.job.now) a.strict a.scope.now.rule (fact_for a.scope.now.job.now a.i) 0 (bindings_in a.scope.now.bound.now a.scope.now.pairs.now a.scope.now.globals.now) (terms_in a.store.now.kinds.now a.store.now.ends.now a.store.now.pool.now a.fill) c.assert_body_proof_normal_form-offence.result c.assert_body_proof_normal_form-offence.ensures c.if-offence-ne0.false b); over = λ _. sym b; kept = λ _. (extends-same, pre.sane); waits = λ _. refl }
 
 pub check_side_condition-c-requires : goal.check_side_condition-c-requires
 check_side_condition-c-requires c = let pre = c.requires in record { ready = pre.ready; keyed = pre.keyed; indexed = pre.indexed; job_in_bounds = pre.job_in_bounds; past = pre.past; i_bound = pre.i_bound }
-
-pub shape_of-skinds : goal.shape_of-skinds
-shape_of-skinds c = c.check_side_condition-c.ensures.does.grown.len_k
-
-pub shape_of-sends : goal.shape_of-sends
-shape_of-sends c = c.check_side_condition-c.ensures.does.grown.len_e
-
-pub shape_of-spool : goal.shape_of-spool
-shape_of-spool c = c.check_side_condition-c.ensures.does.grown.len_p
-
-pub shape_of-index : goal.shape_of-index
-shape_of-index c = c.check_side_condition-c.ensures.does.grown.len_i
 
 pub shape_of-memo : goal.shape_of-memo
 shape_of-memo c = c.check_side_condition-c.auto.memo
 
 pub returns : goal.returns
-returns c = let a = c.args in let b = sym (c.is_container_side_condition.ensures ∙ ap (λ (i : ℕ). is_container_side_condition (program_for a.job.now) (fact_for a.job.now i)) c.wide.ensures) ∙ c.if-not-is_container_side_condition.false in record { does = checks-as (before-condition (room_of a.skinds.now a.spool.now) (program_for a.job.now) (proofs_for a.job.now) a.strict a.name (fact_for a.job.now a.i) 0 (bindings_in a.bound.now a.pairs.now a.globals.now) (terms_in a.skinds.now a.sends.now a.spool.now a.fill) c.assert_body_proof_normal_form-offence.result c.assert_body_proof_normal_form-offence.ensures c.if-offence-ne0.false b) c.check_side_condition-c.ensures; over = λ _. sym b; kept = λ n. post-result (condition-sane (room_of a.skinds.now a.spool.now) (program_for a.job.now) a.name (bindings_in a.bound.now a.pairs.now a.globals.now) a.strict (fact_for a.job.now a.i) c.requires.sane) (sym c.check_side_condition-c.ensures.does.outcome ∙ ok_of _ _ _ n); waits = λ u. absurd (true≢false u) }
+returns c = let a = c.args in let b = sym (c.is_container_side_condition.ensures ∙ ap (λ (i : ℕ). is_container_side_condition (program_for a.scope.now.job.now) (fact_for a.scope.now.job.now i)) c.wide.ensures) ∙ c.if-not-is_container_side_condition.false in record { does = checks-as (before-condition (room_of a.store.now.kinds.now a.store.now.pool.now) (program_for a.scope.now.job.now) (proofs_for a.scope.now.job.now) a.strict a.scope.now.rule (fact_for a.scope.now.job.now a.i) 0 (bindings_in a.scope.now.bound.now a.scope.now.pairs.now a.scope.now.globals.now) (terms_in a.store.now.kinds.now a.store.now.ends.now a.store.now.pool.now a.fill) c.assert_body_proof_normal_form-offence.result c.assert_body_proof_normal_form-offence.ensures c.if-offence-ne0.false b) c.check_side_condition-c.ensures.does; over = λ _. sym b; kept = λ n. post-result (condition-sane (room_of a.store.now.kinds.now a.store.now.pool.now) (program_for a.scope.now.job.now) a.scope.now.rule (bindings_in a.scope.now.bound.now a.scope.now.pairs.now a.scope.now.globals.now) a.strict (fact_for a.scope.now.job.now a.i) c.requires.sane) (sym c.check_side_condition-c.ensures.does.does.outcome ∙ ok_of _ _ _ n); waits = λ u. absurd (true≢false u) }

@@ -101,16 +101,16 @@ pub justify-advance-c-requires : goal.justify-advance-c-requires
 justify-advance-c-requires t c = let t = c.loop-i.invariant in let f = t.free c.loop-i-test.true in record { ground = task-ground c.args.job.now c.args.strict c.args.found.now c.args.globals.now c.args.unions.now c.args.p c.plan_step-s.result.rule c.plan_step-s.result.r c.plan_step-s.result.first c.plan_step-s.result.second c.plan_step-s.result.count (c.plan_step-s.ensures.goes c.if-s-ne0.false) c.loop-i.invariant c.loop-i-test.true c.if-state-eq1.false; p_bound = c.requires.p_bound; planned = (c.plan_step-s.ensures.goes c.if-s-ne0.false); sane = (λ u. sane-part-by c.args.job.now c.args.p c.args.globals.now c.plan_step-s.result.rule (part-is c.loop-i.bound c.loop-i.at c.loop-i.invariant.full) (t.sane u c.loop-i-test.true)); bound_len_bound = simp (length-take, length-drop) (omega arith); i_le_count = c.loop-i-test.true; count_le_i = λ u. t.ends u c.if-state-eq1.false }
 
 pub justify-shape_of-skinds-then-c-ne0 : goal.justify-shape_of-skinds-then-c-ne0
-justify-shape_of-skinds-then-c-ne0 t c = c.advance-c.ensures.walks.grown.len_k ∙ c.loop-i.invariant.grown.len_k
+justify-shape_of-skinds-then-c-ne0 t c = c.advance-c.ensures.does.walks.grown.len_k ∙ c.loop-i.invariant.grown.len_k
 
 pub justify-shape_of-sends-then-c-ne0 : goal.justify-shape_of-sends-then-c-ne0
-justify-shape_of-sends-then-c-ne0 t c = c.advance-c.ensures.walks.grown.len_e ∙ c.loop-i.invariant.grown.len_e
+justify-shape_of-sends-then-c-ne0 t c = c.advance-c.ensures.does.walks.grown.len_e ∙ c.loop-i.invariant.grown.len_e
 
 pub justify-shape_of-spool-then-c-ne0 : goal.justify-shape_of-spool-then-c-ne0
-justify-shape_of-spool-then-c-ne0 t c = c.advance-c.ensures.walks.grown.len_p ∙ c.loop-i.invariant.grown.len_p
+justify-shape_of-spool-then-c-ne0 t c = c.advance-c.ensures.does.walks.grown.len_p ∙ c.loop-i.invariant.grown.len_p
 
 pub justify-shape_of-index-then-c-ne0 : goal.justify-shape_of-index-then-c-ne0
-justify-shape_of-index-then-c-ne0 t c = c.advance-c.ensures.walks.grown.len_i ∙ c.loop-i.invariant.grown.len_i
+justify-shape_of-index-then-c-ne0 t c = c.advance-c.ensures.does.walks.grown.len_i ∙ c.loop-i.invariant.grown.len_i
 
 pub justify-shape_of-memo-then-c-ne0 : goal.justify-shape_of-memo-then-c-ne0
 justify-shape_of-memo-then-c-ne0 t c = c.advance-c.auto.memo ∙ c.loop-i.invariant.len_memo
@@ -119,7 +119,7 @@ pub justify-shape_of-scratch-then-c-ne0 : goal.justify-shape_of-scratch-then-c-n
 justify-shape_of-scratch-then-c-ne0 t c = c.advance-c.auto.scratch ∙ c.loop-i.invariant.len_w
 
 pub justify-returns-then-c-ne0 : goal.justify-returns-then-c-ne0
-justify-returns-then-c-ne0 t c = record { does = task-refused c.args.job.now c.args.strict c.args.found.now c.args.globals.now c.args.unions.now c.args.p c.plan_step-s.result.rule c.plan_step-s.result.r c.plan_step-s.result.first c.plan_step-s.result.second c.plan_step-s.result.count (c.plan_step-s.ensures.goes c.if-s-ne0.false) c.loop-i.invariant c.loop-i-test.true c.if-state-eq1.false c.advance-c.result (part-is c.loop-i.bound c.loop-i.at c.loop-i.invariant.full) c.advance-c.ensures c.if-c-ne0.true; high = λ u. absurd (c.if-c-ne0.true u) }
+justify-returns-then-c-ne0 t c = record { does = task-refused c.args.job.now c.args.strict c.args.found.now c.args.globals.now c.args.unions.now c.args.p c.plan_step-s.result.rule c.plan_step-s.result.r c.plan_step-s.result.first c.plan_step-s.result.second c.plan_step-s.result.count (c.plan_step-s.ensures.goes c.if-s-ne0.false) c.loop-i.invariant c.loop-i-test.true c.if-state-eq1.false c.advance-c.result (part-is c.loop-i.bound c.loop-i.at c.loop-i.invariant.full) c.advance-c.ensures.does c.if-c-ne0.true; high = λ u. absurd (c.if-c-ne0.true u) }
 
 pub justify-slice_bounds-push_binding-end : goal.justify-slice_bounds-push_binding-end
 justify-slice_bounds-push_binding-end t c = sym c.loop-i.invariant.full
@@ -137,19 +137,19 @@ pub justify-loop-i-smaller-then-s-4 : goal.justify-loop-i-smaller-then-s-4
 justify-loop-i-smaller-then-s-4 t c = let x = c.loop-i-test.true in let f = c.loop-i.invariant.few in let s = c.fact_state-state-then-s-4.ensures.few in let m = c.turn_after-i.ensures.least in omega arith
 
 pub justify-loop-i-preserved-then-s-4 : goal.justify-loop-i-preserved-then-s-4
-justify-loop-i-preserved-then-s-4 t c = task-fact c.args.job.now c.args.strict c.args.found.now c.args.globals.now c.args.unions.now c.args.p c.plan_step-s.result.rule c.plan_step-s.result.r c.plan_step-s.result.first c.plan_step-s.result.second c.plan_step-s.result.count (c.plan_step-s.ensures.goes c.if-s-ne0.false) (task-follows c.args.job.now c.args.strict c.args.found.now c.args.globals.now c.args.unions.now c.args.p c.plan_step-s.result.rule c.plan_step-s.result.r c.plan_step-s.result.first c.plan_step-s.result.second c.plan_step-s.result.count (c.plan_step-s.ensures.goes c.if-s-ne0.false) c.loop-i.invariant c.loop-i-test.true c.if-state-eq1.false c.advance-c.result (part-is c.loop-i.bound c.loop-i.at c.loop-i.invariant.full) c.advance-c.ensures c.push_binding-at.ensures c.effect_of.ensures c.if-c-ne0.false c.if-c.true c.turn_after-i.ensures c.push_binding-at.auto.table c.advance-c.auto.memo c.advance-c.auto.scratch (grown-then c.loop-i.invariant.grown c.advance-c.ensures.walks.grown)) c.if-s-4.true c.fact_state-state-then-s-4.ensures
+justify-loop-i-preserved-then-s-4 t c = task-fact c.args.job.now c.args.strict c.args.found.now c.args.globals.now c.args.unions.now c.args.p c.plan_step-s.result.rule c.plan_step-s.result.r c.plan_step-s.result.first c.plan_step-s.result.second c.plan_step-s.result.count (c.plan_step-s.ensures.goes c.if-s-ne0.false) (task-follows c.args.job.now c.args.strict c.args.found.now c.args.globals.now c.args.unions.now c.args.p c.plan_step-s.result.rule c.plan_step-s.result.r c.plan_step-s.result.first c.plan_step-s.result.second c.plan_step-s.result.count (c.plan_step-s.ensures.goes c.if-s-ne0.false) c.loop-i.invariant c.loop-i-test.true c.if-state-eq1.false c.advance-c.result (part-is c.loop-i.bound c.loop-i.at c.loop-i.invariant.full) c.advance-c.ensures.does c.push_binding-at.ensures c.effect_of.ensures c.if-c-ne0.false c.if-c.true c.turn_after-i.ensures c.push_binding-at.auto.table c.advance-c.auto.memo c.advance-c.auto.scratch (grown-then c.loop-i.invariant.grown c.advance-c.ensures.does.walks.grown)) c.if-s-4.true c.fact_state-state-then-s-4.ensures
 
 pub justify-loop-i-smaller-else-s-4 : goal.justify-loop-i-smaller-else-s-4
 justify-loop-i-smaller-else-s-4 t c = let x = c.loop-i-test.true in let f = c.loop-i.invariant.few in let m = c.turn_after-i.ensures.least in omega arith
 
 pub justify-loop-i-preserved-else-s-4 : goal.justify-loop-i-preserved-else-s-4
-justify-loop-i-preserved-else-s-4 t c = task-follows c.args.job.now c.args.strict c.args.found.now c.args.globals.now c.args.unions.now c.args.p c.plan_step-s.result.rule c.plan_step-s.result.r c.plan_step-s.result.first c.plan_step-s.result.second c.plan_step-s.result.count (c.plan_step-s.ensures.goes c.if-s-ne0.false) c.loop-i.invariant c.loop-i-test.true c.if-state-eq1.false c.advance-c.result (part-is c.loop-i.bound c.loop-i.at c.loop-i.invariant.full) c.advance-c.ensures c.push_binding-at.ensures c.effect_of.ensures c.if-c-ne0.false c.if-c.true c.turn_after-i.ensures c.push_binding-at.auto.table c.advance-c.auto.memo c.advance-c.auto.scratch (grown-then c.loop-i.invariant.grown c.advance-c.ensures.walks.grown)
+justify-loop-i-preserved-else-s-4 t c = task-follows c.args.job.now c.args.strict c.args.found.now c.args.globals.now c.args.unions.now c.args.p c.plan_step-s.result.rule c.plan_step-s.result.r c.plan_step-s.result.first c.plan_step-s.result.second c.plan_step-s.result.count (c.plan_step-s.ensures.goes c.if-s-ne0.false) c.loop-i.invariant c.loop-i-test.true c.if-state-eq1.false c.advance-c.result (part-is c.loop-i.bound c.loop-i.at c.loop-i.invariant.full) c.advance-c.ensures.does c.push_binding-at.ensures c.effect_of.ensures c.if-c-ne0.false c.if-c.true c.turn_after-i.ensures c.push_binding-at.auto.table c.advance-c.auto.memo c.advance-c.auto.scratch (grown-then c.loop-i.invariant.grown c.advance-c.ensures.does.walks.grown)
 
 pub justify-loop-i-smaller : goal.justify-loop-i-smaller
-justify-loop-i-smaller t c = let x = c.loop-i-test.true in let b = task-fresh c.args.job.now c.args.strict c.args.found.now c.args.globals.now c.args.unions.now c.args.p c.plan_step-s.result.rule c.plan_step-s.result.r c.plan_step-s.result.first c.plan_step-s.result.second c.plan_step-s.result.count (c.plan_step-s.ensures.goes c.if-s-ne0.false) c.loop-i.invariant c.loop-i-test.true c.if-state-eq1.false c.advance-c.result (part-is c.loop-i.bound c.loop-i.at c.loop-i.invariant.full) c.advance-c.ensures c.if-c-ne0.false c.if-c.false in omega arith
+justify-loop-i-smaller t c = let x = c.loop-i-test.true in let b = task-fresh c.args.job.now c.args.strict c.args.found.now c.args.globals.now c.args.unions.now c.args.p c.plan_step-s.result.rule c.plan_step-s.result.r c.plan_step-s.result.first c.plan_step-s.result.second c.plan_step-s.result.count (c.plan_step-s.ensures.goes c.if-s-ne0.false) c.loop-i.invariant c.loop-i-test.true c.if-state-eq1.false c.advance-c.result (part-is c.loop-i.bound c.loop-i.at c.loop-i.invariant.full) c.advance-c.ensures.does c.if-c-ne0.false c.if-c.false in omega arith
 
 pub justify-loop-i-preserved : goal.justify-loop-i-preserved
-justify-loop-i-preserved t c = task-waits c.args.job.now c.args.strict c.args.found.now c.args.globals.now c.args.unions.now c.args.p c.plan_step-s.result.rule c.plan_step-s.result.r c.plan_step-s.result.first c.plan_step-s.result.second c.plan_step-s.result.count (c.plan_step-s.ensures.goes c.if-s-ne0.false) c.loop-i.invariant c.loop-i-test.true c.if-state-eq1.false c.advance-c.result (part-is c.loop-i.bound c.loop-i.at c.loop-i.invariant.full) c.advance-c.ensures c.if-c-ne0.false c.if-c.false c.advance-c.auto.memo c.advance-c.auto.scratch (grown-then c.loop-i.invariant.grown c.advance-c.ensures.walks.grown)
+justify-loop-i-preserved t c = task-waits c.args.job.now c.args.strict c.args.found.now c.args.globals.now c.args.unions.now c.args.p c.plan_step-s.result.rule c.plan_step-s.result.r c.plan_step-s.result.first c.plan_step-s.result.second c.plan_step-s.result.count (c.plan_step-s.ensures.goes c.if-s-ne0.false) c.loop-i.invariant c.loop-i-test.true c.if-state-eq1.false c.advance-c.result (part-is c.loop-i.bound c.loop-i.at c.loop-i.invariant.full) c.advance-c.ensures.does c.if-c-ne0.false c.if-c.false c.advance-c.auto.memo c.advance-c.auto.scratch (grown-then c.loop-i.invariant.grown c.advance-c.ensures.does.walks.grown)
 
 pub justify-overflow_add-most : goal.justify-overflow_add-most
 justify-overflow_add-most t c = let w = task-word c.args.job.now c.args.strict c.args.found.now c.args.globals.now c.args.unions.now c.args.p c.plan_step-s.result.rule c.plan_step-s.result.r c.plan_step-s.result.first c.plan_step-s.result.second c.plan_step-s.result.count (c.plan_step-s.ensures.goes c.if-s-ne0.false) c.requires.ground.ready c.requires.p_bound c.loop-i.invariant (let u = c.loop-i.invariant.upto in let x = c.loop-i-test.false in omega arith) in omega arith

@@ -15,5 +15,5 @@ pool-requires c = record { held = c.requires.held; count_value = ap (λ (f : Fil
 pub load_terms-requires : goal.load_terms-requires
 load_terms-requires c = loadable_part c.args.job.now c.kinds.ensures c.ends.ensures c.pool.ensures c.fill-f.ensures c.size-terms.ensures c.requires.loadable
 
-pub returns : goal.returns
-returns c = loaded-part c.args.job.now c.kinds.ensures c.ends.ensures c.pool.ensures c.fill-f.ensures c.size-terms.ensures c.load_terms.ensures
+pub returns-clause-does : goal.returns-clause-does
+returns-clause-does c = loaded-part c.args.job.now c.kinds.ensures c.ends.ensures c.pool.ensures c.fill-f.ensures c.size-terms.ensures c.load_terms.ensures.does
