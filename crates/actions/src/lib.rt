@@ -50,7 +50,15 @@ fn mark_if(marking: bool, memo: &[u32], n: usize, marks: &mut [u32])
 }
 
 // The value of expression e, with marks for its pairs.
-pub fn yield_value(scope: &Scope<'_>, store: &mut Store<'_>, fill: Fill, memo: &mut [u32], marking: bool, marks: &mut [u32], e: u32) -> Checked
+pub fn yield_value(
+    scope: &Scope<'_>,
+    store: &mut Store<'_>,
+    fill: Fill,
+    memo: &mut [u32],
+    marking: bool,
+    marks: &mut [u32],
+    e: u32,
+) -> Checked
     requires standing { Standing scope.now.job.now scope.now.found.now (bindings_in scope.now.bound.now scope.now.pairs.now scope.now.globals.now) store.old.kinds.now store.old.ends.now store.old.pool.now store.old.index.now fill memo.old marks.old }
     requires going_2 { Going scope.now.job.now scope.now.rule (bindings_in scope.now.bound.now scope.now.pairs.now scope.now.globals.now) marking store.old.kinds.now store.old.ends.now store.old.pool.now fill memo.old marks.old }
     requires e_bound { e < (sizes_of scope.now.job.now).expressions }
@@ -68,7 +76,16 @@ pub fn yield_value(scope: &Scope<'_>, store: &mut Store<'_>, fill: Fill, memo: &
 }
 
 // A let.
-fn act_let(scope: &Scope<'_>, store: &mut Store<'_>, fill: Fill, memo: &mut [u32], marking: bool, marks: &mut [u32], name: u32, e: u32) -> Acted
+fn act_let(
+    scope: &Scope<'_>,
+    store: &mut Store<'_>,
+    fill: Fill,
+    memo: &mut [u32],
+    marking: bool,
+    marks: &mut [u32],
+    name: u32,
+    e: u32,
+) -> Acted
     requires standing { Standing scope.now.job.now scope.now.found.now (bindings_in scope.now.bound.now scope.now.pairs.now scope.now.globals.now) store.old.kinds.now store.old.ends.now store.old.pool.now store.old.index.now fill memo.old marks.old }
     requires going_2 { Going scope.now.job.now scope.now.rule (bindings_in scope.now.bound.now scope.now.pairs.now scope.now.globals.now) marking store.old.kinds.now store.old.ends.now store.old.pool.now fill memo.old marks.old }
     requires e_bound { e < (sizes_of scope.now.job.now).expressions }
@@ -87,7 +104,15 @@ fn act_let(scope: &Scope<'_>, store: &mut Store<'_>, fill: Fill, memo: &mut [u32
 }
 
 // A set or an expression.
-fn act_run(scope: &Scope<'_>, store: &mut Store<'_>, fill: Fill, memo: &mut [u32], marking: bool, marks: &mut [u32], e: u32) -> Acted
+fn act_run(
+    scope: &Scope<'_>,
+    store: &mut Store<'_>,
+    fill: Fill,
+    memo: &mut [u32],
+    marking: bool,
+    marks: &mut [u32],
+    e: u32,
+) -> Acted
     requires standing { Standing scope.now.job.now scope.now.found.now (bindings_in scope.now.bound.now scope.now.pairs.now scope.now.globals.now) store.old.kinds.now store.old.ends.now store.old.pool.now store.old.index.now fill memo.old marks.old }
     requires going_2 { Going scope.now.job.now scope.now.rule (bindings_in scope.now.bound.now scope.now.pairs.now scope.now.globals.now) marking store.old.kinds.now store.old.ends.now store.old.pool.now fill memo.old marks.old }
     requires e_bound { e < (sizes_of scope.now.job.now).expressions }
@@ -106,7 +131,16 @@ fn act_run(scope: &Scope<'_>, store: &mut Store<'_>, fill: Fill, memo: &mut [u32
 }
 
 // A union.
-fn act_union(scope: &Scope<'_>, store: &mut Store<'_>, fill: Fill, memo: &mut [u32], marking: bool, marks: &mut [u32], left: u32, right: u32) -> Acted
+fn act_union(
+    scope: &Scope<'_>,
+    store: &mut Store<'_>,
+    fill: Fill,
+    memo: &mut [u32],
+    marking: bool,
+    marks: &mut [u32],
+    left: u32,
+    right: u32,
+) -> Acted
     requires standing { Standing scope.now.job.now scope.now.found.now (bindings_in scope.now.bound.now scope.now.pairs.now scope.now.globals.now) store.old.kinds.now store.old.ends.now store.old.pool.now store.old.index.now fill memo.old marks.old }
     requires going_2 { Going scope.now.job.now scope.now.rule (bindings_in scope.now.bound.now scope.now.pairs.now scope.now.globals.now) marking store.old.kinds.now store.old.ends.now store.old.pool.now fill memo.old marks.old }
     requires left_bound { left < (sizes_of scope.now.job.now).expressions }
@@ -136,7 +170,15 @@ fn act_union(scope: &Scope<'_>, store: &mut Store<'_>, fill: Fill, memo: &mut [u
 }
 
 // One action, in a round of the memo that may have begun before.
-fn act(scope: &Scope<'_>, store: &mut Store<'_>, fill: Fill, memo: &mut [u32], marking: bool, marks: &mut [u32], i: u32) -> Acted
+fn act(
+    scope: &Scope<'_>,
+    store: &mut Store<'_>,
+    fill: Fill,
+    memo: &mut [u32],
+    marking: bool,
+    marks: &mut [u32],
+    i: u32,
+) -> Acted
     requires standing { Standing scope.now.job.now scope.now.found.now (bindings_in scope.now.bound.now scope.now.pairs.now scope.now.globals.now) store.old.kinds.now store.old.ends.now store.old.pool.now store.old.index.now fill memo.old marks.old }
     requires going_2 { Going scope.now.job.now scope.now.rule (bindings_in scope.now.bound.now scope.now.pairs.now scope.now.globals.now) marking store.old.kinds.now store.old.ends.now store.old.pool.now fill memo.old marks.old }
     requires i_bound { i < (sizes_of scope.now.job.now).actions }
@@ -175,7 +217,16 @@ fn new_round_unless(kept: bool, memo: &mut [u32])
 }
 
 // One action. What the memo has noted is used where it is kept: where no binding has changed since.
-pub fn process_action(scope: &Scope<'_>, store: &mut Store<'_>, fill: Fill, memo: &mut [u32], kept: bool, marking: bool, marks: &mut [u32], i: u32) -> Acted
+pub fn process_action(
+    scope: &Scope<'_>,
+    store: &mut Store<'_>,
+    fill: Fill,
+    memo: &mut [u32],
+    kept: bool,
+    marking: bool,
+    marks: &mut [u32],
+    i: u32,
+) -> Acted
     requires standing { Standing scope.now.job.now scope.now.found.now (bindings_in scope.now.bound.now scope.now.pairs.now scope.now.globals.now) store.old.kinds.now store.old.ends.now store.old.pool.now store.old.index.now fill memo.old marks.old }
     requires going_2 { kept ≡ true → Going scope.now.job.now scope.now.rule (bindings_in scope.now.bound.now scope.now.pairs.now scope.now.globals.now) marking store.old.kinds.now store.old.ends.now store.old.pool.now fill memo.old marks.old }
     requires i_bound { i < (sizes_of scope.now.job.now).actions }

@@ -61,7 +61,14 @@ fn custom_of(job: &[u32], e: u32) -> Option<u32>
 }
 
 // The values of the arguments of expression e in an ordinary fact, written into `values`. They share one round: what two of them have in common is evaluated once.
-fn evaluate_arguments(scope: &Scope<'_>, store: &mut Store<'_>, fill: Fill, memo: &mut [u32], e: u32, values: &mut [u32]) -> Checked
+fn evaluate_arguments(
+    scope: &Scope<'_>,
+    store: &mut Store<'_>,
+    fill: Fill,
+    memo: &mut [u32],
+    e: u32,
+    values: &mut [u32],
+) -> Checked
     requires ready { Ready scope.now.job.now }
     requires keyed { Keyed scope.now.job.now scope.now.found.now }
     requires indexed { Indexed store.old.kinds.now store.old.ends.now store.old.pool.now store.old.index.now fill }
@@ -100,7 +107,15 @@ fn asks(c: Checked, lhs: u32, rhs: u32) -> Asked
 }
 
 // What a function fact asks for: the call, the variable's value appended, equal to itself.
-fn wanted_call(scope: &Scope<'_>, store: &mut Store<'_>, fill: Fill, memo: &mut [u32], e: u32, function: u32, variable: u32) -> Asked
+fn wanted_call(
+    scope: &Scope<'_>,
+    store: &mut Store<'_>,
+    fill: Fill,
+    memo: &mut [u32],
+    e: u32,
+    function: u32,
+    variable: u32,
+) -> Asked
     requires ready { Ready scope.now.job.now }
     requires keyed { Keyed scope.now.job.now scope.now.found.now }
     requires indexed { Indexed store.old.kinds.now store.old.ends.now store.old.pool.now store.old.index.now fill }
@@ -122,17 +137,19 @@ fn wanted_call(scope: &Scope<'_>, store: &mut Store<'_>, fill: Fill, memo: &mut 
     let count = arguments_at(scope.job, wide(e)).len();
     values[count] = v.value;
     let end = count + 1;
-    let t = add_app(
-        store,
-        r.fill,
-        function,
-        &values[..end],
-    );
+    let t = add_app(store, r.fill, function, &values[..end]);
     asks(t, t.value, t.value)
 }
 
 // What an equality asks for that is no function fact: the values of its sides, which share one round.
-fn wanted_values(scope: &Scope<'_>, store: &mut Store<'_>, fill: Fill, memo: &mut [u32], left: u32, right: u32) -> Asked
+fn wanted_values(
+    scope: &Scope<'_>,
+    store: &mut Store<'_>,
+    fill: Fill,
+    memo: &mut [u32],
+    left: u32,
+    right: u32,
+) -> Asked
     requires ready { Ready scope.now.job.now }
     requires keyed { Keyed scope.now.job.now scope.now.found.now }
     requires indexed { Indexed store.old.kinds.now store.old.ends.now store.old.pool.now store.old.index.now fill }
@@ -153,7 +170,14 @@ fn wanted_values(scope: &Scope<'_>, store: &mut Store<'_>, fill: Fill, memo: &mu
 }
 
 // What a bare fact asks for: its value, equal to itself.
-fn wanted_bare(scope: &Scope<'_>, store: &mut Store<'_>, fill: Fill, memo: &mut [u32], i: u32, e: u32) -> Asked
+fn wanted_bare(
+    scope: &Scope<'_>,
+    store: &mut Store<'_>,
+    fill: Fill,
+    memo: &mut [u32],
+    i: u32,
+    e: u32,
+) -> Asked
     requires ready { Ready scope.now.job.now }
     requires keyed { Keyed scope.now.job.now scope.now.found.now }
     requires indexed { Indexed store.old.kinds.now store.old.ends.now store.old.pool.now store.old.index.now fill }
@@ -189,7 +213,15 @@ fn function_fact(job: &[u32], left: u32, right: u32) -> Option<FunctionFact>
 }
 
 // What an equality asks its premise to prove.
-fn wanted_equality(scope: &Scope<'_>, store: &mut Store<'_>, fill: Fill, memo: &mut [u32], i: u32, left: u32, right: u32) -> Asked
+fn wanted_equality(
+    scope: &Scope<'_>,
+    store: &mut Store<'_>,
+    fill: Fill,
+    memo: &mut [u32],
+    i: u32,
+    left: u32,
+    right: u32,
+) -> Asked
     requires ready { Ready scope.now.job.now }
     requires keyed { Keyed scope.now.job.now scope.now.found.now }
     requires indexed { Indexed store.old.kinds.now store.old.ends.now store.old.pool.now store.old.index.now fill }
@@ -301,7 +333,14 @@ fn matches(job: &[u32], rule: u32, i: u32, w: Proposition, q: Proposition) -> Re
 }
 
 // `check_fact_matches_proposition`
-pub fn check_fact_matches_proposition(scope: &Scope<'_>, store: &mut Store<'_>, fill: Fill, memo: &mut [u32], i: u32, q: Proposition) -> Checked
+pub fn check_fact_matches_proposition(
+    scope: &Scope<'_>,
+    store: &mut Store<'_>,
+    fill: Fill,
+    memo: &mut [u32],
+    i: u32,
+    q: Proposition,
+) -> Checked
     requires ready { Ready scope.now.job.now }
     requires keyed { Keyed scope.now.job.now scope.now.found.now }
     requires indexed { Indexed store.old.kinds.now store.old.ends.now store.old.pool.now store.old.index.now fill }

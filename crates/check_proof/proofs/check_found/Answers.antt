@@ -18,8 +18,11 @@ slice_bounds-new_context-end-3 c = let a = c.args in let pre = c.requires in let
 pub new_context-g-requires : goal.new_context-g-requires
 new_context-g-requires c = let a = c.args in let pre = c.requires in let G = pre.given in let h = G.long in let x = G.ready.held.limits.expressions in record { standing = record { ready = G.ready; keyed = pre.keyed; indexed = G.indexed; sane = G.sane; fits = omega (arith, length-replicate {A = ℕ} 8193 0); past = past-cleared 8193; cells = simp length-take (omega arith) }; table_len = refl; unions_len = refl }
 
-pub returns-then-g-ne0 : goal.returns-then-g-ne0
-returns-then-g-ne0 c = let a = c.args in let pre = c.requires in record { does = check-stops pre.given a.strict a.asked pre.asked_bound c.new_context-g.ensures.does c.if-g-ne0.true; high = λ u. absurd (c.if-g-ne0.true u) }
+pub returns-then-g-ne0-clause-does : goal.returns-then-g-ne0-clause-does
+returns-then-g-ne0-clause-does c = let a = c.args in let pre = c.requires in check-stops pre.given a.strict a.asked pre.asked_bound c.new_context-g.ensures.does c.if-g-ne0.true
+
+pub returns-then-g-ne0-clause-high : goal.returns-then-g-ne0-clause-high
+returns-then-g-ne0-clause-high c = let a = c.args in let pre = c.requires in λ u. absurd (c.if-g-ne0.true u)
 
 pub slice_bounds-clear-end : goal.slice_bounds-clear-end
 slice_bounds-clear-end c = let a = c.args in let pre = c.requires in let h = pre.given.long in let l = c.new_context-g.auto.marks in let q = length-take (length a.store.now.kinds.now) a.scratch.now in let lt : length (take (length a.store.now.kinds.now) a.scratch.now) ≡ length a.store.now.kinds.now = length-take-le (length a.store.now.kinds.now) a.scratch.now (omega arith) in simp (length-append, length-drop) (omega (arith, c.size.ensures))
@@ -36,5 +39,8 @@ walk-requires c = let a = c.args in let pre = c.requires in let h = pre.given.lo
 pub shape_of-scratch : goal.shape_of-scratch
 shape_of-scratch c = let a = c.args in let pre = c.requires in let h = pre.given.long in let k : ℕ = length a.store.now.kinds.now + length a.store.now.kinds.now + c.size.result - (length a.store.now.kinds.now + length a.store.now.kinds.now) in let l = c.new_context-g.auto.marks in let q = length-take (length a.store.now.kinds.now) a.scratch.now in let lt : length (take (length a.store.now.kinds.now) a.scratch.now) ≡ length a.store.now.kinds.now = length-take-le (length a.store.now.kinds.now) a.scratch.now (omega arith) in let b : length (c.new_context-g.new.marks ++ drop (length a.store.now.kinds.now) a.scratch.now) ≡ length a.scratch.now = simp (length-append, length-drop) (omega arith) in c.walk.auto.scratch ∙ start-long a.scratch.now c.new_context-g.new.marks c.clear.new.marks (length a.store.now.kinds.now) (length a.store.now.kinds.now) k (l ∙ lt) (omega (arith, c.size.ensures)) refl (omega arith) c.clear.auto.marks
 
-pub returns : goal.returns
-returns c = let a = c.args in let pre = c.requires in let h = pre.given.long in let k : ℕ = length a.store.now.kinds.now + length a.store.now.kinds.now + c.size.result - (length a.store.now.kinds.now + length a.store.now.kinds.now) in let l = c.new_context-g.auto.marks in let q = length-take (length a.store.now.kinds.now) a.scratch.now in let lt : length (take (length a.store.now.kinds.now) a.scratch.now) ≡ length a.store.now.kinds.now = length-take-le (length a.store.now.kinds.now) a.scratch.now (omega arith) in let C = c.new_context-g.ensures.does in let b : length (c.new_context-g.new.marks ++ drop (length a.store.now.kinds.now) a.scratch.now) ≡ length a.scratch.now = simp (length-append, length-drop) (omega arith) in record { does = check-walks pre.given a.strict a.asked pre.asked_bound C c.if-g-ne0.false (part-is c.new_context-g.new.table c.new_context-g.result.bindings c.new_context-g.auto.table) (start-marks a.scratch.now c.new_context-g.new.marks c.clear.new.marks (length a.store.now.kinds.now) _ k (l ∙ lt) (omega (arith, c.size.ensures)) C.does.grown.len_k) (start-flags a.scratch.now c.new_context-g.new.marks c.clear.new.marks (length a.store.now.kinds.now) _ k (l ∙ lt) (omega (arith, c.size.ensures)) C.does.grown.len_k {n = (sizes_of a.job.now).proofs} (omega (arith, c.size.ensures)) c.clear.ensures) c.walk.ensures.does; high = c.walk.ensures.high }
+pub returns-clause-does : goal.returns-clause-does
+returns-clause-does c = let a = c.args in let pre = c.requires in let h = pre.given.long in let k : ℕ = length a.store.now.kinds.now + length a.store.now.kinds.now + c.size.result - (length a.store.now.kinds.now + length a.store.now.kinds.now) in let l = c.new_context-g.auto.marks in let q = length-take (length a.store.now.kinds.now) a.scratch.now in let lt : length (take (length a.store.now.kinds.now) a.scratch.now) ≡ length a.store.now.kinds.now = length-take-le (length a.store.now.kinds.now) a.scratch.now (omega arith) in let C = c.new_context-g.ensures.does in let b : length (c.new_context-g.new.marks ++ drop (length a.store.now.kinds.now) a.scratch.now) ≡ length a.scratch.now = simp (length-append, length-drop) (omega arith) in check-walks pre.given a.strict a.asked pre.asked_bound C c.if-g-ne0.false (part-is c.new_context-g.new.table c.new_context-g.result.bindings c.new_context-g.auto.table) (start-marks a.scratch.now c.new_context-g.new.marks c.clear.new.marks (length a.store.now.kinds.now) _ k (l ∙ lt) (omega (arith, c.size.ensures)) C.does.grown.len_k) (start-flags a.scratch.now c.new_context-g.new.marks c.clear.new.marks (length a.store.now.kinds.now) _ k (l ∙ lt) (omega (arith, c.size.ensures)) C.does.grown.len_k {n = (sizes_of a.job.now).proofs} (omega (arith, c.size.ensures)) c.clear.ensures) c.walk.ensures.does
+
+pub returns-clause-high : goal.returns-clause-high
+returns-clause-high c = let a = c.args in let pre = c.requires in let h = pre.given.long in let k : ℕ = length a.store.now.kinds.now + length a.store.now.kinds.now + c.size.result - (length a.store.now.kinds.now + length a.store.now.kinds.now) in let l = c.new_context-g.auto.marks in let q = length-take (length a.store.now.kinds.now) a.scratch.now in let lt : length (take (length a.store.now.kinds.now) a.scratch.now) ≡ length a.store.now.kinds.now = length-take-le (length a.store.now.kinds.now) a.scratch.now (omega arith) in let C = c.new_context-g.ensures.does in let b : length (c.new_context-g.new.marks ++ drop (length a.store.now.kinds.now) a.scratch.now) ≡ length a.scratch.now = simp (length-append, length-drop) (omega arith) in c.walk.ensures.high
