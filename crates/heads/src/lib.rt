@@ -71,7 +71,16 @@ fn is_steady(scope: &Scope<'_>, effect: Effect) -> bool
 }
 
 // `process_actions` for a head. The actions share a round of the memo, up to a let that binds a name anew.
-fn head_actions(scope: &Scope<'_>, store: &mut Store<'_>, fill: Fill, memo: &mut [u32], marking: bool, marks: &mut [u32], actions: &[u32], q: Proposition) -> Headed
+fn head_actions(
+    scope: &Scope<'_>,
+    store: &mut Store<'_>,
+    fill: Fill,
+    memo: &mut [u32],
+    marking: bool,
+    marks: &mut [u32],
+    actions: &[u32],
+    q: Proposition,
+) -> Headed
     requires standing { Standing scope.now.job.now scope.now.found.now (bindings_in scope.now.bound.now scope.now.pairs.now scope.now.globals.now) store.old.kinds.now store.old.ends.now store.old.pool.now store.old.index.now fill memo.old marks.old }
     requires bound_len_bound { length scope.now.bound.now ≤ 32 }
     requires actions_len_bound { length actions.now ≤ 64 }
@@ -86,7 +95,11 @@ fn head_actions(scope: &Scope<'_>, store: &mut Store<'_>, fill: Fill, memo: &mut
     let mut seen = false;
     let mut kept = false;
     for action in actions {
-        let r = process_action(&Scope { job: scope.job, found: scope.found, bound: &table[at..], scope.pairs, scope.globals, scope.rule }, store, have, memo, kept, marking, marks, *action);
+        let inner = Scope {
+            bound: &table[at..],
+            ..*scope
+        };
+        let r = process_action(&inner, store, have, memo, kept, marking, marks, *action);
         have = r.fill;
         if r.refusal.number != 0 {
             let refusal = r.refusal;
@@ -98,7 +111,7 @@ fn head_actions(scope: &Scope<'_>, store: &mut Store<'_>, fill: Fill, memo: &mut
         }
         let effect = r.effect;
         seen = seen | has_pair(effect, q);
-        kept = is_steady(&Scope { job: scope.job, found: scope.found, bound: &table[at..], scope.pairs, scope.globals, scope.rule }, effect);
+        kept = is_steady(&inner, effect);
         at = push_binding(&mut table, at, effect);
     }
     Headed {
@@ -135,7 +148,14 @@ fn is_covered(store: &Store<'_>, fill: Fill, marks: &mut [u32], t: u32) -> bool
 }
 
 // The claimed pair is among the pairs: by the marks where it is reflexive, else by the unions.
-pub fn is_claimed(store: &Store<'_>, fill: Fill, marking: bool, marks: &mut [u32], found: bool, t: u32) -> bool
+pub fn is_claimed(
+    store: &Store<'_>,
+    fill: Fill,
+    marking: bool,
+    marks: &mut [u32],
+    found: bool,
+    t: u32,
+) -> bool
     requires { Stored store.now.kinds.now store.now.ends.now store.now.pool.now fill }
     ensures { result ≡ claimed_by marking found (closing.is_marked (closing.close (terms_in store.now.kinds.now store.now.ends.now store.now.pool.now fill) fill.cells marks.old) t) }
 {
@@ -186,7 +206,15 @@ fn lone_run(job: &[u32], marking: bool, actions: &[u32]) -> Option<u32>
 }
 
 // A head of one such action, for a reflexive claim: its value is compared first, and marked with those below it only where it is another.
-fn run_produces(scope: &Scope<'_>, store: &mut Store<'_>, fill: Fill, memo: &mut [u32], marks: &mut [u32], e: u32, q: Proposition) -> Checked
+fn run_produces(
+    scope: &Scope<'_>,
+    store: &mut Store<'_>,
+    fill: Fill,
+    memo: &mut [u32],
+    marks: &mut [u32],
+    e: u32,
+    q: Proposition,
+) -> Checked
     requires standing { Standing scope.now.job.now scope.now.found.now (bindings_in scope.now.bound.now scope.now.pairs.now scope.now.globals.now) store.old.kinds.now store.old.ends.now store.old.pool.now store.old.index.now fill memo.old marks.old }
     requires e_bound { e < (sizes_of scope.now.job.now).expressions }
     requires lhs_value { q.lhs ≡ q.rhs }
@@ -208,7 +236,15 @@ fn run_produces(scope: &Scope<'_>, store: &mut Store<'_>, fill: Fill, memo: &mut
 }
 
 // `check_rule_produces_equality` for rule r.
-pub fn check_rule_produces_equality(scope: &Scope<'_>, store: &mut Store<'_>, fill: Fill, memo: &mut [u32], marks: &mut [u32], r: usize, q: Proposition) -> Checked
+pub fn check_rule_produces_equality(
+    scope: &Scope<'_>,
+    store: &mut Store<'_>,
+    fill: Fill,
+    memo: &mut [u32],
+    marks: &mut [u32],
+    r: usize,
+    q: Proposition,
+) -> Checked
     requires standing { Standing scope.now.job.now scope.now.found.now (bindings_in scope.now.bound.now scope.now.pairs.now scope.now.globals.now) store.old.kinds.now store.old.ends.now store.old.pool.now store.old.index.now fill memo.old marks.old }
     requires bound_len_bound { length scope.now.bound.now ≤ 32 }
     requires r_bound { r < (sizes_of scope.now.job.now).rules }
@@ -217,13 +253,14 @@ pub fn check_rule_produces_equality(scope: &Scope<'_>, store: &mut Store<'_>, fi
 {
     let marking = q.lhs == q.rhs;
     let rule = rule_name_at(scope.job, r);
+    let named = Scope { rule, ..*scope };
     let actions = rule_actions_at(scope.job, r);
     let lone = lone_run(scope.job, marking, actions);
     if let Some(e) = lone {
-        return run_produces(scope, store, fill, memo, marks, e, q);
+        return run_produces(&named, store, fill, memo, marks, e, q);
     }
     clear_if(marking, marks);
-    let h = head_actions(scope, store, fill, memo, marking, marks, actions, q);
+    let h = head_actions(&named, store, fill, memo, marking, marks, actions, q);
     let have = h.fill;
     if h.refusal.number != 0 {
         let refusal = h.refusal;
@@ -238,7 +275,18 @@ pub fn check_rule_produces_equality(scope: &Scope<'_>, store: &mut Store<'_>, fi
 }
 
 // `run_merge`: with `old` and `new` alone.
-pub fn run_merge(job: &[u32], found: &[u32], store: &mut Store<'_>, fill: Fill, memo: &mut [u32], marking: bool, marks: &mut [u32], function: u32, old: u32, new: u32) -> Checked
+pub fn run_merge(
+    job: &[u32],
+    found: &[u32],
+    store: &mut Store<'_>,
+    fill: Fill,
+    memo: &mut [u32],
+    marking: bool,
+    marks: &mut [u32],
+    function: u32,
+    old: u32,
+    new: u32,
+) -> Checked
     requires { Standing job.now found.now (model.merge_bindings old new) store.old.kinds.now store.old.ends.now store.old.pool.now store.old.index.now fill memo.old marks.old }
     ensures does { Yields (program_for job.now) (model.merge_bindings old new) (model.run_merge (room_of store.old.kinds.now store.old.pool.now) (program_for job.now) function old new (terms_in store.old.kinds.now store.old.ends.now store.old.pool.now fill)) marking store.old.kinds.now store.old.ends.now store.old.pool.now store.old.index.now fill marks.old store.new.kinds.now store.new.ends.now store.new.pool.now store.new.index.now result memo.new marks.new }
     ensures loans { SameLoans store.old store.new }
@@ -250,7 +298,15 @@ pub fn run_merge(job: &[u32], found: &[u32], store: &mut Store<'_>, fill: Fill, 
         None => refuse1(43, function, fill),
         Some(e) => {
             memo::new_round(memo);
-            yield_value(&Scope { job, found, bound: &bound, pairs: &none, globals: &none, rule: Name::MERGE_FUNCTION.number }, store, fill, memo, marking, marks, e)
+            let scope = Scope {
+                job,
+                found,
+                bound: &bound,
+                pairs: &none,
+                globals: &none,
+                rule: Name::MERGE_FUNCTION.number,
+            };
+            yield_value(&scope, store, fill, memo, marking, marks, e)
         }
     }
 }
