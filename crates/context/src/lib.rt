@@ -17,6 +17,7 @@ ghost use Rattle.context.specs.Contexts.{unions_have, Even, Joined, GlobalPairs,
 
 use actions::{Effect, process_action, push_binding};
 use decode::{Name, Proposition};
+use evaluate::Scope;
 use index::{Fill, Store};
 use lookups::duplicate_rule_name;
 use marks::{clear, close, is_marked};
@@ -74,7 +75,19 @@ pub fn is_global_pair(unions: &[u32], marks: &[u32], q: Proposition) -> bool
 }
 
 // Global action i, in the context that the table has from `at` on and the first n words of the unions.
-fn global_action(job: &[u32], found: &[u32], store: &mut Store<'_>, fill: Fill, memo: &mut [u32], marks: &mut [u32], table: &mut [u32], at: usize, unions: &mut [u32], n: usize, i: u32) -> Globals
+fn global_action(
+    job: &[u32],
+    found: &[u32],
+    store: &mut Store<'_>,
+    fill: Fill,
+    memo: &mut [u32],
+    marks: &mut [u32],
+    table: &mut [u32],
+    at: usize,
+    unions: &mut [u32],
+    n: usize,
+    i: u32,
+) -> Globals
     requires standing { Standing job.now found.now (read_bindings (drop at table.old)) store.old.kinds.now store.old.ends.now store.old.pool.now store.old.index.now fill memo.old marks.old }
     requires i_bound { i < (sizes_of job.now).actions }
     requires le_at { 2 ≤ at }
@@ -86,7 +99,15 @@ fn global_action(job: &[u32], found: &[u32], store: &mut Store<'_>, fill: Fill, 
 {
     let rule = Name::GLOBAL_ACTIONS.number;
     let none = &job[..0];
-    let r = process_action(&Scope { job, found, bound: &table[at..], pairs: none, globals: none, rule }, store, fill, memo, false, true, marks, i);
+    let scope = Scope {
+        job,
+        found,
+        bound: &table[at..],
+        pairs: none,
+        globals: none,
+        rule,
+    };
+    let r = process_action(&scope, store, fill, memo, false, true, marks, i);
     let refusal = r.refusal;
     let have = r.fill;
     if refusal.number != 0 {
@@ -109,7 +130,16 @@ fn global_action(job: &[u32], found: &[u32], store: &mut Store<'_>, fill: Fill, 
 }
 
 // The global actions, one after the other.
-fn global_actions(job: &[u32], found: &[u32], store: &mut Store<'_>, fill: Fill, memo: &mut [u32], marks: &mut [u32], table: &mut [u32], unions: &mut [u32]) -> Globals
+fn global_actions(
+    job: &[u32],
+    found: &[u32],
+    store: &mut Store<'_>,
+    fill: Fill,
+    memo: &mut [u32],
+    marks: &mut [u32],
+    table: &mut [u32],
+    unions: &mut [u32],
+) -> Globals
     requires standing { Standing job.now found.now [] store.old.kinds.now store.old.ends.now store.old.pool.now store.old.index.now fill memo.old marks.old }
     requires marks { Marks (terms_in store.old.kinds.now store.old.ends.now store.old.pool.now fill) marks.old [] }
     requires table_len { length table.old ≡ 512 }
@@ -123,8 +153,7 @@ fn global_actions(job: &[u32], found: &[u32], store: &mut Store<'_>, fill: Fill,
     let mut n = 0;
     for i in 0..count {
         let r = global_action(
-            job, found, store, have, memo, marks, table, at, unions, n,
-            i as u32,
+            job, found, store, have, memo, marks, table, at, unions, n, i as u32,
         );
         if r.refusal.number != 0 {
             return r;
@@ -146,7 +175,16 @@ fn global_actions(job: &[u32], found: &[u32], store: &mut Store<'_>, fill: Fill,
 }
 
 // `ProofCheckContext::new`: no two rules of one name, the global actions, and their marks closed.
-pub fn new_context(job: &[u32], found: &[u32], store: &mut Store<'_>, fill: Fill, memo: &mut [u32], marks: &mut [u32], table: &mut [u32], unions: &mut [u32]) -> Globals
+pub fn new_context(
+    job: &[u32],
+    found: &[u32],
+    store: &mut Store<'_>,
+    fill: Fill,
+    memo: &mut [u32],
+    marks: &mut [u32],
+    table: &mut [u32],
+    unions: &mut [u32],
+) -> Globals
     requires standing { Standing job.now found.now [] store.old.kinds.now store.old.ends.now store.old.pool.now store.old.index.now fill memo.old marks.old }
     requires table_len { length table.old ≡ 512 }
     requires unions_len { length unions.old ≡ 512 }
@@ -167,9 +205,7 @@ pub fn new_context(job: &[u32], found: &[u32], store: &mut Store<'_>, fill: Fill
         };
     }
     clear(marks);
-    let r = global_actions(
-        job, found, store, fill, memo, marks, table, unions,
-    );
+    let r = global_actions(job, found, store, fill, memo, marks, table, unions);
     if r.refusal.number != 0 {
         return r;
     }

@@ -65,7 +65,14 @@ pub fn app_head(store: &Store<'_>, fill: Fill, t: u32) -> Option<u32>
 }
 
 // The application of a head to the children of t, of which child i is replaced by x.
-pub fn replace_child(store: &mut Store<'_>, fill: Fill, t: u32, head: u32, i: usize, x: u32) -> Checked
+pub fn replace_child(
+    store: &mut Store<'_>,
+    fill: Fill,
+    t: u32,
+    head: u32,
+    i: usize,
+    x: u32,
+) -> Checked
     requires indexed { Indexed store.old.kinds.now store.old.ends.now store.old.pool.now store.old.index.now fill }
     requires small { Small (terms_in store.old.kinds.now store.old.ends.now store.old.pool.now fill) t }
     requires i_in_bounds { i < length (evaluate.children (terms.get_term (terms_in store.old.kinds.now store.old.ends.now store.old.pool.now fill) t)) }
@@ -192,7 +199,14 @@ fn read_views(store: &Store<'_>, fill: Fill, p: u32, a: Proposition, b: Proposit
 }
 
 // The claimed pair is the view, equal to itself, or one that the marks stand for.
-fn view_claimed(store: &Store<'_>, fill: Fill, marks: &mut [u32], p: u32, q: Proposition, view: u32) -> Refusal
+fn view_claimed(
+    store: &Store<'_>,
+    fill: Fill,
+    marks: &mut [u32],
+    p: u32,
+    q: Proposition,
+    view: u32,
+) -> Refusal
     requires { Stored store.now.kinds.now store.now.ends.now store.now.pool.now fill }
     ensures { (s : List terms.Term) → outcome_of result tt s ≡ check_that (same_proposition (proposition_of q) (evaluate.same view) || claimed_by (eqb q.lhs q.rhs) false (closing.is_marked (closing.close (terms_in store.now.kinds.now store.now.ends.now store.now.pool.now fill) fill.cells marks.old) q.lhs)) 38 (p ∷ q.lhs ∷ q.rhs ∷ []) s }
 {
@@ -209,7 +223,16 @@ fn view_claimed(store: &Store<'_>, fill: Fill, marks: &mut [u32], p: u32, q: Pro
 }
 
 // The view of a merged value is added, with the inputs of t, and the claimed pair looked for.
-fn add_view(store: &mut Store<'_>, fill: Fill, marks: &mut [u32], p: u32, q: Proposition, t: u32, head: u32, value: u32) -> Checked
+fn add_view(
+    store: &mut Store<'_>,
+    fill: Fill,
+    marks: &mut [u32],
+    p: u32,
+    q: Proposition,
+    t: u32,
+    head: u32,
+    value: u32,
+) -> Checked
     requires indexed { Indexed store.old.kinds.now store.old.ends.now store.old.pool.now store.old.index.now fill }
     requires small { Small (terms_in store.old.kinds.now store.old.ends.now store.old.pool.now fill) t }
     requires nonzero { 0 < length (evaluate.children (terms.get_term (terms_in store.old.kinds.now store.old.ends.now store.old.pool.now fill) t)) }
@@ -231,7 +254,19 @@ fn add_view(store: &mut Store<'_>, fill: Fill, marks: &mut [u32], p: u32, q: Pro
 }
 
 // `MergeFn`: the views of a and b, merged by the function named.
-pub fn merge_step(job: &[u32], found: &[u32], store: &mut Store<'_>, fill: Fill, memo: &mut [u32], marks: &mut [u32], p: u32, q: Proposition, function: u32, a: Proposition, b: Proposition) -> Checked
+pub fn merge_step(
+    job: &[u32],
+    found: &[u32],
+    store: &mut Store<'_>,
+    fill: Fill,
+    memo: &mut [u32],
+    marks: &mut [u32],
+    p: u32,
+    q: Proposition,
+    function: u32,
+    a: Proposition,
+    b: Proposition,
+) -> Checked
     requires standing { Standing job.now found.now [] store.old.kinds.now store.old.ends.now store.old.pool.now store.old.index.now fill memo.old marks.old }
     requires small { Small (terms_in store.old.kinds.now store.old.ends.now store.old.pool.now fill) a.rhs }
     requires small_2 { Small (terms_in store.old.kinds.now store.old.ends.now store.old.pool.now fill) b.rhs }
@@ -255,7 +290,5 @@ pub fn merge_step(job: &[u32], found: &[u32], store: &mut Store<'_>, fill: Fill,
     if m.refusal.number != 0 {
         return m;
     }
-    add_view(
-        store, m.fill, marks, p, q, a.rhs, v.head, m.value,
-    )
+    add_view(store, m.fill, marks, p, q, a.rhs, v.head, m.value)
 }
