@@ -86,7 +86,14 @@ fn is_literal(store: &Store<'_>, fill: Fill, t: u32) -> bool
 }
 
 // `Fiat`: a literal, equal to itself, or a global pair.
-fn fiat_step(store: &Store<'_>, fill: Fill, unions: &[u32], gmarks: &[u32], p: u32, q: Proposition) -> Refusal
+fn fiat_step(
+    store: &Store<'_>,
+    fill: Fill,
+    unions: &[u32],
+    gmarks: &[u32],
+    p: u32,
+    q: Proposition,
+) -> Refusal
     requires stored { Stored store.now.kinds.now store.now.ends.now store.now.pool.now fill }
     requires lhs_lt_cells { q.lhs < fill.cells }
     ensures { (ps : List program.Proposition) → GlobalPairs ps unions.now gmarks.now → outcome_of result tt (terms_in store.now.kinds.now store.now.ends.now store.now.pool.now fill) ≡ fiat_step ps p (proposition_of q) (terms_in store.now.kinds.now store.now.ends.now store.now.pool.now fill) }
@@ -114,7 +121,15 @@ fn flag(test: bool) -> u32
 }
 
 // `ContainerNormalize`: the right side of a has the normal form that is claimed.
-fn normalize_step(job: &[u32], found: &[u32], store: &Store<'_>, fill: Fill, p: u32, q: Proposition, a: Proposition) -> Refusal
+fn normalize_step(
+    job: &[u32],
+    found: &[u32],
+    store: &Store<'_>,
+    fill: Fill,
+    p: u32,
+    q: Proposition,
+    a: Proposition,
+) -> Refusal
     requires ready { Ready job.now }
     requires keyed { Keyed job.now found.now }
     requires stored { Stored store.now.kinds.now store.now.ends.now store.now.pool.now fill }
@@ -185,7 +200,15 @@ fn congr_claims(p: u32, q: Proposition, lhs: u32, t: u32) -> Refusal
 }
 
 // `Congr`: child i of the right side of a is replaced, by b.
-fn congr_step(store: &mut Store<'_>, fill: Fill, p: u32, q: Proposition, a: Proposition, i: u32, b: Proposition) -> Checked
+fn congr_step(
+    store: &mut Store<'_>,
+    fill: Fill,
+    p: u32,
+    q: Proposition,
+    a: Proposition,
+    i: u32,
+    b: Proposition,
+) -> Checked
     requires indexed { Indexed store.old.kinds.now store.old.ends.now store.old.pool.now store.old.index.now fill }
     requires small { Small (terms_in store.old.kinds.now store.old.ends.now store.old.pool.now fill) a.rhs }
     ensures does { Does store.old.kinds.now store.old.ends.now store.old.pool.now store.old.index.now fill store.new.kinds.now store.new.ends.now store.new.pool.now store.new.index.now result.fill result.refusal tt (congr_step (room_of store.old.kinds.now store.old.pool.now) p (proposition_of q) (proposition_of a) i (proposition_of b) (terms_in store.old.kinds.now store.old.ends.now store.old.pool.now fill)) }
@@ -219,7 +242,17 @@ fn congr_step(store: &mut Store<'_>, fill: Fill, p: u32, q: Proposition, a: Prop
 }
 
 // What the step of proof p concludes that adds no term; one of another kind is refused.
-fn plain_step(job: &[u32], found: &[u32], unions: &[u32], gmarks: &[u32], store: &Store<'_>, fill: Fill, p: u32, q: Proposition, j: Justification) -> Refusal
+fn plain_step(
+    job: &[u32],
+    found: &[u32],
+    unions: &[u32],
+    gmarks: &[u32],
+    store: &Store<'_>,
+    fill: Fill,
+    p: u32,
+    q: Proposition,
+    j: Justification,
+) -> Refusal
     requires ready { Ready job.now }
     requires keyed { Keyed job.now found.now }
     requires stored { Stored store.now.kinds.now store.now.ends.now store.now.pool.now fill }
@@ -253,7 +286,16 @@ fn plain_step(job: &[u32], found: &[u32], unions: &[u32], gmarks: &[u32], store:
 }
 
 // `Congr`, with the claims of proofs x and y.
-fn congr_at(job: &[u32], store: &mut Store<'_>, fill: Fill, p: u32, q: Proposition, x: u32, i: u32, y: u32) -> Checked
+fn congr_at(
+    job: &[u32],
+    store: &mut Store<'_>,
+    fill: Fill,
+    p: u32,
+    q: Proposition,
+    x: u32,
+    i: u32,
+    y: u32,
+) -> Checked
     requires ready { Ready job.now }
     requires indexed { Indexed store.old.kinds.now store.old.ends.now store.old.pool.now store.old.index.now fill }
     requires terms_first { TermsFirst job.now (terms_in store.old.kinds.now store.old.ends.now store.old.pool.now fill) }
@@ -268,7 +310,19 @@ fn congr_at(job: &[u32], store: &mut Store<'_>, fill: Fill, p: u32, q: Propositi
 }
 
 // `MergeFn`, with the claims of proofs x and y, and marks in the second part of the scratch.
-fn merge_at(job: &[u32], found: &[u32], store: &mut Store<'_>, fill: Fill, memo: &mut [u32], scratch: &mut [u32], p: u32, q: Proposition, function: u32, x: u32, y: u32) -> Checked
+fn merge_at(
+    job: &[u32],
+    found: &[u32],
+    store: &mut Store<'_>,
+    fill: Fill,
+    memo: &mut [u32],
+    scratch: &mut [u32],
+    p: u32,
+    q: Proposition,
+    function: u32,
+    x: u32,
+    y: u32,
+) -> Checked
     requires prepared { Prepared job.now found.now store.old.kinds.now store.old.ends.now store.old.pool.now store.old.index.now fill memo.old scratch.old }
     requires x_bound { x < (sizes_of job.now).proofs }
     requires y_bound { y < (sizes_of job.now).proofs }
@@ -296,7 +350,16 @@ fn merge_at(job: &[u32], found: &[u32], store: &mut Store<'_>, fill: Fill, memo:
 }
 
 // What the step of proof p concludes, once the proofs that it refers to are checked. A rule's step is checked elsewhere; here it is refused.
-pub fn conclude(job: &[u32], found: &[u32], unions: &[u32], store: &mut Store<'_>, fill: Fill, memo: &mut [u32], scratch: &mut [u32], p: u32) -> Checked
+pub fn conclude(
+    job: &[u32],
+    found: &[u32],
+    unions: &[u32],
+    store: &mut Store<'_>,
+    fill: Fill,
+    memo: &mut [u32],
+    scratch: &mut [u32],
+    p: u32,
+) -> Checked
     requires prepared { Prepared job.now found.now store.old.kinds.now store.old.ends.now store.old.pool.now store.old.index.now fill memo.old scratch.old }
     requires p_bound { p < (sizes_of job.now).proofs }
     ensures does { Concludes job.now unions.now store.old.kinds.now store.old.ends.now store.old.pool.now store.old.index.now fill scratch.old p store.new.kinds.now store.new.ends.now store.new.pool.now store.new.index.now result memo.new scratch.new }
@@ -331,17 +394,7 @@ pub fn conclude(job: &[u32], found: &[u32], unions: &[u32], store: &mut Store<'_
         ),
         _ => {
             let c = store.kinds.len();
-            let refusal = plain_step(
-                job,
-                found,
-                unions,
-                &scratch[..c],
-                store,
-                fill,
-                p,
-                q,
-                j,
-            );
+            let refusal = plain_step(job, found, unions, &scratch[..c], store, fill, p, q, j);
             Checked {
                 refusal,
                 value: 0,

@@ -19,9 +19,10 @@ ghost use Rattle.conditions.specs.Bound.{bound_over};
 ghost use Rattle.turns.specs.Walking.{Ground, Operates};
 ghost use Rattle.turns.specs.Turning.{of_fact, proof_of, no_turn, turns_by, bindings_by, after_turn, before_proof, RuleStep, Planned, Plans, Advances};
 
-use cells::{wide};
+use cells::wide;
 use conditions::{Bound, check_side_condition};
 use decode::Justification;
+use evaluate::Scope;
 use facts::check_fact_matches_proposition;
 use heads::check_rule_produces_equality;
 use index::{Fill, Store};
@@ -240,7 +241,14 @@ pub fn reference(
 }
 
 // Fact i of a rule before its premise: normal form, and a side condition.
-fn before_premise(scope: &Scope<'_>, strict: bool, store: &mut Store<'_>, fill: Fill, memo: &mut [u32], i: u32) -> Stage
+fn before_premise(
+    scope: &Scope<'_>,
+    strict: bool,
+    store: &mut Store<'_>,
+    fill: Fill,
+    memo: &mut [u32],
+    i: u32,
+) -> Stage
     requires ready { Ready scope.now.job.now }
     requires keyed { Keyed scope.now.job.now scope.now.found.now }
     requires searched { Searched scope.now.job.now scope.now.found.now }
@@ -299,7 +307,17 @@ fn over(c: Checked) -> Stage
 }
 
 // Fact i of a rule after its premise, if there is one.
-fn after_premise(scope: &Scope<'_>, store: &mut Store<'_>, fill: Fill, memo: &mut [u32], p: u32, r: usize, second: u32, count: usize, i: usize) -> Checked
+fn after_premise(
+    scope: &Scope<'_>,
+    store: &mut Store<'_>,
+    fill: Fill,
+    memo: &mut [u32],
+    p: u32,
+    r: usize,
+    second: u32,
+    count: usize,
+    i: usize,
+) -> Checked
     requires ready { Ready scope.now.job.now }
     requires keyed { Keyed scope.now.job.now scope.now.found.now }
     requires indexed { Indexed store.old.kinds.now store.old.ends.now store.old.pool.now store.old.index.now fill }
@@ -320,7 +338,25 @@ fn after_premise(scope: &Scope<'_>, store: &mut Store<'_>, fill: Fill, memo: &mu
 }
 
 // Turn i of a rule's step: a fact before its premise or after it; after the last, and where there is none, the head.
-fn advance_rule(job: &[u32], strict: bool, found: &[u32], globals: &[u32], bound: &[u32], store: &mut Store<'_>, fill: Fill, memo: &mut [u32], scratch: &mut [u32], unions: &[u32], p: u32, r: usize, name: u32, second: u32, count: usize, i: usize, walked: usize) -> Stage
+fn advance_rule(
+    job: &[u32],
+    strict: bool,
+    found: &[u32],
+    globals: &[u32],
+    bound: &[u32],
+    store: &mut Store<'_>,
+    fill: Fill,
+    memo: &mut [u32],
+    scratch: &mut [u32],
+    unions: &[u32],
+    p: u32,
+    r: usize,
+    name: u32,
+    second: u32,
+    count: usize,
+    i: usize,
+    walked: usize,
+) -> Stage
     requires ground { Ground job.now found.now globals.now store.old.kinds.now store.old.ends.now store.old.pool.now store.old.index.now fill memo.old scratch.old }
     requires p_bound { p < (sizes_of job.now).proofs }
     requires planned { Planned job.now p true r name second count }
@@ -331,13 +367,21 @@ fn advance_rule(job: &[u32], strict: bool, found: &[u32], globals: &[u32], bound
     ensures loans { SameLoans store.old store.new }
 {
     let pairs = substitution_at(job, wide(p));
+    let scope = Scope {
+        job,
+        found,
+        bound,
+        pairs,
+        globals,
+        rule: name,
+    };
     if (walked == 0) & (i < count) {
         let facts = rule_facts_at(job, r);
-        return before_premise(&Scope { job, found, bound, pairs, globals, rule: name }, strict, store, fill, memo, facts[i]);
+        return before_premise(&scope, strict, store, fill, memo, facts[i]);
     }
     let cells = store.kinds.len();
     let d = cells + words_for(cells);
-    let c = after_premise(&Scope { job, found, bound, pairs, globals, rule: name }, store, fill, memo, p, r, second, count, i);
+    let c = after_premise(&scope, store, fill, memo, p, r, second, count, i);
     let have = c.fill;
     if c.refusal.number != 0 {
         return over(c);
@@ -346,11 +390,30 @@ fn advance_rule(job: &[u32], strict: bool, found: &[u32], globals: &[u32], bound
         return over(c);
     }
     let q = claim_at(job, wide(p));
-    over(check_rule_produces_equality(&Scope { job, found, bound, pairs, globals, rule }, store, have, memo, &mut scratch[cells..d], r, q))
+    over(check_rule_produces_equality(&scope, store, have, memo, &mut scratch[cells..d], r, q))
 }
 
 // Turn i of a rule's step, or the end of another.
-pub fn advance(job: &[u32], strict: bool, found: &[u32], globals: &[u32], unions: &[u32], bound: &[u32], store: &mut Store<'_>, fill: Fill, memo: &mut [u32], scratch: &mut [u32], p: u32, rule: bool, r: usize, first: u32, second: u32, count: usize, i: usize, walked: usize) -> Stage
+pub fn advance(
+    job: &[u32],
+    strict: bool,
+    found: &[u32],
+    globals: &[u32],
+    unions: &[u32],
+    bound: &[u32],
+    store: &mut Store<'_>,
+    fill: Fill,
+    memo: &mut [u32],
+    scratch: &mut [u32],
+    p: u32,
+    rule: bool,
+    r: usize,
+    first: u32,
+    second: u32,
+    count: usize,
+    i: usize,
+    walked: usize,
+) -> Stage
     requires ground { Ground job.now found.now globals.now store.old.kinds.now store.old.ends.now store.old.pool.now store.old.index.now fill memo.old scratch.old }
     requires p_bound { p < (sizes_of job.now).proofs }
     requires planned { Planned job.now p rule r first second count }
@@ -363,11 +426,9 @@ pub fn advance(job: &[u32], strict: bool, found: &[u32], globals: &[u32], unions
 {
     if rule {
         return advance_rule(
-            job, strict, found, globals, bound, store, fill, memo, scratch,
-            unions, p, r, first, second, count, i, walked,
+            job, strict, found, globals, bound, store, fill, memo, scratch, unions, p, r, first,
+            second, count, i, walked,
         );
     }
-    over(conclude(
-        job, found, unions, store, fill, memo, scratch, p,
-    ))
+    over(conclude(job, found, unions, store, fill, memo, scratch, p))
 }
