@@ -109,7 +109,18 @@ fn fact_state(job: &[u32], found: &[u32], r: usize, count: usize, i: usize) -> u
 // The step of proof p, a rule's too, turn by turn: each proof that it needs is walked, between what is done before it and after it. The value is the height: one more than
 // the greatest among the proofs walked. The walk and this check call each other, with a falling proof number; all else is done in `advance`, outside of their frames.
 #[cycle(justify_walk)]
-fn justify(job: &[u32], strict: bool, found: &[u32], globals: &[u32], unions: &[u32], store: &mut Store<'_>, fill: Fill, memo: &mut [u32], scratch: &mut [u32], p: u32) -> Checked
+fn justify(
+    job: &[u32],
+    strict: bool,
+    found: &[u32],
+    globals: &[u32],
+    unions: &[u32],
+    store: &mut Store<'_>,
+    fill: Fill,
+    memo: &mut [u32],
+    scratch: &mut [u32],
+    p: u32,
+) -> Checked
     requires ground { Ground job.now found.now globals.now store.old.kinds.now store.old.ends.now store.old.pool.now store.old.index.now fill memo.old scratch.old }
     requires p_bound { p < (sizes_of job.now).proofs }
     ensures does { Walks job.now found.now globals.now unions.now store.old.kinds.now store.old.ends.now store.old.pool.now store.old.index.now fill scratch.old store.new.kinds.now store.new.ends.now store.new.pool.now store.new.index.now result.fill result.refusal memo.new scratch.new (λ d. d) (λ room ps done. check_justification room (program_for job.now) (proofs_for job.now) (context_of globals.now ps) (check_proof_with_context room (program_for job.now) (proofs_for job.now) (context_of globals.now ps) strict p) strict p (claim_at (proofs_for job.now) p) (get_or (proofs_for job.now) p no_proof).justification done) }
@@ -151,8 +162,7 @@ fn justify(job: &[u32], strict: bool, found: &[u32], globals: &[u32], unions: &[
                 continue;
             }
             let w = walk(
-                job, strict, found, globals, unions, store, have, memo,
-                scratch, next,
+                job, strict, found, globals, unions, store, have, memo, scratch, next,
             );
             if w.refusal.number != 0 {
                 return w;
@@ -213,7 +223,18 @@ fn justify(job: &[u32], strict: bool, found: &[u32], globals: &[u32], unions: &[
 
 // `check_proof_with_context` for a proof that is not checked yet: one that is, is not walked. The value is the proof's height.
 #[cycle(justify_walk)]
-pub fn walk(job: &[u32], strict: bool, found: &[u32], globals: &[u32], unions: &[u32], store: &mut Store<'_>, fill: Fill, memo: &mut [u32], scratch: &mut [u32], p: u32) -> Checked
+pub fn walk(
+    job: &[u32],
+    strict: bool,
+    found: &[u32],
+    globals: &[u32],
+    unions: &[u32],
+    store: &mut Store<'_>,
+    fill: Fill,
+    memo: &mut [u32],
+    scratch: &mut [u32],
+    p: u32,
+) -> Checked
     requires ground { Ground job.now found.now globals.now store.old.kinds.now store.old.ends.now store.old.pool.now store.old.index.now fill memo.old scratch.old }
     requires p_bound { p < (sizes_of job.now).proofs }
     requires p_value { get_or scratch.old (length store.old.kinds.now + length store.old.kinds.now + p) 0 ≡ 0 }
