@@ -23,7 +23,15 @@ use program::job::{PROOFS, size};
 use walk::walk;
 
 // The outcome of the asked proof, where the offences and the chains of long tables are found.
-fn check_found(job: &[u32], strict: bool, found: &[u32], store: &mut Store<'_>, fill: Fill, scratch: &mut [u32], asked: u32) -> Checked
+fn check_found(
+    job: &[u32],
+    strict: bool,
+    found: &[u32],
+    store: &mut Store<'_>,
+    fill: Fill,
+    scratch: &mut [u32],
+    asked: u32,
+) -> Checked
     requires given { Given job.now store.old.kinds.now store.old.ends.now store.old.pool.now store.old.index.now fill scratch.old }
     requires searched { Searched job.now found.now }
     requires keyed { Keyed job.now found.now }
@@ -75,7 +83,14 @@ fn check_found(job: &[u32], strict: bool, found: &[u32], store: &mut Store<'_>, 
 }
 
 // The outcome of the asked proof, in strict mode or not: passed, with its height as value, or a refusal. Whatever scratch held makes no difference.
-pub fn check_proof(job: &[u32], strict: bool, store: &mut Store<'_>, fill: Fill, scratch: &mut [u32], asked: u32) -> Checked
+pub fn check_proof(
+    job: &[u32],
+    strict: bool,
+    store: &mut Store<'_>,
+    fill: Fill,
+    scratch: &mut [u32],
+    asked: u32,
+) -> Checked
     requires given { Given job.now store.old.kinds.now store.old.ends.now store.old.pool.now store.old.index.now fill scratch.old }
     requires asked_bound { asked < (sizes_of job.now).proofs }
     ensures does { Does store.old.kinds.now store.old.ends.now store.old.pool.now store.old.index.now fill store.new.kinds.now store.new.ends.now store.new.pool.now store.new.index.now result.fill result.refusal (claim_at (proofs_for job.now) asked) (check_proof (room_of store.old.kinds.now store.old.pool.now) (program_for job.now) (proofs_for job.now) strict asked (terms_in store.old.kinds.now store.old.ends.now store.old.pool.now fill)) }
@@ -85,14 +100,10 @@ pub fn check_proof(job: &[u32], strict: bool, store: &mut Store<'_>, fill: Fill,
     if needs_no_chains(job) {
         let mut found = [0u32; 4096];
         find_offences(job, &mut found);
-        return check_found(
-            job, strict, &found, store, fill, scratch, asked,
-        );
+        return check_found(job, strict, &found, store, fill, scratch, asked);
     }
     let mut found = [0u32; 36865];
     find_offences(job, &mut found);
     chain_tables(job, fill.multiplier, &mut found);
-    check_found(
-        job, strict, &found, store, fill, scratch, asked,
-    )
+    check_found(job, strict, &found, store, fill, scratch, asked)
 }

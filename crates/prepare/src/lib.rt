@@ -43,6 +43,7 @@ fn start(job: &[u32], x: u32, store: &mut Store<'_>) -> Prepared
     requires { Loads job.now store.old.kinds.now store.old.ends.now store.old.pool.now }
     ensures is { result.refusal ≡ passed }
     ensures begun { TermsLoaded (kinds_of job.now) (ends_of job.now) (pool_of job.now) (sizes_of job.now).terms x store.old.kinds.now store.old.ends.now store.old.pool.now store.new.kinds.now store.new.ends.now store.new.pool.now result.fill }
+    ensures index { store.new.index.now ≡ store.old.index.now }
     ensures loans { SameLoans store.old store.new }
 {
     let have = load_terms(job, x, store);
@@ -57,22 +58,22 @@ fn start(job: &[u32], x: u32, store: &mut Store<'_>) -> Prepared
 }
 
 // Loads a job's words for an asked proof in a mode, and its terms into the lent arrays and the lent index.
-pub fn prepare(job: &[u32], asked: u32, mode: u32, store: &mut Store<'_>, scratch: usize) -> Prepared
+pub fn prepare(
+    job: &[u32],
+    asked: u32,
+    mode: u32,
+    store: &mut Store<'_>,
+    scratch: usize,
+) -> Prepared
     ensures does { Prepares job.now asked mode store.old.kinds.now store.old.ends.now store.old.pool.now store.old.index.now scratch store.new.kinds.now store.new.ends.now store.new.pool.now store.new.index.now result }
     ensures loans { SameLoans store.old store.new }
 {
+    let kinds = store.kinds.len();
+    let ends = store.ends.len();
+    let pool = store.pool.len();
+    let index = &mut *store.index;
     let x = multiplier(index);
-    let loaded = load(
-        job,
-        asked,
-        mode,
-        store.kinds.len(),
-        store.ends.len(),
-        store.pool.len(),
-        index,
-        x,
-        scratch,
-    );
+    let loaded = load(job, asked, mode, kinds, ends, pool, index, x, scratch);
     let Err(rejection) = loaded else {
         return start(job, x, store);
     };

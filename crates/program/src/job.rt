@@ -7,8 +7,8 @@ ghost use Rattle.termdag.specs.Store.{Loadable, Loaded};
 ghost use Rattle.load.specs.Held.{cell_number};
 ghost use Rattle.program.specs.Ready.{Held, table_for, count_for, cell_for, fill_for};
 
-use index::Store;
 use cells::{Fill, wide, words};
+use index::Store;
 
 // The tables, by their numbers.
 pub const TERMS: usize = 0;
@@ -181,6 +181,7 @@ pub fn load_terms(job: &[u32], multiplier: u32, store: &mut Store<'_>) -> index:
     requires held { Held job.now }
     requires loadable { Loadable (kinds_of job.now) (ends_of job.now) (pool_of job.now) (fill_for job.now) (count_for job.now 0) store.old.kinds.now store.old.ends.now store.old.pool.now }
     ensures does { Loaded (kinds_of job.now) (ends_of job.now) (pool_of job.now) (count_for job.now 0) multiplier store.old.kinds.now store.old.ends.now store.old.pool.now store.new.kinds.now store.new.ends.now store.new.pool.now result }
+    ensures index { store.new.index.now ≡ store.old.index.now }
     ensures loans { SameLoans store.old store.new }
 {
     let f = fill(job);

@@ -122,6 +122,7 @@ pub fn load_terms(
 ) -> Fill
     requires { Loadable jkinds.now jends.now jpool.now jfill terms store.old.kinds.now store.old.ends.now store.old.pool.now }
     ensures does { Loaded jkinds.now jends.now jpool.now terms multiplier store.old.kinds.now store.old.ends.now store.old.pool.now store.new.kinds.now store.new.ends.now store.new.pool.now result }
+    ensures index { store.new.index.now ≡ store.old.index.now }
     ensures loans { SameLoans store.old store.new }
 {
     let words = cells::start(jends, terms);

@@ -16,7 +16,7 @@ overflow_cast-cell c = let a = c.args in
 pub returns-in_default-clause-does : goal.returns-in_default-clause-does
 returns-in_default-clause-does c = let a = c.args in
     let o = c.in_default.is in
-    admits a.job.now a.asked a.mode a.store.now.kinds.now a.store.now.ends.now a.store.now.pool.now a.store.now.index.now a.scratch c.load-loaded.ensures.refusal c.start.result o c.start.ensures.is c.start.ensures.begun c.load-loaded.auto.index (IfOk-at_ok _ o c.load-loaded.ensures.lists)
+    rw c.start.ensures.index (admits a.job.now a.asked a.mode a.store.now.kinds.now a.store.now.ends.now a.store.now.pool.now a.store.now.index.now a.scratch c.load-loaded.ensures.refusal c.start.result o c.start.ensures.is c.start.ensures.begun c.load-loaded.auto.index (IfOk-at_ok _ o c.load-loaded.ensures.lists))
 
 pub returns-in-Host-clause-does : goal.returns-in-Host-clause-does
 returns-in-Host-clause-does c = let a = c.args in
