@@ -2,6 +2,7 @@
 #![tactic(auto)]
 
 ghost use Rattle.std.specs.Prelude.{◌≡◌, ◌<◌, ◌^◌, length, get_or};
+ghost use Rattle.index.specs.Loans.{SameLoans};
 ghost use Rattle.model.specs.Layout.{sizes_of};
 ghost use Rattle.model.specs.Height.{height};
 ghost use Rattle.model.specs.Answer.{entry};
@@ -12,6 +13,7 @@ ghost use Rattle.entry.specs.Told.{told_words};
 use answer::{write_passed, write_refusal};
 use cells::wide;
 use check_proof::check_proof;
+use index::Store;
 use outcome::Checked;
 use prepare::prepare;
 use program::read::claim_at;
@@ -35,6 +37,35 @@ fn tell(job: &[u32], asked: usize, r: Checked, answer: &mut [u32]) -> u32
     write_passed(answer, terms, q.lhs, q.rhs, r.value)
 }
 
+// The check with the lent arrays as one store.
+fn check_store(
+    job: &[u32],
+    asked: u32,
+    mode: u32,
+    store: &mut Store<'_>,
+    scratch: &mut [u32],
+    answer: &mut [u32],
+) -> u32
+    ensures is { record { number = result; answer = answer.new; arrays = record { kinds = store.new.kinds.now; ends = store.new.ends.now; pool = store.new.pool.now } } ≡ entry job.now asked mode (record { kinds = store.old.kinds.now; ends = store.old.ends.now; pool = store.old.pool.now }) (length store.old.index.now) (length scratch.old) answer.old }
+    ensures loans { SameLoans store.old store.new }
+    ensures len_k { length store.new.kinds.now ≡ length store.old.kinds.now }
+    ensures len_e { length store.new.ends.now ≡ length store.old.ends.now }
+    ensures len_p { length store.new.pool.now ≡ length store.old.pool.now }
+    ensures len_i { length store.new.index.now ≡ length store.old.index.now }
+{
+    if answer.len() != 8 {
+        return 10;
+    }
+    let p = prepare(job, asked, mode, store, scratch.len());
+    if p.refusal.number != 0 {
+        let refusal = p.refusal;
+        return write_refusal(answer, refusal, 0);
+    }
+    let fill = p.fill;
+    let r = check_proof(job, mode == 1, store, fill, scratch, asked);
+    tell(job, wide(asked), r, answer)
+}
+
 // The check of a job's words for an asked proof in a mode, 0 as the Rust checks or 1 strict: the number returned, the answer and the lent arrays are as the definition says, for all inputs.
 // What a returned 0 means, demand 3, is stated and proved in proofs/Sound.
 pub fn check(
@@ -50,25 +81,11 @@ pub fn check(
 ) -> u32
     ensures { record { number = result; answer = answer.new; arrays = record { kinds = kinds.new; ends = ends.new; pool = pool.new } } ≡ entry job.now asked mode (record { kinds = kinds.old; ends = ends.old; pool = pool.old }) (length index.old) (length scratch.old) answer.old }
 {
-    if answer.len() != 8 {
-        return 10;
-    }
-    let p = prepare(job, asked, mode, kinds, ends, pool, index, scratch.len());
-    if p.refusal.number != 0 {
-        let refusal = p.refusal;
-        return write_refusal(answer, refusal, 0);
-    }
-    let fill = p.fill;
-    let r = check_proof(
-        job,
-        mode == 1,
+    let mut store = Store {
         kinds,
         ends,
         pool,
         index,
-        fill,
-        scratch,
-        asked,
-    );
-    tell(job, wide(asked), r, answer)
+    };
+    check_store(job, asked, mode, &mut store, scratch, answer)
 }

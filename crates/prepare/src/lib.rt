@@ -1,7 +1,7 @@
 // The start of the entry: a job's words are loaded, and its terms copied into the lent arrays and listed in the lent index.
 #![tactic(auto)]
 
-ghost use Rattle.std.specs.Prelude.{◌≡◌, [], ◌∷◌};
+ghost use Rattle.std.specs.Prelude.{◌≡◌, [], ◌∷◌, length};
 ghost use Rattle.index.specs.Loans.{SameLoans};
 ghost use Rattle.model.specs.Layout.{sizes_of, kinds_of, ends_of, pool_of};
 ghost use Rattle.termdag.specs.Store.{Loaded as TermsLoaded};
@@ -66,6 +66,7 @@ pub fn prepare(
     scratch: usize,
 ) -> Prepared
     ensures does { Prepares job.now asked mode store.old.kinds.now store.old.ends.now store.old.pool.now store.old.index.now scratch store.new.kinds.now store.new.ends.now store.new.pool.now store.new.index.now result }
+    ensures len_i { length store.new.index.now ≡ length store.old.index.now }
     ensures loans { SameLoans store.old store.new }
 {
     let kinds = store.kinds.len();
