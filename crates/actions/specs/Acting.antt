@@ -1,5 +1,6 @@
 -- The contract of actions: the context after, as the definition has it, and what the code keeps of it.
 use Rattle.std.specs.Prelude.{ℕ, ◌+◌, ◌*◌, ◌<◌, ◌≤◌, length, drop, ◌≡◌, Bool, true, false, ◌||◌}
+use Rattle.index.specs.declared.Store.{Store}
 use mathlib.Core.List.{List, ◌∷◌, ◌++◌, Memᴰ}
 use Rattle.std.proofs.Math.Option.{none}
 use Rattle.model.specs.Layout.{sizes_of}
@@ -34,10 +35,18 @@ pub record Standing (J F : List ℕ) (σ : List Binding) (k e p ix : List ℕ) (
   pub past : Past memo
   pub cells : length k ≤ 32 * length m
 
+-- The same, of a store.
+abbrev pub StandingIn : List ℕ → List ℕ → List Binding → Store → Fill → List ℕ → List ℕ → Type 0
+StandingIn J F σ s f memo m = Standing J F σ s.kinds.now s.ends.now s.pool.now s.index.now f memo m
+
 -- A round of the memo that may go on: what is noted holds in the store under the bindings σ, and is marked, if there is marking.
 pub record Going (J : List ℕ) (rule : ℕ) (σ : List Binding) (marking : Bool) (k e p : List ℕ) (f : Fill) (memo m : List ℕ) : Type 0 where
   pub holds : Memo (arguments_for J) (eval_for false J rule σ (room_of k p)) (sizes_of J).expressions (terms_in k e p f) memo
   pub marked : marking ≡ true → (i : ℕ) → i < (sizes_of J).expressions → is_noted memo i ≡ true → Marked m (value_at memo i)
+
+-- The same, of a store.
+abbrev pub GoingIn : List ℕ → ℕ → List Binding → Bool → Store → Fill → List ℕ → List ℕ → Type 0
+GoingIn J rule σ marking s f memo m = Going J rule σ marking s.kinds.now s.ends.now s.pool.now f memo m
 
 -- The marks after an evaluation.
 abbrev pub marked_if : Bool → List ℕ → ℕ → List ℕ → List ℕ
@@ -73,6 +82,10 @@ pub record Yields (prog : Program) (σ : List Binding) (o : Outcome Value) (mark
   pub others : r.refusal.number ≡ 0 → (q : Proposition) → (q.lhs ≡ q.rhs → ⊥) → among q value.pairs ≡ false
   pub marks : r.refusal.number ≡ 0 → marking ≡ true → (ps : List Proposition) → Marks (terms_in K E P f) m ps → Marks (terms_in K' E' P' r.fill) m' (ps ++ value.pairs)
 
+-- The same, of a store.
+abbrev pub YieldsIn : Program → List Binding → Outcome Value → Bool → Store → Fill → List ℕ → Store → Checked → List ℕ → List ℕ → Type 0
+YieldsIn prog σ o marking s f m s' r memo' m' = Yields prog σ o marking s.kinds.now s.ends.now s.pool.now s.index.now f m s'.kinds.now s'.ends.now s'.pool.now s'.index.now r memo' m'
+
 -- The action a in a context of the bindings σ: the context after. Of its pairs, those that are not reflexive are a union's; the marks stand for the others, if there is marking.
 pub record Acts (prog : Program) (rule : ℕ) (a : Action) (σ : List Binding) (marking : Bool) (K E P I : List ℕ) (f : Fill) (m K' E' P' I' : List ℕ) (r : Acted) (memo' m' : List ℕ) : Type 0 where
   pub pairs : List Proposition
@@ -83,6 +96,10 @@ pub record Acts (prog : Program) (rule : ℕ) (a : Action) (σ : List Binding) (
   pub sane : r.refusal.number ≡ 0 → Sane prog (effect_bindings r.effect σ) (terms_in K' E' P' r.fill)
   pub others : r.refusal.number ≡ 0 → (q : Proposition) → (q.lhs ≡ q.rhs → ⊥) → among q pairs ≡ effect_has r.effect q
   pub marks : r.refusal.number ≡ 0 → marking ≡ true → (ps : List Proposition) → Marks (terms_in K E P f) m ps → Marks (terms_in K' E' P' r.fill) m' (ps ++ pairs)
+
+-- The same, of a store.
+abbrev pub ActsIn : Program → ℕ → Action → List Binding → Bool → Store → Fill → List ℕ → Store → Acted → List ℕ → List ℕ → Type 0
+ActsIn prog rule a σ marking s f m s' r memo' m' = Acts prog rule a σ marking s.kinds.now s.ends.now s.pool.now s.index.now f m s'.kinds.now s'.ends.now s'.pool.now s'.index.now r memo' m'
 
 -- From r on the table T' has the bindings after an action, where T had those before it from `at` on.
 pub record Pushed (T : List ℕ) (at : ℕ) (e : Effect) (T' : List ℕ) (r : ℕ) : Type 0 where

@@ -6,12 +6,12 @@ ghost use Rattle.index.specs.Loans.{SameLoans};
 ghost use Rattle.model.specs.Layout.{sizes_of};
 ghost use Rattle.model.specs.Program.{bind, union, run};
 ghost use Rattle.model.specs.Evaluate.{eval_expr};
-ghost use Rattle.termdag.specs.Store.{terms_in, room_of};
+ghost use Rattle.termdag.specs.Store.{terms_of, room_in};
 ghost use Rattle.program.specs.Ready.{program_for};
 ghost use Rattle.program.specs.Read.{expr_for, action_for};
-ghost use Rattle.evaluate.specs.Value.{bindings_in};
+ghost use Rattle.evaluate.specs.Value.{bindings_under};
 ghost use Rattle.memo.specs.Memo.{Past, Started};
-ghost use Rattle.actions.specs.Acting.{Standing, Going, marked_if, Yields, Acts, Pushed};
+ghost use Rattle.actions.specs.Acting.{StandingIn, GoingIn, marked_if, YieldsIn, ActsIn, Pushed};
 
 use cells::wide;
 use decode::Action;
@@ -59,11 +59,11 @@ pub fn yield_value(
     marks: &mut [u32],
     e: u32,
 ) -> Checked
-    requires standing { Standing scope.now.job.now scope.now.found.now (bindings_in scope.now.bound.now scope.now.pairs.now scope.now.globals.now) store.old.kinds.now store.old.ends.now store.old.pool.now store.old.index.now fill memo.old marks.old }
-    requires going_2 { Going scope.now.job.now scope.now.rule (bindings_in scope.now.bound.now scope.now.pairs.now scope.now.globals.now) marking store.old.kinds.now store.old.ends.now store.old.pool.now fill memo.old marks.old }
+    requires standing { StandingIn scope.now.job.now scope.now.found.now (bindings_under scope.now) store.old fill memo.old marks.old }
+    requires going_2 { GoingIn scope.now.job.now scope.now.rule (bindings_under scope.now) marking store.old fill memo.old marks.old }
     requires e_bound { e < (sizes_of scope.now.job.now).expressions }
-    ensures yields { Yields (program_for scope.now.job.now) (bindings_in scope.now.bound.now scope.now.pairs.now scope.now.globals.now) (eval_expr (room_of store.old.kinds.now store.old.pool.now) (program_for scope.now.job.now) scope.now.rule (bindings_in scope.now.bound.now scope.now.pairs.now scope.now.globals.now) (expr_for scope.now.job.now e) (terms_in store.old.kinds.now store.old.ends.now store.old.pool.now fill)) marking store.old.kinds.now store.old.ends.now store.old.pool.now store.old.index.now fill marks.old store.new.kinds.now store.new.ends.now store.new.pool.now store.new.index.now result memo.new marks.new }
-    ensures going { result.refusal.number ≡ 0 → Going scope.now.job.now scope.now.rule (bindings_in scope.now.bound.now scope.now.pairs.now scope.now.globals.now) marking store.new.kinds.now store.new.ends.now store.new.pool.now result.fill memo.new marks.new }
+    ensures yields { YieldsIn (program_for scope.now.job.now) (bindings_under scope.now) (eval_expr (room_in store.old) (program_for scope.now.job.now) scope.now.rule (bindings_under scope.now) (expr_for scope.now.job.now e) (terms_of store.old fill)) marking store.old fill marks.old store.new result memo.new marks.new }
+    ensures going { result.refusal.number ≡ 0 → GoingIn scope.now.job.now scope.now.rule (bindings_under scope.now) marking store.new result.fill memo.new marks.new }
     ensures loans { SameLoans store.old store.new }
 {
     let count = size(scope.job, EXPRESSIONS);
@@ -86,11 +86,11 @@ fn act_let(
     name: u32,
     e: u32,
 ) -> Acted
-    requires standing { Standing scope.now.job.now scope.now.found.now (bindings_in scope.now.bound.now scope.now.pairs.now scope.now.globals.now) store.old.kinds.now store.old.ends.now store.old.pool.now store.old.index.now fill memo.old marks.old }
-    requires going_2 { Going scope.now.job.now scope.now.rule (bindings_in scope.now.bound.now scope.now.pairs.now scope.now.globals.now) marking store.old.kinds.now store.old.ends.now store.old.pool.now fill memo.old marks.old }
+    requires standing { StandingIn scope.now.job.now scope.now.found.now (bindings_under scope.now) store.old fill memo.old marks.old }
+    requires going_2 { GoingIn scope.now.job.now scope.now.rule (bindings_under scope.now) marking store.old fill memo.old marks.old }
     requires e_bound { e < (sizes_of scope.now.job.now).expressions }
-    ensures acts { Acts (program_for scope.now.job.now) scope.now.rule (bind name (expr_for scope.now.job.now e)) (bindings_in scope.now.bound.now scope.now.pairs.now scope.now.globals.now) marking store.old.kinds.now store.old.ends.now store.old.pool.now store.old.index.now fill marks.old store.new.kinds.now store.new.ends.now store.new.pool.now store.new.index.now result memo.new marks.new }
-    ensures going { result.refusal.number ≡ 0 → Going scope.now.job.now scope.now.rule (bindings_in scope.now.bound.now scope.now.pairs.now scope.now.globals.now) marking store.new.kinds.now store.new.ends.now store.new.pool.now result.fill memo.new marks.new }
+    ensures acts { ActsIn (program_for scope.now.job.now) scope.now.rule (bind name (expr_for scope.now.job.now e)) (bindings_under scope.now) marking store.old fill marks.old store.new result memo.new marks.new }
+    ensures going { result.refusal.number ≡ 0 → GoingIn scope.now.job.now scope.now.rule (bindings_under scope.now) marking store.new result.fill memo.new marks.new }
     ensures loans { SameLoans store.old store.new }
 {
     let r = yield_value(scope, store, fill, memo, marking, marks, e);
@@ -113,11 +113,11 @@ fn act_run(
     marks: &mut [u32],
     e: u32,
 ) -> Acted
-    requires standing { Standing scope.now.job.now scope.now.found.now (bindings_in scope.now.bound.now scope.now.pairs.now scope.now.globals.now) store.old.kinds.now store.old.ends.now store.old.pool.now store.old.index.now fill memo.old marks.old }
-    requires going_2 { Going scope.now.job.now scope.now.rule (bindings_in scope.now.bound.now scope.now.pairs.now scope.now.globals.now) marking store.old.kinds.now store.old.ends.now store.old.pool.now fill memo.old marks.old }
+    requires standing { StandingIn scope.now.job.now scope.now.found.now (bindings_under scope.now) store.old fill memo.old marks.old }
+    requires going_2 { GoingIn scope.now.job.now scope.now.rule (bindings_under scope.now) marking store.old fill memo.old marks.old }
     requires e_bound { e < (sizes_of scope.now.job.now).expressions }
-    ensures acts { Acts (program_for scope.now.job.now) scope.now.rule (run (expr_for scope.now.job.now e)) (bindings_in scope.now.bound.now scope.now.pairs.now scope.now.globals.now) marking store.old.kinds.now store.old.ends.now store.old.pool.now store.old.index.now fill marks.old store.new.kinds.now store.new.ends.now store.new.pool.now store.new.index.now result memo.new marks.new }
-    ensures going { result.refusal.number ≡ 0 → Going scope.now.job.now scope.now.rule (bindings_in scope.now.bound.now scope.now.pairs.now scope.now.globals.now) marking store.new.kinds.now store.new.ends.now store.new.pool.now result.fill memo.new marks.new }
+    ensures acts { ActsIn (program_for scope.now.job.now) scope.now.rule (run (expr_for scope.now.job.now e)) (bindings_under scope.now) marking store.old fill marks.old store.new result memo.new marks.new }
+    ensures going { result.refusal.number ≡ 0 → GoingIn scope.now.job.now scope.now.rule (bindings_under scope.now) marking store.new result.fill memo.new marks.new }
     ensures loans { SameLoans store.old store.new }
 {
     let r = yield_value(scope, store, fill, memo, marking, marks, e);
@@ -141,12 +141,12 @@ fn act_union(
     left: u32,
     right: u32,
 ) -> Acted
-    requires standing { Standing scope.now.job.now scope.now.found.now (bindings_in scope.now.bound.now scope.now.pairs.now scope.now.globals.now) store.old.kinds.now store.old.ends.now store.old.pool.now store.old.index.now fill memo.old marks.old }
-    requires going_2 { Going scope.now.job.now scope.now.rule (bindings_in scope.now.bound.now scope.now.pairs.now scope.now.globals.now) marking store.old.kinds.now store.old.ends.now store.old.pool.now fill memo.old marks.old }
+    requires standing { StandingIn scope.now.job.now scope.now.found.now (bindings_under scope.now) store.old fill memo.old marks.old }
+    requires going_2 { GoingIn scope.now.job.now scope.now.rule (bindings_under scope.now) marking store.old fill memo.old marks.old }
     requires left_bound { left < (sizes_of scope.now.job.now).expressions }
     requires right_bound { right < (sizes_of scope.now.job.now).expressions }
-    ensures acts { Acts (program_for scope.now.job.now) scope.now.rule (union (expr_for scope.now.job.now left) (expr_for scope.now.job.now right)) (bindings_in scope.now.bound.now scope.now.pairs.now scope.now.globals.now) marking store.old.kinds.now store.old.ends.now store.old.pool.now store.old.index.now fill marks.old store.new.kinds.now store.new.ends.now store.new.pool.now store.new.index.now result memo.new marks.new }
-    ensures going { result.refusal.number ≡ 0 → Going scope.now.job.now scope.now.rule (bindings_in scope.now.bound.now scope.now.pairs.now scope.now.globals.now) marking store.new.kinds.now store.new.ends.now store.new.pool.now result.fill memo.new marks.new }
+    ensures acts { ActsIn (program_for scope.now.job.now) scope.now.rule (union (expr_for scope.now.job.now left) (expr_for scope.now.job.now right)) (bindings_under scope.now) marking store.old fill marks.old store.new result memo.new marks.new }
+    ensures going { result.refusal.number ≡ 0 → GoingIn scope.now.job.now scope.now.rule (bindings_under scope.now) marking store.new result.fill memo.new marks.new }
     ensures loans { SameLoans store.old store.new }
 {
     let a = yield_value(scope, store, fill, memo, marking, marks, left);
@@ -179,11 +179,11 @@ fn act(
     marks: &mut [u32],
     i: u32,
 ) -> Acted
-    requires standing { Standing scope.now.job.now scope.now.found.now (bindings_in scope.now.bound.now scope.now.pairs.now scope.now.globals.now) store.old.kinds.now store.old.ends.now store.old.pool.now store.old.index.now fill memo.old marks.old }
-    requires going_2 { Going scope.now.job.now scope.now.rule (bindings_in scope.now.bound.now scope.now.pairs.now scope.now.globals.now) marking store.old.kinds.now store.old.ends.now store.old.pool.now fill memo.old marks.old }
+    requires standing { StandingIn scope.now.job.now scope.now.found.now (bindings_under scope.now) store.old fill memo.old marks.old }
+    requires going_2 { GoingIn scope.now.job.now scope.now.rule (bindings_under scope.now) marking store.old fill memo.old marks.old }
     requires i_bound { i < (sizes_of scope.now.job.now).actions }
-    ensures acts { Acts (program_for scope.now.job.now) scope.now.rule (action_for scope.now.job.now i) (bindings_in scope.now.bound.now scope.now.pairs.now scope.now.globals.now) marking store.old.kinds.now store.old.ends.now store.old.pool.now store.old.index.now fill marks.old store.new.kinds.now store.new.ends.now store.new.pool.now store.new.index.now result memo.new marks.new }
-    ensures going { result.refusal.number ≡ 0 → Going scope.now.job.now scope.now.rule (bindings_in scope.now.bound.now scope.now.pairs.now scope.now.globals.now) marking store.new.kinds.now store.new.ends.now store.new.pool.now result.fill memo.new marks.new }
+    ensures acts { ActsIn (program_for scope.now.job.now) scope.now.rule (action_for scope.now.job.now i) (bindings_under scope.now) marking store.old fill marks.old store.new result memo.new marks.new }
+    ensures going { result.refusal.number ≡ 0 → GoingIn scope.now.job.now scope.now.rule (bindings_under scope.now) marking store.new result.fill memo.new marks.new }
     ensures loans { SameLoans store.old store.new }
 {
     let action = action_at(scope.job, wide(i));
@@ -227,11 +227,11 @@ pub fn process_action(
     marks: &mut [u32],
     i: u32,
 ) -> Acted
-    requires standing { Standing scope.now.job.now scope.now.found.now (bindings_in scope.now.bound.now scope.now.pairs.now scope.now.globals.now) store.old.kinds.now store.old.ends.now store.old.pool.now store.old.index.now fill memo.old marks.old }
-    requires going_2 { kept ≡ true → Going scope.now.job.now scope.now.rule (bindings_in scope.now.bound.now scope.now.pairs.now scope.now.globals.now) marking store.old.kinds.now store.old.ends.now store.old.pool.now fill memo.old marks.old }
+    requires standing { StandingIn scope.now.job.now scope.now.found.now (bindings_under scope.now) store.old fill memo.old marks.old }
+    requires going_2 { kept ≡ true → GoingIn scope.now.job.now scope.now.rule (bindings_under scope.now) marking store.old fill memo.old marks.old }
     requires i_bound { i < (sizes_of scope.now.job.now).actions }
-    ensures acts { Acts (program_for scope.now.job.now) scope.now.rule (action_for scope.now.job.now i) (bindings_in scope.now.bound.now scope.now.pairs.now scope.now.globals.now) marking store.old.kinds.now store.old.ends.now store.old.pool.now store.old.index.now fill marks.old store.new.kinds.now store.new.ends.now store.new.pool.now store.new.index.now result memo.new marks.new }
-    ensures going { result.refusal.number ≡ 0 → Going scope.now.job.now scope.now.rule (bindings_in scope.now.bound.now scope.now.pairs.now scope.now.globals.now) marking store.new.kinds.now store.new.ends.now store.new.pool.now result.fill memo.new marks.new }
+    ensures acts { ActsIn (program_for scope.now.job.now) scope.now.rule (action_for scope.now.job.now i) (bindings_under scope.now) marking store.old fill marks.old store.new result memo.new marks.new }
+    ensures going { result.refusal.number ≡ 0 → GoingIn scope.now.job.now scope.now.rule (bindings_under scope.now) marking store.new result.fill memo.new marks.new }
     ensures loans { SameLoans store.old store.new }
 {
     new_round_unless(kept, memo);

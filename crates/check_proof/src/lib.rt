@@ -6,13 +6,13 @@ ghost use Rattle.index.specs.Loans.{SameLoans};
 ghost use Rattle.model.specs.Layout.{sizes_of};
 ghost use Rattle.model.specs.Walk.{claim_at, check_proof};
 ghost use Rattle.model.specs.Height.{height};
-ghost use Rattle.termdag.specs.Store.{terms_in, room_of};
-ghost use Rattle.outcome.specs.Does.{Does};
+ghost use Rattle.termdag.specs.Store.{terms_of, room_in};
+ghost use Rattle.outcome.specs.Does.{DoesIn};
 ghost use Rattle.program.specs.Ready.{program_for};
 ghost use Rattle.program.specs.Read.{proofs_for};
 ghost use Rattle.lookups.specs.Keyed.{Keyed};
 ghost use Rattle.normal_form.specs.Search.{Searched};
-ghost use Rattle.check_proof.specs.Checking.{Given};
+ghost use Rattle.check_proof.specs.Checking.{GivenIn};
 
 use context::new_context;
 use index::{Fill, Store};
@@ -32,11 +32,11 @@ fn check_found(
     scratch: &mut [u32],
     asked: u32,
 ) -> Checked
-    requires given { Given job.now store.old.kinds.now store.old.ends.now store.old.pool.now store.old.index.now fill scratch.old }
+    requires given { GivenIn job.now store.old fill scratch.old }
     requires searched { Searched job.now found.now }
     requires keyed { Keyed job.now found.now }
     requires asked_bound { asked < (sizes_of job.now).proofs }
-    ensures does { Does store.old.kinds.now store.old.ends.now store.old.pool.now store.old.index.now fill store.new.kinds.now store.new.ends.now store.new.pool.now store.new.index.now result.fill result.refusal (claim_at (proofs_for job.now) asked) (check_proof (room_of store.old.kinds.now store.old.pool.now) (program_for job.now) (proofs_for job.now) strict asked (terms_in store.old.kinds.now store.old.ends.now store.old.pool.now fill)) }
+    ensures does { DoesIn store.old fill store.new result.fill result.refusal (claim_at (proofs_for job.now) asked) (check_proof (room_in store.old) (program_for job.now) (proofs_for job.now) strict asked (terms_of store.old fill)) }
     ensures high { result.refusal.number ≡ 0 → result.value ≡ height (program_for job.now) (proofs_for job.now) asked }
     ensures loans { SameLoans store.old store.new }
 {
@@ -91,9 +91,9 @@ pub fn check_proof(
     scratch: &mut [u32],
     asked: u32,
 ) -> Checked
-    requires given { Given job.now store.old.kinds.now store.old.ends.now store.old.pool.now store.old.index.now fill scratch.old }
+    requires given { GivenIn job.now store.old fill scratch.old }
     requires asked_bound { asked < (sizes_of job.now).proofs }
-    ensures does { Does store.old.kinds.now store.old.ends.now store.old.pool.now store.old.index.now fill store.new.kinds.now store.new.ends.now store.new.pool.now store.new.index.now result.fill result.refusal (claim_at (proofs_for job.now) asked) (check_proof (room_of store.old.kinds.now store.old.pool.now) (program_for job.now) (proofs_for job.now) strict asked (terms_in store.old.kinds.now store.old.ends.now store.old.pool.now fill)) }
+    ensures does { DoesIn store.old fill store.new result.fill result.refusal (claim_at (proofs_for job.now) asked) (check_proof (room_in store.old) (program_for job.now) (proofs_for job.now) strict asked (terms_of store.old fill)) }
     ensures high { result.refusal.number ≡ 0 → result.value ≡ height (program_for job.now) (proofs_for job.now) asked }
     ensures loans { SameLoans store.old store.new }
 {

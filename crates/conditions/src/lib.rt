@@ -8,14 +8,14 @@ ghost use Rattle.model.specs.Layout.{sizes_of};
 ghost use Rattle.model.specs.Term.{Term};
 ghost use Rattle.model.specs.Program.{equal, bare, Binding};
 ghost use Rattle.model.specs.Fact as model;
-ghost use Rattle.termdag.specs.Store.{terms_in, Indexed, room_of};
+ghost use Rattle.termdag.specs.Store.{terms_of, IndexedIn, room_in};
 ghost use Rattle.memo.specs.Memo.{Past};
 ghost use Rattle.outcome.specs.Does.{outcome_of};
 ghost use Rattle.program.specs.Ready.{Ready, program_for, option_of};
 ghost use Rattle.lookups.specs.Keyed.{Keyed};
 ghost use Rattle.program.specs.Read.{expr_for, fact_for};
-ghost use Rattle.evaluate.specs.Value.{bindings_in};
-ghost use Rattle.evaluate.specs.Evaluation.{Checks};
+ghost use Rattle.evaluate.specs.Value.{bindings_under};
+ghost use Rattle.evaluate.specs.Evaluation.{ChecksIn};
 ghost use Rattle.conditions.specs.Bound.{bound_over};
 
 use cells::wide;
@@ -53,11 +53,11 @@ pub struct Condition {
 fn eval_side(scope: &Scope<'_>, store: &mut Store<'_>, fill: Fill, memo: &mut [u32], e: u32) -> Side
     requires ready { Ready scope.now.job.now }
     requires keyed { Keyed scope.now.job.now scope.now.found.now }
-    requires indexed { Indexed store.old.kinds.now store.old.ends.now store.old.pool.now store.old.index.now fill }
+    requires indexed { IndexedIn store.old fill }
     requires job_in_bounds { (sizes_of scope.now.job.now).expressions + (sizes_of scope.now.job.now).expressions < length memo.old }
     requires past { Past memo.old }
     requires e_bound { e < (sizes_of scope.now.job.now).expressions }
-    ensures does { Checks store.old.kinds.now store.old.ends.now store.old.pool.now store.old.index.now fill store.new.kinds.now store.new.ends.now store.new.pool.now store.new.index.now result.fill result.refusal (option_of result.value) memo.new (model.eval_side (room_of store.old.kinds.now store.old.pool.now) (program_for scope.now.job.now) scope.now.rule (bindings_in scope.now.bound.now scope.now.pairs.now scope.now.globals.now) (expr_for scope.now.job.now e) (terms_in store.old.kinds.now store.old.ends.now store.old.pool.now fill)) }
+    ensures does { ChecksIn store.old fill store.new result.fill result.refusal (option_of result.value) memo.new (model.eval_side (room_in store.old) (program_for scope.now.job.now) scope.now.rule (bindings_under scope.now) (expr_for scope.now.job.now e) (terms_of store.old fill)) }
     ensures loans { SameLoans store.old store.new }
 {
     let variable = variable_of(scope.job, e);
@@ -204,12 +204,12 @@ fn check_equality_condition(
 ) -> Condition
     requires ready { Ready scope.now.job.now }
     requires keyed { Keyed scope.now.job.now scope.now.found.now }
-    requires indexed { Indexed store.old.kinds.now store.old.ends.now store.old.pool.now store.old.index.now fill }
+    requires indexed { IndexedIn store.old fill }
     requires job_in_bounds { (sizes_of scope.now.job.now).expressions + (sizes_of scope.now.job.now).expressions < length memo.old }
     requires past { Past memo.old }
     requires left_bound { left < (sizes_of scope.now.job.now).expressions }
     requires right_bound { right < (sizes_of scope.now.job.now).expressions }
-    ensures does { (strict : Bool) → Checks store.old.kinds.now store.old.ends.now store.old.pool.now store.old.index.now fill store.new.kinds.now store.new.ends.now store.new.pool.now store.new.index.now result.fill result.refusal (bound_over result.binds (bindings_in scope.now.bound.now scope.now.pairs.now scope.now.globals.now)) memo.new (model.check_side_condition (room_of store.old.kinds.now store.old.pool.now) (program_for scope.now.job.now) scope.now.rule (bindings_in scope.now.bound.now scope.now.pairs.now scope.now.globals.now) strict (equal i (expr_for scope.now.job.now left) (expr_for scope.now.job.now right)) (terms_in store.old.kinds.now store.old.ends.now store.old.pool.now fill)) }
+    ensures does { (strict : Bool) → ChecksIn store.old fill store.new result.fill result.refusal (bound_over result.binds (bindings_under scope.now)) memo.new (model.check_side_condition (room_in store.old) (program_for scope.now.job.now) scope.now.rule (bindings_under scope.now) strict (equal i (expr_for scope.now.job.now left) (expr_for scope.now.job.now right)) (terms_of store.old fill)) }
     ensures loans { SameLoans store.old store.new }
 {
     let a = eval_side(scope, store, fill, memo, left);
@@ -239,11 +239,11 @@ fn check_bare_condition(
 ) -> Condition
     requires ready { Ready scope.now.job.now }
     requires keyed { Keyed scope.now.job.now scope.now.found.now }
-    requires indexed { Indexed store.old.kinds.now store.old.ends.now store.old.pool.now store.old.index.now fill }
+    requires indexed { IndexedIn store.old fill }
     requires job_in_bounds { (sizes_of scope.now.job.now).expressions + (sizes_of scope.now.job.now).expressions < length memo.old }
     requires past { Past memo.old }
     requires e_bound { e < (sizes_of scope.now.job.now).expressions }
-    ensures does { Checks store.old.kinds.now store.old.ends.now store.old.pool.now store.old.index.now fill store.new.kinds.now store.new.ends.now store.new.pool.now store.new.index.now result.fill result.refusal (bound_over result.binds (bindings_in scope.now.bound.now scope.now.pairs.now scope.now.globals.now)) memo.new (model.check_side_condition (room_of store.old.kinds.now store.old.pool.now) (program_for scope.now.job.now) scope.now.rule (bindings_in scope.now.bound.now scope.now.pairs.now scope.now.globals.now) strict (bare i (expr_for scope.now.job.now e)) (terms_in store.old.kinds.now store.old.ends.now store.old.pool.now fill)) }
+    ensures does { ChecksIn store.old fill store.new result.fill result.refusal (bound_over result.binds (bindings_under scope.now)) memo.new (model.check_side_condition (room_in store.old) (program_for scope.now.job.now) scope.now.rule (bindings_under scope.now) strict (bare i (expr_for scope.now.job.now e)) (terms_of store.old fill)) }
     ensures loans { SameLoans store.old store.new }
 {
     if strict {
@@ -271,11 +271,11 @@ pub fn check_side_condition(
 ) -> Condition
     requires ready { Ready scope.now.job.now }
     requires keyed { Keyed scope.now.job.now scope.now.found.now }
-    requires indexed { Indexed store.old.kinds.now store.old.ends.now store.old.pool.now store.old.index.now fill }
+    requires indexed { IndexedIn store.old fill }
     requires job_in_bounds { (sizes_of scope.now.job.now).expressions + (sizes_of scope.now.job.now).expressions < length memo.old }
     requires past { Past memo.old }
     requires i_bound { i < (sizes_of scope.now.job.now).facts }
-    ensures does { Checks store.old.kinds.now store.old.ends.now store.old.pool.now store.old.index.now fill store.new.kinds.now store.new.ends.now store.new.pool.now store.new.index.now result.fill result.refusal (bound_over result.binds (bindings_in scope.now.bound.now scope.now.pairs.now scope.now.globals.now)) memo.new (model.check_side_condition (room_of store.old.kinds.now store.old.pool.now) (program_for scope.now.job.now) scope.now.rule (bindings_in scope.now.bound.now scope.now.pairs.now scope.now.globals.now) strict (fact_for scope.now.job.now i) (terms_in store.old.kinds.now store.old.ends.now store.old.pool.now fill)) }
+    ensures does { ChecksIn store.old fill store.new result.fill result.refusal (bound_over result.binds (bindings_under scope.now)) memo.new (model.check_side_condition (room_in store.old) (program_for scope.now.job.now) scope.now.rule (bindings_under scope.now) strict (fact_for scope.now.job.now i) (terms_of store.old fill)) }
     ensures loans { SameLoans store.old store.new }
 {
     let fact = fact_at(scope.job, wide(i));

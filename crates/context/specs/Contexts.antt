@@ -1,5 +1,6 @@
 -- The contract of the global actions: the context that they leave, and what the code keeps of it.
 use Rattle.std.specs.Prelude.{ℕ, ◌+◌, ◌≤◌, ◌≡◌, List, [], ◌∷◌, ◌++◌, Bool, false, ◌||◌, take, drop}
+use Rattle.index.specs.declared.Store.{Store}
 use Rattle.model.specs.Program.{name_global_actions, Proposition, Program, Action}
 use Rattle.model.specs.Decode.{read_bindings}
 use Rattle.model.specs.Evaluate.{same}
@@ -54,6 +55,10 @@ pub record Turned (prog : Program) (a : Action) (K E P I : List ℕ) (f : Fill) 
   pub most : r.bindings ≤ at
   pub unions : r.unions ≤ n + 2
 
+-- The same, of a store.
+abbrev pub TurnedIn : Program → Action → Store → Fill → List ℕ → List ℕ → ℕ → List ℕ → ℕ → Store → Globals → List ℕ → List ℕ → List ℕ → List ℕ → Type 0
+TurnedIn prog a s f m T at U n s' r memo' m' T' U' = Turned prog a s.kinds.now s.ends.now s.pool.now s.index.now f m T at U n s'.kinds.now s'.ends.now s'.pool.now s'.index.now r memo' m' T' U'
+
 -- The global actions, with marks that are not closed yet.
 pub record Collected (prog : Program) (K E P I : List ℕ) (f : Fill) (K' E' P' I' : List ℕ) (r : Globals) (memo' m' T' U' : List ℕ) : Type 0 where
   pub context : ActionContext
@@ -67,6 +72,10 @@ pub record Collected (prog : Program) (K E P I : List ℕ) (f : Fill) (K' E' P' 
   pub table : r.bindings ≤ 512
   pub unions : r.unions ≤ 512
 
+-- The same, of a store.
+abbrev pub CollectedIn : Program → Store → Fill → Store → Globals → List ℕ → List ℕ → List ℕ → List ℕ → Type 0
+CollectedIn prog s f s' r memo' m' T' U' = Collected prog s.kinds.now s.ends.now s.pool.now s.index.now f s'.kinds.now s'.ends.now s'.pool.now s'.index.now r memo' m' T' U'
+
 -- `ProofCheckContext::new`: the context, its bindings in the table from r.bindings on, and its pairs as unions and marks.
 pub record Context (prog : Program) (K E P I : List ℕ) (f : Fill) (K' E' P' I' : List ℕ) (r : Globals) (memo' m' T' U' : List ℕ) : Type 0 where
   pub context : ActionContext
@@ -78,3 +87,7 @@ pub record Context (prog : Program) (K E P I : List ℕ) (f : Fill) (K' E' P' I'
   pub pairs : r.refusal.number ≡ 0 → GlobalPairs context.pairs (take r.unions U') m'
   pub table : r.bindings ≤ 512
   pub unions : r.unions ≤ 512
+
+-- The same, of a store.
+abbrev pub ContextIn : Program → Store → Fill → Store → Globals → List ℕ → List ℕ → List ℕ → List ℕ → Type 0
+ContextIn prog s f s' r memo' m' T' U' = Context prog s.kinds.now s.ends.now s.pool.now s.index.now f s'.kinds.now s'.ends.now s'.pool.now s'.index.now r memo' m' T' U'

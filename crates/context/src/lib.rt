@@ -8,12 +8,12 @@ ghost use Rattle.model.specs.Program as model;
 ghost use Rattle.model.specs.Action.{among};
 ghost use Rattle.model.specs.Decode.{read_bindings};
 ghost use Rattle.decode.specs.View.{proposition_of};
-ghost use Rattle.termdag.specs.Store.{terms_in};
+ghost use Rattle.termdag.specs.Store.{terms_of};
 ghost use Rattle.program.specs.Ready.{program_for};
 ghost use Rattle.program.specs.Read.{action_for};
 ghost use Rattle.marks.specs.Covering.{Marks};
-ghost use Rattle.actions.specs.Acting.{Standing};
-ghost use Rattle.context.specs.Contexts.{unions_have, Even, Joined, GlobalPairs, Turned, Collected, Context};
+ghost use Rattle.actions.specs.Acting.{StandingIn};
+ghost use Rattle.context.specs.Contexts.{unions_have, Even, Joined, GlobalPairs, TurnedIn, CollectedIn, ContextIn};
 
 use actions::{Effect, process_action, push_binding};
 use decode::{Name, Proposition};
@@ -88,13 +88,13 @@ fn global_action(
     n: usize,
     i: u32,
 ) -> Globals
-    requires standing { Standing job.now found.now (read_bindings (drop at table.old)) store.old.kinds.now store.old.ends.now store.old.pool.now store.old.index.now fill memo.old marks.old }
+    requires standing { StandingIn job.now found.now (read_bindings (drop at table.old)) store.old fill memo.old marks.old }
     requires i_bound { i < (sizes_of job.now).actions }
     requires le_at { 2 ≤ at }
     requires at_in_bounds { at ≤ length table.old }
     requires n_in_bounds { n + 2 ≤ length unions.old }
     requires even { Even n }
-    ensures does { Turned (program_for job.now) (action_for job.now i) store.old.kinds.now store.old.ends.now store.old.pool.now store.old.index.now fill marks.old table.old at unions.old n store.new.kinds.now store.new.ends.now store.new.pool.now store.new.index.now result memo.new marks.new table.new unions.new }
+    ensures does { TurnedIn (program_for job.now) (action_for job.now i) store.old fill marks.old table.old at unions.old n store.new result memo.new marks.new table.new unions.new }
     ensures loans { SameLoans store.old store.new }
 {
     let rule = Name::GLOBAL_ACTIONS.number;
@@ -140,11 +140,11 @@ fn global_actions(
     table: &mut [u32],
     unions: &mut [u32],
 ) -> Globals
-    requires standing { Standing job.now found.now [] store.old.kinds.now store.old.ends.now store.old.pool.now store.old.index.now fill memo.old marks.old }
-    requires marks { Marks (terms_in store.old.kinds.now store.old.ends.now store.old.pool.now fill) marks.old [] }
+    requires standing { StandingIn job.now found.now [] store.old fill memo.old marks.old }
+    requires marks { Marks (terms_of store.old fill) marks.old [] }
     requires table_len { length table.old ≡ 512 }
     requires unions_len { length unions.old ≡ 512 }
-    ensures does { Collected (program_for job.now) store.old.kinds.now store.old.ends.now store.old.pool.now store.old.index.now fill store.new.kinds.now store.new.ends.now store.new.pool.now store.new.index.now result memo.new marks.new table.new unions.new }
+    ensures does { CollectedIn (program_for job.now) store.old fill store.new result memo.new marks.new table.new unions.new }
     ensures loans { SameLoans store.old store.new }
 {
     let count = globals(job);
@@ -185,10 +185,10 @@ pub fn new_context(
     table: &mut [u32],
     unions: &mut [u32],
 ) -> Globals
-    requires standing { Standing job.now found.now [] store.old.kinds.now store.old.ends.now store.old.pool.now store.old.index.now fill memo.old marks.old }
+    requires standing { StandingIn job.now found.now [] store.old fill memo.old marks.old }
     requires table_len { length table.old ≡ 512 }
     requires unions_len { length unions.old ≡ 512 }
-    ensures does { Context (program_for job.now) store.old.kinds.now store.old.ends.now store.old.pool.now store.old.index.now fill store.new.kinds.now store.new.ends.now store.new.pool.now store.new.index.now result memo.new marks.new table.new unions.new }
+    ensures does { ContextIn (program_for job.now) store.old fill store.new result memo.new marks.new table.new unions.new }
     ensures loans { SameLoans store.old store.new }
 {
     let duplicate = duplicate_rule_name(job, found);

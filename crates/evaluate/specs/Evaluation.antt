@@ -1,5 +1,6 @@
 -- The contract of the evaluator: its outcome, and its memo.
 use Rattle.std.specs.Prelude as prelude
+use Rattle.index.specs.declared.Store.{Store}
 use Rattle.std.specs.Prelude.{Some, None}
 use Rattle.std.specs.Prelude.{ℕ, ◌+◌, ◌<◌, ◌≡◌, ◌⊎◌, true, false, length, get_or, set}
 use mathlib.Core.List.{List, Memᴰ}
@@ -53,6 +54,10 @@ pub record Evaluates (args : ℕ → List ℕ) (eval : Room → ℕ → Check �
   pub memo : r.refusal.number ≡ 0 → Memo args (eval (room_of K P)) n (terms_in K' E' P' r.fill) m'
   pub noted : r.refusal.number ≡ 0 → Noted args n e m m'
 
+-- The same, of a store.
+abbrev pub EvaluatesIn : (ℕ → List ℕ) → (Room → ℕ → Check ℕ) → ℕ → ℕ → Store → Fill → List ℕ → Store → Checked → List ℕ → Type 0
+EvaluatesIn args eval n e s f m s' r m' = Evaluates args eval n e s.kinds.now s.ends.now s.pool.now s.index.now f m s'.kinds.now s'.ends.now s'.pool.now s'.index.now r m'
+
 -- The evaluation of e in a round that may have begun before: what is noted then is e with all below it, and what was noted, whose values are Old.
 pub record EvaluatesMore (Old : ℕ → Type 0) (args : ℕ → List ℕ) (eval : Room → ℕ → Check ℕ) (n e : ℕ) (K E P I : List ℕ) (f : Fill) (K' E' P' I' : List ℕ) (r : Checked) (m' : List ℕ) : Type 0 where
   pub does : Does K E P I f K' E' P' I' r.fill r.refusal r.value (eval (room_of K P) e (terms_in K E P f))
@@ -65,7 +70,15 @@ pub record EvaluatesMore (Old : ℕ → Type 0) (args : ℕ → List ℕ) (eval 
 abbrev pub EvaluatesRoot : (ℕ → List ℕ) → (Room → ℕ → Check ℕ) → ℕ → ℕ → List ℕ → List ℕ → List ℕ → List ℕ → Fill → List ℕ → List ℕ → List ℕ → List ℕ → Checked → List ℕ → Type 0
 EvaluatesRoot = EvaluatesMore (λ _. ⊥)
 
+-- The same, of a store.
+abbrev pub EvaluatesRootIn : (ℕ → List ℕ) → (Room → ℕ → Check ℕ) → ℕ → ℕ → Store → Fill → Store → Checked → List ℕ → Type 0
+EvaluatesRootIn args eval n e s f s' r m' = EvaluatesRoot args eval n e s.kinds.now s.ends.now s.pool.now s.index.now f s'.kinds.now s'.ends.now s'.pool.now s'.index.now r m'
+
 -- The contract of a check that evaluates: value a or refusal r, and the terms after, are the outcome o of the definition; after a value the memo m' can be used again.
 pub record Checks {A : Type 0} (K E P I : List ℕ) (f : Fill) (K' E' P' I' : List ℕ) (f' : Fill) (r : Refusal) (a : A) (m' : List ℕ) (o : Outcome A) : Type 0 where
   pub does : Does K E P I f K' E' P' I' f' r a o
   pub past : r.number ≡ 0 → Past m'
+
+-- The same, of a store.
+abbrev pub ChecksIn : {A : Type 0} → Store → Fill → Store → Fill → Refusal → A → List ℕ → Outcome A → Type 0
+ChecksIn s f s' f' r a m' o = Checks s.kinds.now s.ends.now s.pool.now s.index.now f s'.kinds.now s'.ends.now s'.pool.now s'.index.now f' r a m' o

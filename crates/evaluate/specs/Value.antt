@@ -1,5 +1,6 @@
 -- The value of an expression, without the pairs: of `eval_expr_with_subst` and of the method of `ProofStore` that has the same name.
 use Rattle.std.specs.Prelude.{ℕ, ◌≡◌, Bool, true, false, cond}
+use Rattle.evaluate.specs.declared.Scope.{Scope}
 use mathlib.Core.List.{List, [], ◌∷◌, ◌++◌, Memᴰ}
 use Rattle.model.specs.Term.{lit, app}
 use Rattle.model.specs.Program.{Head, literal, variable, constructor, custom, primitive, Expr, node, Exprs, nil, cons, Binding, Program}
@@ -44,6 +45,10 @@ module _ (fact : Bool) (room : Room) (prog : Program) (rule : ℕ) (σ : List Bi
 -- The bindings of three runs of pairs: what conditions and lets bound, the latest first; a substitution; the globals.
 abbrev pub bindings_in : List ℕ → List ℕ → List ℕ → List Binding
 bindings_in B S G = read_bindings B ++ (read_bindings S ++ read_bindings G)
+
+-- Those of a scope.
+abbrev pub bindings_under : Scope → List Binding
+bindings_under s = bindings_in s.bound.now s.pairs.now s.globals.now
 
 -- The value of expression e, by the code's definition and by the definitions of the two evaluators.
 abbrev pub eval_for : Bool → List ℕ → ℕ → List Binding → Room → ℕ → Check ℕ

@@ -10,16 +10,16 @@ ghost use Rattle.model.specs.Program.{Binding};
 ghost use Rattle.model.specs.Program as Program;
 ghost use Rattle.model.specs.Check.{or_refuse, add_node};
 ghost use Rattle.model.specs.Evaluate.{lookup, validated};
-ghost use Rattle.termdag.specs.Store.{terms_in, Indexed, room_of, Known};
+ghost use Rattle.termdag.specs.Store.{terms_of, IndexedIn, room_in, Known};
 ghost use Rattle.program.specs.Ready.{Ready, program_for, option_of};
 ghost use Rattle.lookups.specs.Keyed.{Keyed};
 ghost use Rattle.decode.specs.View.{head_of};
 ghost use Rattle.decode.specs.declared.Head as heads;
 ghost use Rattle.memo.specs.Memo.{is_noted, Past};
-ghost use Rattle.outcome.specs.Does.{outcome_of, Does};
+ghost use Rattle.outcome.specs.Does.{outcome_of, DoesIn};
 ghost use Rattle.program.specs.Read.{head_for, arguments_for};
-ghost use Rattle.evaluate.specs.Value.{custom_term, head_term, bindings_in, eval_for, value_for};
-ghost use Rattle.evaluate.specs.Evaluation.{Memo, Knows, KnowsFirst, Evaluates, EvaluatesRoot};
+ghost use Rattle.evaluate.specs.Value.{custom_term, head_term, bindings_under, eval_for, value_for};
+ghost use Rattle.evaluate.specs.Evaluation.{Memo, Knows, KnowsFirst, EvaluatesIn, EvaluatesRootIn};
 
 use cells::wide;
 use computing::{computed, find_computed};
@@ -45,7 +45,7 @@ pub struct Scope<'a> {
 
 // The term bound to a name: by conditions and lets, by the substitution, by the globals.
 pub fn lookup(scope: &Scope<'_>, name: u32) -> Option<u32>
-    ensures { option_of result ≡ lookup (bindings_in scope.now.bound.now scope.now.pairs.now scope.now.globals.now) name }
+    ensures { option_of result ≡ lookup (bindings_under scope.now) name }
 {
     let first = lookup_pairs(scope.bound, name);
     if let Some(t) = first {
@@ -70,10 +70,10 @@ fn validated(
 ) -> Checked
     requires ready { Ready job.now }
     requires keyed { Keyed job.now found.now }
-    requires indexed { Indexed store.old.kinds.now store.old.ends.now store.old.pool.now store.old.index.now fill }
+    requires indexed { IndexedIn store.old fill }
     requires p_bound { p < (sizes_of job.now).primitives }
     requires n_nonzero { 0 < n }
-    ensures does { Does store.old.kinds.now store.old.ends.now store.old.pool.now store.old.index.now fill store.new.kinds.now store.new.ends.now store.new.pool.now store.new.index.now result.fill result.refusal result.value (validated (room_of store.old.kinds.now store.old.pool.now) (program_for job.now) n p args.now (terms_in store.old.kinds.now store.old.ends.now store.old.pool.now fill)) }
+    ensures does { DoesIn store.old fill store.new result.fill result.refusal result.value (validated (room_in store.old) (program_for job.now) n p args.now (terms_of store.old fill)) }
     ensures loans { SameLoans store.old store.new }
 {
     let primitive = primitive_at(job, wide(p));
@@ -92,7 +92,7 @@ fn validated(
 // A variable's value.
 pub fn variable(scope: &Scope<'_>, name: u32, fill: Fill) -> Checked
     ensures fill_value { result.fill ≡ fill }
-    ensures s_value { (s : List Term) → outcome_of result.refusal result.value s ≡ or_refuse (lookup (bindings_in scope.now.bound.now scope.now.pairs.now scope.now.globals.now) name) 45 (scope.now.rule ∷ name ∷ []) s }
+    ensures s_value { (s : List Term) → outcome_of result.refusal result.value s ≡ or_refuse (lookup (bindings_under scope.now) name) 45 (scope.now.rule ∷ name ∷ []) s }
 {
     match lookup(scope, name) {
         Some(t) => pass(t, fill),
@@ -109,9 +109,9 @@ fn no_validator(fact: bool) -> u32
 
 // A custom call's value: in an ordinary fact it has none.
 fn custom_value(fact: bool, store: &mut Store<'_>, fill: Fill, f: u32, args: &[u32]) -> Checked
-    requires indexed { Indexed store.old.kinds.now store.old.ends.now store.old.pool.now store.old.index.now fill }
+    requires indexed { IndexedIn store.old fill }
     requires args_len_bound { length args.now ≤ 16 }
-    ensures does { Does store.old.kinds.now store.old.ends.now store.old.pool.now store.old.index.now fill store.new.kinds.now store.new.ends.now store.new.pool.now store.new.index.now result.fill result.refusal result.value (custom_term fact (room_of store.old.kinds.now store.old.pool.now) f args.now (terms_in store.old.kinds.now store.old.ends.now store.old.pool.now fill)) }
+    ensures does { DoesIn store.old fill store.new result.fill result.refusal result.value (custom_term fact (room_in store.old) f args.now (terms_of store.old fill)) }
     ensures loans { SameLoans store.old store.new }
 {
     if fact {
@@ -131,10 +131,10 @@ pub fn head_value(
 ) -> Checked
     requires ready { Ready scope.now.job.now }
     requires keyed { Keyed scope.now.job.now scope.now.found.now }
-    requires indexed { Indexed store.old.kinds.now store.old.ends.now store.old.pool.now store.old.index.now fill }
+    requires indexed { IndexedIn store.old fill }
     requires args_len_bound { length args.now ≤ 16 }
     requires by_index { (p : ℕ) → head ≡ heads.Head.Primitive p → p < (sizes_of scope.now.job.now).primitives }
-    ensures does { Does store.old.kinds.now store.old.ends.now store.old.pool.now store.old.index.now fill store.new.kinds.now store.new.ends.now store.new.pool.now store.new.index.now result.fill result.refusal result.value (head_term fact (room_of store.old.kinds.now store.old.pool.now) (program_for scope.now.job.now) scope.now.rule (bindings_in scope.now.bound.now scope.now.pairs.now scope.now.globals.now) (head_of head) args.now (terms_in store.old.kinds.now store.old.ends.now store.old.pool.now fill)) }
+    ensures does { DoesIn store.old fill store.new result.fill result.refusal result.value (head_term fact (room_in store.old) (program_for scope.now.job.now) scope.now.rule (bindings_under scope.now) (head_of head) args.now (terms_of store.old fill)) }
     ensures loans { SameLoans store.old store.new }
 {
     match head {
@@ -154,7 +154,7 @@ fn known_value(scope: &Scope<'_>, memo: &mut [u32], e: u32) -> Option<u32>
     requires ready { Ready scope.now.job.now }
     requires e_bound { e < (sizes_of scope.now.job.now).expressions }
     requires e_in_bounds { e + e + 2 < length memo.old }
-    ensures { Knows (head_for scope.now.job.now) (bindings_in scope.now.bound.now scope.now.pairs.now scope.now.globals.now) e memo.old result memo.new }
+    ensures { Knows (head_for scope.now.job.now) (bindings_under scope.now) e memo.old result memo.new }
 {
     let at = wide(e);
     if memo::is_noted(memo, at) {
@@ -200,7 +200,7 @@ fn known_values(scope: &Scope<'_>, memo: &mut [u32], args: &[u32], vals: &mut [u
     requires job_in_bounds { (sizes_of scope.now.job.now).expressions + (sizes_of scope.now.job.now).expressions < length memo.old }
     requires args_len_bound { length args.now ≤ 16 }
     requires by_index { (j : ℕ) → j < length args.now → get_or args.now j 0 < (sizes_of scope.now.job.now).expressions }
-    ensures known { KnowsFirst (head_for scope.now.job.now) (bindings_in scope.now.bound.now scope.now.pairs.now scope.now.globals.now) args.now memo.old vals.old result memo.new vals.new }
+    ensures known { KnowsFirst (head_for scope.now.job.now) (bindings_under scope.now) args.now memo.old vals.old result memo.new vals.new }
     ensures next { result < length args.now → is_noted memo.new (get_or args.now result 0) ≡ false }
 {
     let mut i = noted_values(memo, args, vals, 0);
@@ -217,9 +217,9 @@ fn known_values(scope: &Scope<'_>, memo: &mut [u32], args: &[u32], vals: &mut [u
 
 // The value of a call whose term is in the store already.
 fn find_call(store: &Store<'_>, fill: Fill, f: u32, args: &[u32]) -> Option<u32>
-    requires indexed { Indexed store.now.kinds.now store.now.ends.now store.now.pool.now store.now.index.now fill }
+    requires indexed { IndexedIn store.now fill }
     requires args_len_bound { length args.now ≤ 16 }
-    ensures { Known result (add_node (room_of store.now.kinds.now store.now.pool.now) (app f args.now) (terms_in store.now.kinds.now store.now.ends.now store.now.pool.now fill)) (terms_in store.now.kinds.now store.now.ends.now store.now.pool.now fill) }
+    ensures { Known result (add_node (room_in store.now) (app f args.now) (terms_of store.now fill)) (terms_of store.now fill) }
 {
     let mut ws = [0u32; 17];
     ws[0] = f;
@@ -230,9 +230,9 @@ fn find_call(store: &Store<'_>, fill: Fill, f: u32, args: &[u32]) -> Option<u32>
 
 // The value of a custom call whose term is in the store already: none in an ordinary fact.
 fn find_custom(fact: bool, store: &Store<'_>, fill: Fill, f: u32, args: &[u32]) -> Option<u32>
-    requires indexed { Indexed store.now.kinds.now store.now.ends.now store.now.pool.now store.now.index.now fill }
+    requires indexed { IndexedIn store.now fill }
     requires args_len_bound { length args.now ≤ 16 }
-    ensures { Known result (custom_term fact (room_of store.now.kinds.now store.now.pool.now) f args.now (terms_in store.now.kinds.now store.now.ends.now store.now.pool.now fill)) (terms_in store.now.kinds.now store.now.ends.now store.now.pool.now fill) }
+    ensures { Known result (custom_term fact (room_in store.now) f args.now (terms_of store.now fill)) (terms_of store.now fill) }
 {
     if fact {
         return None;
@@ -251,9 +251,9 @@ fn find_validated(
 ) -> Option<u32>
     requires ready { Ready job.now }
     requires keyed { Keyed job.now found.now }
-    requires indexed { Indexed store.now.kinds.now store.now.ends.now store.now.pool.now store.now.index.now fill }
+    requires indexed { IndexedIn store.now fill }
     requires p_bound { p < (sizes_of job.now).primitives }
-    ensures { (n : ℕ) → Known result (validated (room_of store.now.kinds.now store.now.pool.now) (program_for job.now) n p args.now (terms_in store.now.kinds.now store.now.ends.now store.now.pool.now fill)) (terms_in store.now.kinds.now store.now.ends.now store.now.pool.now fill) }
+    ensures { (n : ℕ) → Known result (validated (room_in store.now) (program_for job.now) n p args.now (terms_of store.now fill)) (terms_of store.now fill) }
 {
     let primitive = primitive_at(job, wide(p));
     match primitive.validator {
@@ -275,10 +275,10 @@ fn find_value(
 ) -> Option<u32>
     requires ready { Ready job.now }
     requires keyed { Keyed job.now found.now }
-    requires indexed { Indexed store.now.kinds.now store.now.ends.now store.now.pool.now store.now.index.now fill }
+    requires indexed { IndexedIn store.now fill }
     requires args_len_bound { length args.now ≤ 16 }
     requires by_index { (p : ℕ) → head ≡ heads.Head.Primitive p → p < (sizes_of job.now).primitives }
-    ensures { (rule : ℕ) (σ : List Binding) → Known result (head_term fact (room_of store.now.kinds.now store.now.pool.now) (program_for job.now) rule σ (head_of head) args.now (terms_in store.now.kinds.now store.now.ends.now store.now.pool.now fill)) (terms_in store.now.kinds.now store.now.ends.now store.now.pool.now fill) }
+    ensures { (rule : ℕ) (σ : List Binding) → Known result (head_term fact (room_in store.now) (program_for job.now) rule σ (head_of head) args.now (terms_of store.now fill)) (terms_of store.now fill) }
 {
     match head {
         Head::Lit(l) => find_lit(store, fill, l),
@@ -301,10 +301,10 @@ pub fn eval(
 ) -> Checked
     requires ready { Ready scope.now.job.now }
     requires keyed { Keyed scope.now.job.now scope.now.found.now }
-    requires indexed { Indexed store.old.kinds.now store.old.ends.now store.old.pool.now store.old.index.now fill }
+    requires indexed { IndexedIn store.old fill }
     requires e_bound { e < (sizes_of scope.now.job.now).expressions }
-    requires memo { Memo (arguments_for scope.now.job.now) (eval_for fact scope.now.job.now scope.now.rule (bindings_in scope.now.bound.now scope.now.pairs.now scope.now.globals.now) (room_of store.old.kinds.now store.old.pool.now)) (sizes_of scope.now.job.now).expressions (terms_in store.old.kinds.now store.old.ends.now store.old.pool.now fill) memo.old }
-    ensures does { Evaluates (arguments_for scope.now.job.now) (eval_for fact scope.now.job.now scope.now.rule (bindings_in scope.now.bound.now scope.now.pairs.now scope.now.globals.now)) (sizes_of scope.now.job.now).expressions e store.old.kinds.now store.old.ends.now store.old.pool.now store.old.index.now fill memo.old store.new.kinds.now store.new.ends.now store.new.pool.now store.new.index.now result memo.new }
+    requires memo { Memo (arguments_for scope.now.job.now) (eval_for fact scope.now.job.now scope.now.rule (bindings_under scope.now) (room_in store.old)) (sizes_of scope.now.job.now).expressions (terms_of store.old fill) memo.old }
+    ensures does { EvaluatesIn (arguments_for scope.now.job.now) (eval_for fact scope.now.job.now scope.now.rule (bindings_under scope.now)) (sizes_of scope.now.job.now).expressions e store.old fill memo.old store.new result memo.new }
     ensures loans { SameLoans store.old store.new }
 {
     let root = wide(e);
@@ -368,11 +368,11 @@ pub fn evaluate(
 ) -> Checked
     requires ready { Ready scope.now.job.now }
     requires keyed { Keyed scope.now.job.now scope.now.found.now }
-    requires indexed { Indexed store.old.kinds.now store.old.ends.now store.old.pool.now store.old.index.now fill }
+    requires indexed { IndexedIn store.old fill }
     requires e_bound { e < (sizes_of scope.now.job.now).expressions }
     requires job_in_bounds { (sizes_of scope.now.job.now).expressions + (sizes_of scope.now.job.now).expressions < length memo.old }
     requires past { Past memo.old }
-    ensures does { EvaluatesRoot (arguments_for scope.now.job.now) (value_for fact scope.now.job.now scope.now.rule (bindings_in scope.now.bound.now scope.now.pairs.now scope.now.globals.now)) (sizes_of scope.now.job.now).expressions e store.old.kinds.now store.old.ends.now store.old.pool.now store.old.index.now fill store.new.kinds.now store.new.ends.now store.new.pool.now store.new.index.now result memo.new }
+    ensures does { EvaluatesRootIn (arguments_for scope.now.job.now) (value_for fact scope.now.job.now scope.now.rule (bindings_under scope.now)) (sizes_of scope.now.job.now).expressions e store.old fill store.new result memo.new }
     ensures loans { SameLoans store.old store.new }
 {
     memo::new_round(memo);

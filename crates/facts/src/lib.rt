@@ -11,14 +11,14 @@ ghost use Rattle.model.specs.Decode.{arguments_by};
 ghost use Rattle.model.specs.Evaluate.{eval_fact_exprs};
 ghost use Rattle.model.specs.Fact as model;
 ghost use Rattle.decode.specs.View.{proposition_of};
-ghost use Rattle.termdag.specs.Store.{terms_in, Indexed, room_of};
+ghost use Rattle.termdag.specs.Store.{terms_of, IndexedIn, room_in};
 ghost use Rattle.memo.specs.Memo.{Past};
 ghost use Rattle.outcome.specs.Does.{outcome_of};
 ghost use Rattle.program.specs.Ready.{Ready, program_for, option_of};
 ghost use Rattle.lookups.specs.Keyed.{Keyed};
 ghost use Rattle.program.specs.Read.{expr_for, arguments_for, fact_for};
-ghost use Rattle.evaluate.specs.Value.{bindings_in};
-ghost use Rattle.evaluate.specs.Evaluation.{Checks};
+ghost use Rattle.evaluate.specs.Value.{bindings_under};
+ghost use Rattle.evaluate.specs.Evaluation.{ChecksIn};
 ghost use Rattle.facts.specs.Call.{function_fact_of};
 
 use cells::wide;
@@ -71,12 +71,12 @@ fn evaluate_arguments(
 ) -> Checked
     requires ready { Ready scope.now.job.now }
     requires keyed { Keyed scope.now.job.now scope.now.found.now }
-    requires indexed { Indexed store.old.kinds.now store.old.ends.now store.old.pool.now store.old.index.now fill }
+    requires indexed { IndexedIn store.old fill }
     requires job_in_bounds { (sizes_of scope.now.job.now).expressions + (sizes_of scope.now.job.now).expressions < length memo.old }
     requires past { Past memo.old }
     requires e_bound { e < (sizes_of scope.now.job.now).expressions }
     requires in_bounds { 16 < length values.old }
-    ensures does { Checks store.old.kinds.now store.old.ends.now store.old.pool.now store.old.index.now fill store.new.kinds.now store.new.ends.now store.new.pool.now store.new.index.now result.fill result.refusal (take (length (arguments_for scope.now.job.now e)) values.new) memo.new (eval_fact_exprs (room_of store.old.kinds.now store.old.pool.now) (program_for scope.now.job.now) scope.now.rule (bindings_in scope.now.bound.now scope.now.pairs.now scope.now.globals.now) (arguments_by (expr_for scope.now.job.now) (arguments_for scope.now.job.now e)) (terms_in store.old.kinds.now store.old.ends.now store.old.pool.now fill)) }
+    ensures does { ChecksIn store.old fill store.new result.fill result.refusal (take (length (arguments_for scope.now.job.now e)) values.new) memo.new (eval_fact_exprs (room_in store.old) (program_for scope.now.job.now) scope.now.rule (bindings_under scope.now) (arguments_by (expr_for scope.now.job.now) (arguments_for scope.now.job.now e)) (terms_of store.old fill)) }
     ensures loans { SameLoans store.old store.new }
 {
     let args = arguments_at(scope.job, wide(e));
@@ -118,11 +118,11 @@ fn wanted_call(
 ) -> Asked
     requires ready { Ready scope.now.job.now }
     requires keyed { Keyed scope.now.job.now scope.now.found.now }
-    requires indexed { Indexed store.old.kinds.now store.old.ends.now store.old.pool.now store.old.index.now fill }
+    requires indexed { IndexedIn store.old fill }
     requires job_in_bounds { (sizes_of scope.now.job.now).expressions + (sizes_of scope.now.job.now).expressions < length memo.old }
     requires past { Past memo.old }
     requires e_bound { e < (sizes_of scope.now.job.now).expressions }
-    ensures does { (right : Expr) → Checks store.old.kinds.now store.old.ends.now store.old.pool.now store.old.index.now fill store.new.kinds.now store.new.ends.now store.new.pool.now store.new.index.now result.fill result.refusal (proposition_of result.pair) memo.new (model.wanted_equality (room_of store.old.kinds.now store.old.pool.now) (program_for scope.now.job.now) scope.now.rule (bindings_in scope.now.bound.now scope.now.pairs.now scope.now.globals.now) (expr_for scope.now.job.now e) right (some (record { function = function; variable = variable })) (terms_in store.old.kinds.now store.old.ends.now store.old.pool.now fill)) }
+    ensures does { (right : Expr) → ChecksIn store.old fill store.new result.fill result.refusal (proposition_of result.pair) memo.new (model.wanted_equality (room_in store.old) (program_for scope.now.job.now) scope.now.rule (bindings_under scope.now) (expr_for scope.now.job.now e) right (some (record { function = function; variable = variable })) (terms_of store.old fill)) }
     ensures loans { SameLoans store.old store.new }
 {
     let v = evaluate::variable(scope, variable, fill);
@@ -152,12 +152,12 @@ fn wanted_values(
 ) -> Asked
     requires ready { Ready scope.now.job.now }
     requires keyed { Keyed scope.now.job.now scope.now.found.now }
-    requires indexed { Indexed store.old.kinds.now store.old.ends.now store.old.pool.now store.old.index.now fill }
+    requires indexed { IndexedIn store.old fill }
     requires job_in_bounds { (sizes_of scope.now.job.now).expressions + (sizes_of scope.now.job.now).expressions < length memo.old }
     requires past { Past memo.old }
     requires left_bound { left < (sizes_of scope.now.job.now).expressions }
     requires right_bound { right < (sizes_of scope.now.job.now).expressions }
-    ensures does { Checks store.old.kinds.now store.old.ends.now store.old.pool.now store.old.index.now fill store.new.kinds.now store.new.ends.now store.new.pool.now store.new.index.now result.fill result.refusal (proposition_of result.pair) memo.new (model.wanted_equality (room_of store.old.kinds.now store.old.pool.now) (program_for scope.now.job.now) scope.now.rule (bindings_in scope.now.bound.now scope.now.pairs.now scope.now.globals.now) (expr_for scope.now.job.now left) (expr_for scope.now.job.now right) none (terms_in store.old.kinds.now store.old.ends.now store.old.pool.now fill)) }
+    ensures does { ChecksIn store.old fill store.new result.fill result.refusal (proposition_of result.pair) memo.new (model.wanted_equality (room_in store.old) (program_for scope.now.job.now) scope.now.rule (bindings_under scope.now) (expr_for scope.now.job.now left) (expr_for scope.now.job.now right) none (terms_of store.old fill)) }
     ensures loans { SameLoans store.old store.new }
 {
     memo::new_round(memo);
@@ -180,11 +180,11 @@ fn wanted_bare(
 ) -> Asked
     requires ready { Ready scope.now.job.now }
     requires keyed { Keyed scope.now.job.now scope.now.found.now }
-    requires indexed { Indexed store.old.kinds.now store.old.ends.now store.old.pool.now store.old.index.now fill }
+    requires indexed { IndexedIn store.old fill }
     requires job_in_bounds { (sizes_of scope.now.job.now).expressions + (sizes_of scope.now.job.now).expressions < length memo.old }
     requires past { Past memo.old }
     requires e_bound { e < (sizes_of scope.now.job.now).expressions }
-    ensures does { Checks store.old.kinds.now store.old.ends.now store.old.pool.now store.old.index.now fill store.new.kinds.now store.new.ends.now store.new.pool.now store.new.index.now result.fill result.refusal (proposition_of result.pair) memo.new (model.wanted (room_of store.old.kinds.now store.old.pool.now) (program_for scope.now.job.now) scope.now.rule (bindings_in scope.now.bound.now scope.now.pairs.now scope.now.globals.now) (bare i (expr_for scope.now.job.now e)) (terms_in store.old.kinds.now store.old.ends.now store.old.pool.now fill)) }
+    ensures does { ChecksIn store.old fill store.new result.fill result.refusal (proposition_of result.pair) memo.new (model.wanted (room_in store.old) (program_for scope.now.job.now) scope.now.rule (bindings_under scope.now) (bare i (expr_for scope.now.job.now e)) (terms_of store.old fill)) }
     ensures loans { SameLoans store.old store.new }
 {
     let t = evaluate(scope, true, store, fill, memo, e);
@@ -224,12 +224,12 @@ fn wanted_equality(
 ) -> Asked
     requires ready { Ready scope.now.job.now }
     requires keyed { Keyed scope.now.job.now scope.now.found.now }
-    requires indexed { Indexed store.old.kinds.now store.old.ends.now store.old.pool.now store.old.index.now fill }
+    requires indexed { IndexedIn store.old fill }
     requires job_in_bounds { (sizes_of scope.now.job.now).expressions + (sizes_of scope.now.job.now).expressions < length memo.old }
     requires past { Past memo.old }
     requires left_bound { left < (sizes_of scope.now.job.now).expressions }
     requires right_bound { right < (sizes_of scope.now.job.now).expressions }
-    ensures does { Checks store.old.kinds.now store.old.ends.now store.old.pool.now store.old.index.now fill store.new.kinds.now store.new.ends.now store.new.pool.now store.new.index.now result.fill result.refusal (proposition_of result.pair) memo.new (model.wanted (room_of store.old.kinds.now store.old.pool.now) (program_for scope.now.job.now) scope.now.rule (bindings_in scope.now.bound.now scope.now.pairs.now scope.now.globals.now) (equal i (expr_for scope.now.job.now left) (expr_for scope.now.job.now right)) (terms_in store.old.kinds.now store.old.ends.now store.old.pool.now fill)) }
+    ensures does { ChecksIn store.old fill store.new result.fill result.refusal (proposition_of result.pair) memo.new (model.wanted (room_in store.old) (program_for scope.now.job.now) scope.now.rule (bindings_under scope.now) (equal i (expr_for scope.now.job.now left) (expr_for scope.now.job.now right)) (terms_of store.old fill)) }
     ensures loans { SameLoans store.old store.new }
 {
     let call = function_fact(scope.job, left, right);
@@ -243,11 +243,11 @@ fn wanted_equality(
 fn wanted(scope: &Scope<'_>, store: &mut Store<'_>, fill: Fill, memo: &mut [u32], i: u32) -> Asked
     requires ready { Ready scope.now.job.now }
     requires keyed { Keyed scope.now.job.now scope.now.found.now }
-    requires indexed { Indexed store.old.kinds.now store.old.ends.now store.old.pool.now store.old.index.now fill }
+    requires indexed { IndexedIn store.old fill }
     requires job_in_bounds { (sizes_of scope.now.job.now).expressions + (sizes_of scope.now.job.now).expressions < length memo.old }
     requires past { Past memo.old }
     requires i_bound { i < (sizes_of scope.now.job.now).facts }
-    ensures does { Checks store.old.kinds.now store.old.ends.now store.old.pool.now store.old.index.now fill store.new.kinds.now store.new.ends.now store.new.pool.now store.new.index.now result.fill result.refusal (proposition_of result.pair) memo.new (model.wanted (room_of store.old.kinds.now store.old.pool.now) (program_for scope.now.job.now) scope.now.rule (bindings_in scope.now.bound.now scope.now.pairs.now scope.now.globals.now) (fact_for scope.now.job.now i) (terms_in store.old.kinds.now store.old.ends.now store.old.pool.now fill)) }
+    ensures does { ChecksIn store.old fill store.new result.fill result.refusal (proposition_of result.pair) memo.new (model.wanted (room_in store.old) (program_for scope.now.job.now) scope.now.rule (bindings_under scope.now) (fact_for scope.now.job.now i) (terms_of store.old fill)) }
     ensures loans { SameLoans store.old store.new }
 {
     let fact = fact_at(scope.job, wide(i));
@@ -343,11 +343,11 @@ pub fn check_fact_matches_proposition(
 ) -> Checked
     requires ready { Ready scope.now.job.now }
     requires keyed { Keyed scope.now.job.now scope.now.found.now }
-    requires indexed { Indexed store.old.kinds.now store.old.ends.now store.old.pool.now store.old.index.now fill }
+    requires indexed { IndexedIn store.old fill }
     requires job_in_bounds { (sizes_of scope.now.job.now).expressions + (sizes_of scope.now.job.now).expressions < length memo.old }
     requires past { Past memo.old }
     requires i_bound { i < (sizes_of scope.now.job.now).facts }
-    ensures does { Checks store.old.kinds.now store.old.ends.now store.old.pool.now store.old.index.now fill store.new.kinds.now store.new.ends.now store.new.pool.now store.new.index.now result.fill result.refusal tt memo.new (model.check_fact_matches_proposition (room_of store.old.kinds.now store.old.pool.now) (program_for scope.now.job.now) scope.now.rule (bindings_in scope.now.bound.now scope.now.pairs.now scope.now.globals.now) (fact_for scope.now.job.now i) (proposition_of q) (terms_in store.old.kinds.now store.old.ends.now store.old.pool.now fill)) }
+    ensures does { ChecksIn store.old fill store.new result.fill result.refusal tt memo.new (model.check_fact_matches_proposition (room_in store.old) (program_for scope.now.job.now) scope.now.rule (bindings_under scope.now) (fact_for scope.now.job.now i) (proposition_of q) (terms_of store.old fill)) }
     ensures loans { SameLoans store.old store.new }
 {
     let w = wanted(scope, store, fill, memo, i);

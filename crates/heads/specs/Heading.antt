@@ -1,5 +1,6 @@
 -- The contracts of rule heads and merges.
 use Rattle.std.specs.Prelude.{ℕ, ◌<◌, ◌≡◌, List, [], ◌∷◌, map, Bool, true, false, length}
+use Rattle.index.specs.declared.Store.{Store}
 use Rattle.model.specs.Layout.{sizes_of}
 use Rattle.model.specs.Term.{Extends}
 use Rattle.model.specs.Program.{Proposition, Binding, Program, Action, run, Rule}
@@ -41,8 +42,16 @@ pub record Heads (prog : Program) (rule : ℕ) (as' : List Action) (σ : List Bi
   pub others : r.refusal.number ≡ 0 → (q.lhs ≡ q.rhs → ⊥) → among q context.pairs ≡ r.found
   pub marks : r.refusal.number ≡ 0 → marking ≡ true → Marks (terms_in K E P f) m [] → Marks (terms_in K' E' P' r.fill) m' context.pairs
 
+-- The same, of a store.
+abbrev pub HeadsIn : Program → ℕ → List Action → List Binding → Proposition → Bool → Store → Fill → List ℕ → Store → Headed → List ℕ → List ℕ → Type 0
+HeadsIn prog rule as' σ q marking s f m s' r memo' m' = Heads prog rule as' σ q marking s.kinds.now s.ends.now s.pool.now s.index.now f m s'.kinds.now s'.ends.now s'.pool.now s'.index.now r memo' m'
+
 -- A head that must produce the pair q: the outcome is the definition's, and after a value the store is sane.
 pub record Produces (prog : Program) (rule : Rule) (σ : List Binding) (q : Proposition) (K E P I : List ℕ) (f : Fill) (K' E' P' I' : List ℕ) (r : Checked) (memo' : List ℕ) : Type 0 where
   pub checks : Checks K E P I f K' E' P' I' r.fill r.refusal tt memo' (check_rule_produces_equality (room_of K P) prog rule σ q (terms_in K E P f))
   pub grows : r.refusal.number ≡ 0 → Extends (terms_in K E P f) (terms_in K' E' P' r.fill)
   pub sane : r.refusal.number ≡ 0 → Sane prog σ (terms_in K' E' P' r.fill)
+
+-- The same, of a store.
+abbrev pub ProducesIn : Program → Rule → List Binding → Proposition → Store → Fill → Store → Checked → List ℕ → Type 0
+ProducesIn prog rule σ q s f s' r memo' = Produces prog rule σ q s.kinds.now s.ends.now s.pool.now s.index.now f s'.kinds.now s'.ends.now s'.pool.now s'.index.now r memo'

@@ -10,14 +10,14 @@ ghost use Rattle.model.specs.Program.{Rule, run};
 ghost use Rattle.model.specs.Check.{check_that};
 ghost use Rattle.model.specs.Action as model;
 ghost use Rattle.decode.specs.View.{proposition_of};
-ghost use Rattle.termdag.specs.Store.{terms_in, Stored, room_of};
+ghost use Rattle.termdag.specs.Store.{terms_of, StoredIn, room_in};
 ghost use Rattle.outcome.specs.Does.{outcome_of};
 ghost use Rattle.marks.specs.Marks as closing;
 ghost use Rattle.program.specs.Ready.{Ready, program_for, rule_for, option_of};
 ghost use Rattle.program.specs.Read.{expr_for, action_for};
-ghost use Rattle.evaluate.specs.Value.{bindings_in};
-ghost use Rattle.actions.specs.Acting.{Standing, Steady, Yields, effect_has};
-ghost use Rattle.heads.specs.Heading.{cleared_if, claimed_by, LoneRun, Heads, Produces};
+ghost use Rattle.evaluate.specs.Value.{bindings_under};
+ghost use Rattle.actions.specs.Acting.{StandingIn, Steady, YieldsIn, effect_has};
+ghost use Rattle.heads.specs.Heading.{cleared_if, claimed_by, LoneRun, HeadsIn, ProducesIn};
 
 use actions::{Effect, process_action, push_binding, yield_value};
 use cells::wide;
@@ -61,7 +61,7 @@ fn is_none(l: Option<u32>) -> bool
 
 // After an action the values noted stand: it bound no name, or one that was not bound.
 fn is_steady(scope: &Scope<'_>, effect: Effect) -> bool
-    ensures { result ≡ true → Steady effect (bindings_in scope.now.bound.now scope.now.pairs.now scope.now.globals.now) }
+    ensures { result ≡ true → Steady effect (bindings_under scope.now) }
 {
     match effect {
         Effect::Bind(x, _) => is_none(lookup(scope, x)),
@@ -81,11 +81,11 @@ fn head_actions(
     actions: &[u32],
     q: Proposition,
 ) -> Headed
-    requires standing { Standing scope.now.job.now scope.now.found.now (bindings_in scope.now.bound.now scope.now.pairs.now scope.now.globals.now) store.old.kinds.now store.old.ends.now store.old.pool.now store.old.index.now fill memo.old marks.old }
+    requires standing { StandingIn scope.now.job.now scope.now.found.now (bindings_under scope.now) store.old fill memo.old marks.old }
     requires bound_len_bound { length scope.now.bound.now ≤ 32 }
     requires actions_len_bound { length actions.now ≤ 64 }
     requires by_index { (i : ℕ) → i < length actions.now → get_or actions.now i 0 < (sizes_of scope.now.job.now).actions }
-    ensures does { Heads (program_for scope.now.job.now) scope.now.rule (map (action_for scope.now.job.now) actions.now) (bindings_in scope.now.bound.now scope.now.pairs.now scope.now.globals.now) (proposition_of q) marking store.old.kinds.now store.old.ends.now store.old.pool.now store.old.index.now fill marks.old store.new.kinds.now store.new.ends.now store.new.pool.now store.new.index.now result memo.new marks.new }
+    ensures does { HeadsIn (program_for scope.now.job.now) scope.now.rule (map (action_for scope.now.job.now) actions.now) (bindings_under scope.now) (proposition_of q) marking store.old fill marks.old store.new result memo.new marks.new }
     ensures loans { SameLoans store.old store.new }
 {
     let mut table = [0u32; 160];
@@ -137,8 +137,8 @@ pub fn clear_if(marking: bool, marks: &mut [u32])
 
 // A reflexive pair is among the pairs that the marks stand for: its term is marked, or is once they are closed.
 fn is_covered(store: &Store<'_>, fill: Fill, marks: &mut [u32], t: u32) -> bool
-    requires { Stored store.now.kinds.now store.now.ends.now store.now.pool.now fill }
-    ensures { result ≡ closing.is_marked (closing.close (terms_in store.now.kinds.now store.now.ends.now store.now.pool.now fill) fill.cells marks.old) t }
+    requires { StoredIn store.now fill }
+    ensures { result ≡ closing.is_marked (closing.close (terms_of store.now fill) fill.cells marks.old) t }
 {
     if marks::is_marked(marks, t) {
         return true;
@@ -156,8 +156,8 @@ pub fn is_claimed(
     found: bool,
     t: u32,
 ) -> bool
-    requires { Stored store.now.kinds.now store.now.ends.now store.now.pool.now fill }
-    ensures { result ≡ claimed_by marking found (closing.is_marked (closing.close (terms_in store.now.kinds.now store.now.ends.now store.now.pool.now fill) fill.cells marks.old) t) }
+    requires { StoredIn store.now fill }
+    ensures { result ≡ claimed_by marking found (closing.is_marked (closing.close (terms_of store.now fill) fill.cells marks.old) t) }
 {
     if !marking {
         return found;
@@ -215,10 +215,10 @@ fn run_produces(
     e: u32,
     q: Proposition,
 ) -> Checked
-    requires standing { Standing scope.now.job.now scope.now.found.now (bindings_in scope.now.bound.now scope.now.pairs.now scope.now.globals.now) store.old.kinds.now store.old.ends.now store.old.pool.now store.old.index.now fill memo.old marks.old }
+    requires standing { StandingIn scope.now.job.now scope.now.found.now (bindings_under scope.now) store.old fill memo.old marks.old }
     requires e_bound { e < (sizes_of scope.now.job.now).expressions }
     requires lhs_value { q.lhs ≡ q.rhs }
-    ensures does { (t : Rule) → scope.now.rule ≡ t.name → run (expr_for scope.now.job.now e) ∷ [] ≡ t.actions → Produces (program_for scope.now.job.now) t (bindings_in scope.now.bound.now scope.now.pairs.now scope.now.globals.now) (proposition_of q) store.old.kinds.now store.old.ends.now store.old.pool.now store.old.index.now fill store.new.kinds.now store.new.ends.now store.new.pool.now store.new.index.now result memo.new }
+    ensures does { (t : Rule) → scope.now.rule ≡ t.name → run (expr_for scope.now.job.now e) ∷ [] ≡ t.actions → ProducesIn (program_for scope.now.job.now) t (bindings_under scope.now) (proposition_of q) store.old fill store.new result memo.new }
     ensures loans { SameLoans store.old store.new }
 {
     let v = evaluate(scope, false, store, fill, memo, e);
@@ -245,10 +245,10 @@ pub fn check_rule_produces_equality(
     r: usize,
     q: Proposition,
 ) -> Checked
-    requires standing { Standing scope.now.job.now scope.now.found.now (bindings_in scope.now.bound.now scope.now.pairs.now scope.now.globals.now) store.old.kinds.now store.old.ends.now store.old.pool.now store.old.index.now fill memo.old marks.old }
+    requires standing { StandingIn scope.now.job.now scope.now.found.now (bindings_under scope.now) store.old fill memo.old marks.old }
     requires bound_len_bound { length scope.now.bound.now ≤ 32 }
     requires r_bound { r < (sizes_of scope.now.job.now).rules }
-    ensures does { Produces (program_for scope.now.job.now) (rule_for scope.now.job.now r) (bindings_in scope.now.bound.now scope.now.pairs.now scope.now.globals.now) (proposition_of q) store.old.kinds.now store.old.ends.now store.old.pool.now store.old.index.now fill store.new.kinds.now store.new.ends.now store.new.pool.now store.new.index.now result memo.new }
+    ensures does { ProducesIn (program_for scope.now.job.now) (rule_for scope.now.job.now r) (bindings_under scope.now) (proposition_of q) store.old fill store.new result memo.new }
     ensures loans { SameLoans store.old store.new }
 {
     let marking = q.lhs == q.rhs;
@@ -287,8 +287,8 @@ pub fn run_merge(
     old: u32,
     new: u32,
 ) -> Checked
-    requires { Standing job.now found.now (model.merge_bindings old new) store.old.kinds.now store.old.ends.now store.old.pool.now store.old.index.now fill memo.old marks.old }
-    ensures does { Yields (program_for job.now) (model.merge_bindings old new) (model.run_merge (room_of store.old.kinds.now store.old.pool.now) (program_for job.now) function old new (terms_in store.old.kinds.now store.old.ends.now store.old.pool.now fill)) marking store.old.kinds.now store.old.ends.now store.old.pool.now store.old.index.now fill marks.old store.new.kinds.now store.new.ends.now store.new.pool.now store.new.index.now result memo.new marks.new }
+    requires { StandingIn job.now found.now (model.merge_bindings old new) store.old fill memo.old marks.old }
+    ensures does { YieldsIn (program_for job.now) (model.merge_bindings old new) (model.run_merge (room_in store.old) (program_for job.now) function old new (terms_of store.old fill)) marking store.old fill marks.old store.new result memo.new marks.new }
     ensures loans { SameLoans store.old store.new }
 {
     let merge = merge_of(job, found, function);

@@ -1,5 +1,6 @@
 -- An index of cells: slots that list the cells of a table by their numbers, each met from the slot that its mix gives.
 use Rattle.std.specs.Prelude.{◌≡◌, Some, None, ℕ, ◌+◌, ◌<◌, ◌≤◌, Bool, List, [], ◌∷◌, ◌++◌, length, replicate, ◌≢◌, slice_index_or, slice_set}
+use Rattle.index.specs.declared.Store.{Store}
 use Rattle.model.specs.Cell.{Cell, no_cell, same_cell, tabulate, cells_of}
 use Rattle.cells.specs.Table.{Formed, find_cell, Once, Ran, Result}
 use Rattle.cells.specs.declared.Fill.{Fill as TableFill}
@@ -47,11 +48,19 @@ pub record Ready (K E P I : List ℕ) (f : Fill) : Type 0 where
   pub lists : Lists f.multiplier I (cells_of K E P f.cells)
   pub room : length K < length I
 
+-- The same, of a store.
+abbrev pub ReadyIn : Store → Fill → Type 0
+ReadyIn s f = Ready s.kinds.now s.ends.now s.pool.now s.index.now f
+
 -- The contract of adding a cell by the index: what adding by comparing with every cell gives, and the index lists the cells after.
 pub record Kept (K E P I : List ℕ) (f : Fill) (K' E' P' I' : List ℕ) (a : Added) (r : Result) : Type 0 where
   pub ran : Ran K E P (table_fill f) K' E' P' (table_added a) r
   pub lists : Lists a.fill.multiplier I' (cells_of K' E' P' a.fill.cells)
   pub len_i : length I' ≡ length I
+
+-- The same, of a store.
+abbrev pub KeptIn : Store → Fill → Store → Added → Result → Type 0
+KeptIn s f s' a r = Kept s.kinds.now s.ends.now s.pool.now s.index.now f s'.kinds.now s'.ends.now s'.pool.now s'.index.now a r
 
 -- The index after the cells have been listed one by one, and how many comparisons that took.
 pub data Built : ℕ → List Cell → List ℕ → ℕ → Type 0 where

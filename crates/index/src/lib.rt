@@ -6,7 +6,7 @@ ghost use Rattle.index.specs.Loans.{SameLoans};
 ghost use Rattle.model.specs.Cell.{cell_at, cells_of};
 ghost use Rattle.cells.specs.Table.{Formed, Once, add_cell, table_of};
 ghost use Rattle.index.specs.Mixing.{golden, multiplier_of, times, stirred, spread, mix_of, slot_of};
-ghost use Rattle.index.specs.Listing.{Lists, Looked, table_fill, Ready, Kept, Enlisted, Filled};
+ghost use Rattle.index.specs.Listing.{Lists, Looked, table_fill, ReadyIn, KeptIn, Enlisted, Filled};
 
 use cells::{same, wide, words};
 use std::num::wrapping_add_u32;
@@ -230,8 +230,8 @@ fn with_multiplier(a: cells::Added, multiplier: u32) -> Added
 
 // The number of an equal cell, else of the cell appended, which the index then lists.
 pub fn add(store: &mut Store<'_>, fill: Fill, kind: u32, ws: &[u32]) -> Added
-    requires { Ready store.old.kinds.now store.old.ends.now store.old.pool.now store.old.index.now fill }
-    ensures does { Kept store.old.kinds.now store.old.ends.now store.old.pool.now store.old.index.now fill store.new.kinds.now store.new.ends.now store.new.pool.now store.new.index.now result (add_cell (record { kind = kind; words = ws.now }) (table_of store.old.kinds.now store.old.ends.now store.old.pool.now (table_fill fill))) }
+    requires { ReadyIn store.old fill }
+    ensures does { KeptIn store.old fill store.new result (add_cell (record { kind = kind; words = ws.now }) (table_of store.old.kinds.now store.old.ends.now store.old.pool.now (table_fill fill))) }
     ensures loans { SameLoans store.old store.new }
 {
     let kinds = &mut *store.kinds;

@@ -11,7 +11,7 @@ ghost use Rattle.model.specs.Evaluate.{row_value};
 ghost use Rattle.model.specs.Action.{merge_of};
 ghost use Rattle.model.specs.Normalize.{normaliser_of, normalize_app, normalize_container};
 ghost use Rattle.model.specs.Walk.{duplicate_rule_name};
-ghost use Rattle.termdag.specs.Store.{terms_in, Stored};
+ghost use Rattle.termdag.specs.Store.{terms_of, StoredIn};
 ghost use Rattle.chains.specs.Chains.{has_key, same_key, Within, FirstHit, Differ};
 ghost use Rattle.program.specs.Ready.{Held, Ready, tables_for, table_for, count_for, program_for, option_of, FindsCell, FindsRule, Merges};
 ghost use Rattle.lookups.specs.Keyed.{words_in, ChainedTable, Keyed};
@@ -321,12 +321,18 @@ fn normalize_app(job: &[u32], found: &[u32], t: u32, head: u32, args: &[u32]) ->
 }
 
 // A container's normal form, in the store of terms; what is no application stays as it is.
-pub fn normalize_container(job: &[u32], found: &[u32], store: &Store<'_>, sfill: Fill, t: u32) -> u32
+pub fn normalize_container(
+    job: &[u32],
+    found: &[u32],
+    store: &Store<'_>,
+    sfill: Fill,
+    t: u32,
+) -> u32
     requires ready { Ready job.now }
     requires keyed { Keyed job.now found.now }
-    requires stored { Stored store.now.kinds.now store.now.ends.now store.now.pool.now sfill }
+    requires stored { StoredIn store.now sfill }
     requires t_lt_cells { t < sfill.cells }
-    ensures { (room : Room) → normalize_container room (program_for job.now) t (terms_in store.now.kinds.now store.now.ends.now store.now.pool.now sfill) ≡ ok result (terms_in store.now.kinds.now store.now.ends.now store.now.pool.now sfill) }
+    ensures { (room : Room) → normalize_container room (program_for job.now) t (terms_of store.now sfill) ≡ ok result (terms_of store.now sfill) }
 {
     let n = wide(t);
     let term = termdag::get(store, sfill, n);

@@ -2,7 +2,7 @@
 #![tactic(auto)]
 
 ghost use Rattle.std.specs.Prelude.{◌≡◌, true, false, ℕ, ◌-◌, ◌<◌, ◌≤◌, ◌^◌, length};
-ghost use Rattle.termdag.specs.Store.{terms_in, Stored};
+ghost use Rattle.termdag.specs.Store.{terms_of, StoredIn};
 ghost use Rattle.marks.specs.Marks.{zeros, words_for, is_marked, with_mark, mark_all, close_at, close};
 
 use cells::wide;
@@ -56,9 +56,9 @@ pub fn mark_all(marks: &mut [u32], xs: &[u32])
 
 // If term i is marked, marks its children.
 fn close_at(store: &Store<'_>, fill: Fill, i: usize, marks: &mut [u32])
-    requires stored { Stored store.now.kinds.now store.now.ends.now store.now.pool.now fill }
+    requires stored { StoredIn store.now fill }
     requires i_lt_cells { i < fill.cells }
-    ensures { marks.new ≡ close_at (terms_in store.now.kinds.now store.now.ends.now store.now.pool.now fill) i marks.old (is_marked marks.old i) }
+    ensures { marks.new ≡ close_at (terms_of store.now fill) i marks.old (is_marked marks.old i) }
 {
     if !is_marked(marks, i as u32) {
         return;
@@ -84,8 +84,8 @@ fn is_bare(marks: &[u32], i: usize) -> bool
 
 // From the top number down, each marked term marks its children; a word without a mark is stepped over.
 pub fn close(store: &Store<'_>, fill: Fill, marks: &mut [u32])
-    requires { Stored store.now.kinds.now store.now.ends.now store.now.pool.now fill }
-    ensures { marks.new ≡ close (terms_in store.now.kinds.now store.now.ends.now store.now.pool.now fill) fill.cells marks.old }
+    requires { StoredIn store.now fill }
+    ensures { marks.new ≡ close (terms_of store.now fill) fill.cells marks.old }
 {
     let mut i = fill.cells;
     // a `for` would be no plainer: it goes by 1 or by 32

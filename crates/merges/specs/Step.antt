@@ -1,5 +1,6 @@
 -- The contracts of the merge step and of what it shares with other steps.
 use Rattle.std.specs.Prelude.{ℕ, ◌*◌, ◌≤◌, ◌<◌, ◌≡◌, List, Bool, true, false, eqb, length}
+use Rattle.index.specs.declared.Store.{Store}
 use Rattle.std.proofs.Math.Option.{Option, none, some}
 use Rattle.model.specs.Term.{Term, get_term, Ordered}
 use Rattle.model.specs.Program.{Proposition}
@@ -40,3 +41,7 @@ pub record AddsView (p : ℕ) (q : Proposition) (t head value : ℕ) (k e pool i
   pub does : (ps : List Proposition) → Ordered (terms_in k e pool f) → value < length (terms_in k e pool f) → length k ≤ 32 * length m
       → ((q.lhs ≡ q.rhs → ⊥) → among q ps ≡ false) → (eqb q.lhs q.rhs ≡ true → Marks (terms_in k e pool f) m ps)
       → Does k e pool ix f k' e' pool' ix' r.fill r.refusal tt (add_view (room_of k pool) p q head (front (children (get_term (terms_in k e pool f) t))) value ps (terms_in k e pool f))
+
+-- The same, of a store.
+abbrev pub AddsViewIn : ℕ → Proposition → ℕ → ℕ → ℕ → Store → Fill → List ℕ → Store → Checked → Type 0
+AddsViewIn p q t head value s f m s' r = AddsView p q t head value s.kinds.now s.ends.now s.pool.now s.index.now f m s'.kinds.now s'.ends.now s'.pool.now s'.index.now r

@@ -10,15 +10,15 @@ ghost use Rattle.model.specs.Action.{same_proposition};
 ghost use Rattle.model.specs.Normalize.{as_app};
 ghost use Rattle.model.specs.Walk.{front};
 ghost use Rattle.decode.specs.View.{proposition_of};
-ghost use Rattle.termdag.specs.Store.{terms_in, Stored, Indexed, room_of};
-ghost use Rattle.outcome.specs.Does.{outcome_of, Does};
+ghost use Rattle.termdag.specs.Store.{terms_of, StoredIn, IndexedIn, room_in};
+ghost use Rattle.outcome.specs.Does.{outcome_of, DoesIn};
 ghost use Rattle.marks.specs.Marks as closing;
 ghost use Rattle.program.specs.Ready.{program_for, option_of};
-ghost use Rattle.evaluate.specs.Evaluation.{Checks};
-ghost use Rattle.actions.specs.Acting.{Standing};
+ghost use Rattle.evaluate.specs.Evaluation.{ChecksIn};
+ghost use Rattle.actions.specs.Acting.{StandingIn};
 ghost use Rattle.heads.specs.Heading.{claimed_by};
 ghost use Rattle.merges.specs.Merge.{merge_step, both_reflexive, compare_views, read_views};
-ghost use Rattle.merges.specs.Step.{refused_unless, app_with, Small, merging_of, AddsView};
+ghost use Rattle.merges.specs.Step.{refused_unless, app_with, Small, merging_of, AddsViewIn};
 
 use cells::wide;
 use decode::{Proposition, Term};
@@ -52,9 +52,9 @@ pub fn check_that(test: bool, refusal: Refusal) -> Refusal
 
 // The head of a term, if it is an application.
 pub fn app_head(store: &Store<'_>, fill: Fill, t: u32) -> Option<u32>
-    requires stored { Stored store.now.kinds.now store.now.ends.now store.now.pool.now fill }
+    requires stored { StoredIn store.now fill }
     requires t_lt_cells { t < fill.cells }
-    ensures { app_with (option_of result) (evaluate.children (terms.get_term (terms_in store.now.kinds.now store.now.ends.now store.now.pool.now fill) t)) ≡ as_app (terms.get_term (terms_in store.now.kinds.now store.now.ends.now store.now.pool.now fill) t) }
+    ensures { app_with (option_of result) (evaluate.children (terms.get_term (terms_of store.now fill) t)) ≡ as_app (terms.get_term (terms_of store.now fill) t) }
 {
     let term = termdag::get(store, fill, wide(t));
     match term {
@@ -73,10 +73,10 @@ pub fn replace_child(
     i: usize,
     x: u32,
 ) -> Checked
-    requires indexed { Indexed store.old.kinds.now store.old.ends.now store.old.pool.now store.old.index.now fill }
-    requires small { Small (terms_in store.old.kinds.now store.old.ends.now store.old.pool.now fill) t }
-    requires i_in_bounds { i < length (evaluate.children (terms.get_term (terms_in store.old.kinds.now store.old.ends.now store.old.pool.now fill) t)) }
-    ensures does { Does store.old.kinds.now store.old.ends.now store.old.pool.now store.old.index.now fill store.new.kinds.now store.new.ends.now store.new.pool.now store.new.index.now result.fill result.refusal result.value (add_node (room_of store.old.kinds.now store.old.pool.now) (terms.app head (set (evaluate.children (terms.get_term (terms_in store.old.kinds.now store.old.ends.now store.old.pool.now fill) t)) i x)) (terms_in store.old.kinds.now store.old.ends.now store.old.pool.now fill)) }
+    requires indexed { IndexedIn store.old fill }
+    requires small { Small (terms_of store.old fill) t }
+    requires i_in_bounds { i < length (evaluate.children (terms.get_term (terms_of store.old fill) t)) }
+    ensures does { DoesIn store.old fill store.new result.fill result.refusal result.value (add_node (room_in store.old) (terms.app head (set (evaluate.children (terms.get_term (terms_of store.old fill) t)) i x)) (terms_of store.old fill)) }
     ensures loans { SameLoans store.old store.new }
 {
     let mut args = [0u32; 17];
@@ -171,10 +171,10 @@ fn compare_views(xs: &[u32], ys: &[u32], p: u32, f: u32, g: u32) -> Views
 
 // The views that two claims are of.
 fn read_views(store: &Store<'_>, fill: Fill, p: u32, a: Proposition, b: Proposition) -> Views
-    requires stored { Stored store.now.kinds.now store.now.ends.now store.now.pool.now fill }
+    requires stored { StoredIn store.now fill }
     requires rhs_lt_cells { a.rhs < fill.cells }
     requires rhs_lt_cells_2 { b.rhs < fill.cells }
-    ensures { outcome_of result.refusal (merging_of result (front (evaluate.children (terms.get_term (terms_in store.now.kinds.now store.now.ends.now store.now.pool.now fill) a.rhs)))) (terms_in store.now.kinds.now store.now.ends.now store.now.pool.now fill) ≡ read_views p (proposition_of a) (proposition_of b) (terms_in store.now.kinds.now store.now.ends.now store.now.pool.now fill) }
+    ensures { outcome_of result.refusal (merging_of result (front (evaluate.children (terms.get_term (terms_of store.now fill) a.rhs)))) (terms_of store.now fill) ≡ read_views p (proposition_of a) (proposition_of b) (terms_of store.now fill) }
 {
     let first = both_reflexive(p, a, b);
     if first.number != 0 {
@@ -207,8 +207,8 @@ fn view_claimed(
     q: Proposition,
     view: u32,
 ) -> Refusal
-    requires { Stored store.now.kinds.now store.now.ends.now store.now.pool.now fill }
-    ensures { (s : List terms.Term) → outcome_of result tt s ≡ check_that (same_proposition (proposition_of q) (evaluate.same view) || claimed_by (eqb q.lhs q.rhs) false (closing.is_marked (closing.close (terms_in store.now.kinds.now store.now.ends.now store.now.pool.now fill) fill.cells marks.old) q.lhs)) 38 (p ∷ q.lhs ∷ q.rhs ∷ []) s }
+    requires { StoredIn store.now fill }
+    ensures { (s : List terms.Term) → outcome_of result tt s ≡ check_that (same_proposition (proposition_of q) (evaluate.same view) || claimed_by (eqb q.lhs q.rhs) false (closing.is_marked (closing.close (terms_of store.now fill) fill.cells marks.old) q.lhs)) 38 (p ∷ q.lhs ∷ q.rhs ∷ []) s }
 {
     let marking = q.lhs == q.rhs;
     let covered = is_claimed(store, fill, marking, marks, false, q.lhs);
@@ -233,10 +233,10 @@ fn add_view(
     head: u32,
     value: u32,
 ) -> Checked
-    requires indexed { Indexed store.old.kinds.now store.old.ends.now store.old.pool.now store.old.index.now fill }
-    requires small { Small (terms_in store.old.kinds.now store.old.ends.now store.old.pool.now fill) t }
-    requires nonzero { 0 < length (evaluate.children (terms.get_term (terms_in store.old.kinds.now store.old.ends.now store.old.pool.now fill) t)) }
-    ensures does { AddsView p (proposition_of q) t head value store.old.kinds.now store.old.ends.now store.old.pool.now store.old.index.now fill marks.old store.new.kinds.now store.new.ends.now store.new.pool.now store.new.index.now result }
+    requires indexed { IndexedIn store.old fill }
+    requires small { Small (terms_of store.old fill) t }
+    requires nonzero { 0 < length (evaluate.children (terms.get_term (terms_of store.old fill) t)) }
+    ensures does { AddsViewIn p (proposition_of q) t head value store.old fill marks.old store.new result }
     ensures loans { SameLoans store.old store.new }
 {
     let n = children(store, fill, wide(t)).len();
@@ -267,10 +267,10 @@ pub fn merge_step(
     a: Proposition,
     b: Proposition,
 ) -> Checked
-    requires standing { Standing job.now found.now [] store.old.kinds.now store.old.ends.now store.old.pool.now store.old.index.now fill memo.old marks.old }
-    requires small { Small (terms_in store.old.kinds.now store.old.ends.now store.old.pool.now fill) a.rhs }
-    requires small_2 { Small (terms_in store.old.kinds.now store.old.ends.now store.old.pool.now fill) b.rhs }
-    ensures does { Checks store.old.kinds.now store.old.ends.now store.old.pool.now store.old.index.now fill store.new.kinds.now store.new.ends.now store.new.pool.now store.new.index.now result.fill result.refusal tt memo.new (merge_step (room_of store.old.kinds.now store.old.pool.now) (program_for job.now) p (proposition_of q) function (proposition_of a) (proposition_of b) (terms_in store.old.kinds.now store.old.ends.now store.old.pool.now fill)) }
+    requires standing { StandingIn job.now found.now [] store.old fill memo.old marks.old }
+    requires small { Small (terms_of store.old fill) a.rhs }
+    requires small_2 { Small (terms_of store.old fill) b.rhs }
+    ensures does { ChecksIn store.old fill store.new result.fill result.refusal tt memo.new (merge_step (room_in store.old) (program_for job.now) p (proposition_of q) function (proposition_of a) (proposition_of b) (terms_of store.old fill)) }
     ensures loans { SameLoans store.old store.new }
 {
     let v = read_views(store, fill, p, a, b);

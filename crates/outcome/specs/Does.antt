@@ -1,5 +1,6 @@
 -- The outcome of a check, as the code holds it, and the contract of every function that checks and may add terms.
 use Rattle.std.specs.Prelude.{◌≡◌, Option, Some, None, List, [], ◌∷◌, ℕ, zero, suc, ◌≤◌, length, take, drop}
+use Rattle.index.specs.declared.Store.{Store}
 use Rattle.model.specs.Term.{Term}
 use Rattle.model.specs.Check as model
 use Rattle.termdag.specs.Store.{terms_in, Indexed}
@@ -53,3 +54,7 @@ pub record Grown (K E P I : List ℕ) (f : Fill) (K' E' P' I' : List ℕ) (f' : 
 pub record Does {A : Type 0} (K E P I : List ℕ) (f : Fill) (K' E' P' I' : List ℕ) (f' : Fill) (r : Refusal) (a : A) (o : model.Outcome A) : Type 0 where
   pub outcome : outcome_of r a (terms_in K' E' P' f') ≡ o
   pub grown : Grown K E P I f K' E' P' I' f'
+
+-- The same, of a store.
+abbrev pub DoesIn : {A : Type 0} → Store → Fill → Store → Fill → Refusal → A → model.Outcome A → Type 0
+DoesIn s f s' f' r a o = Does s.kinds.now s.ends.now s.pool.now s.index.now f s'.kinds.now s'.ends.now s'.pool.now s'.index.now f' r a o

@@ -6,8 +6,8 @@ ghost use Rattle.index.specs.Loans.{SameLoans};
 ghost use Rattle.model.specs.Term.{lit, app};
 ghost use Rattle.model.specs.Check.{add_node};
 ghost use Rattle.decode.specs.View.{literal_of};
-ghost use Rattle.termdag.specs.Store.{terms_in, Indexed, room_of};
-ghost use Rattle.outcome.specs.Does.{passed, refusal, checked_of, Does};
+ghost use Rattle.termdag.specs.Store.{terms_of, IndexedIn, room_in};
+ghost use Rattle.outcome.specs.Does.{passed, refusal, checked_of, DoesIn};
 
 use decode::Literal;
 use index::{Added, Fill, Store};
@@ -86,8 +86,8 @@ fn added(a: Added) -> Checked
 
 // `lit`: the number of a literal, added if there is none equal.
 pub fn add_lit(store: &mut Store<'_>, fill: Fill, l: Literal) -> Checked
-    requires { Indexed store.old.kinds.now store.old.ends.now store.old.pool.now store.old.index.now fill }
-    ensures does { Does store.old.kinds.now store.old.ends.now store.old.pool.now store.old.index.now fill store.new.kinds.now store.new.ends.now store.new.pool.now store.new.index.now result.fill result.refusal result.value (add_node (room_of store.old.kinds.now store.old.pool.now) (lit (literal_of l)) (terms_in store.old.kinds.now store.old.ends.now store.old.pool.now fill)) }
+    requires { IndexedIn store.old fill }
+    ensures does { DoesIn store.old fill store.new result.fill result.refusal result.value (add_node (room_in store.old) (lit (literal_of l)) (terms_of store.old fill)) }
     ensures loans { SameLoans store.old store.new }
 {
     let a = termdag::lit(store, fill, l);
@@ -96,9 +96,9 @@ pub fn add_lit(store: &mut Store<'_>, fill: Fill, l: Literal) -> Checked
 
 // `app`: the number of an application, added if there is none equal.
 pub fn add_app(store: &mut Store<'_>, fill: Fill, f: u32, args: &[u32]) -> Checked
-    requires indexed { Indexed store.old.kinds.now store.old.ends.now store.old.pool.now store.old.index.now fill }
+    requires indexed { IndexedIn store.old fill }
     requires args_len_bound { length args.now ≤ 17 }
-    ensures does { Does store.old.kinds.now store.old.ends.now store.old.pool.now store.old.index.now fill store.new.kinds.now store.new.ends.now store.new.pool.now store.new.index.now result.fill result.refusal result.value (add_node (room_of store.old.kinds.now store.old.pool.now) (app f args.now) (terms_in store.old.kinds.now store.old.ends.now store.old.pool.now fill)) }
+    ensures does { DoesIn store.old fill store.new result.fill result.refusal result.value (add_node (room_in store.old) (app f args.now) (terms_of store.old fill)) }
     ensures loans { SameLoans store.old store.new }
 {
     let a = termdag::app(store, fill, f, args);

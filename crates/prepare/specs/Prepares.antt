@@ -1,5 +1,6 @@
 -- What preparing a job leaves: the refusal below 20, or the job's terms in the lent arrays and the lent index.
 use Rattle.std.specs.Prelude.{◌≡◌, List, [], ℕ, zero, suc, ◌+◌, ◌*◌, ◌≤◌, ◌<◌, length, drop}
+use Rattle.index.specs.declared.Store.{Store}
 use Rattle.std.proofs.Math.Option.{Option, none, some}
 use Rattle.model.specs.Layout.{sizes_of}
 use Rattle.model.specs.Decode.{job_of}
@@ -31,6 +32,10 @@ pub record Loads (ws K E P : List ℕ) : Type 0 where
   pub scratch : ℕ
   pub passes : load_refusal ws asked mode (lent_by (arrays_of K E P) slots scratch) ≡ none
 
+-- The same, of a store.
+abbrev pub LoadsIn : List ℕ → Store → Type 0
+LoadsIn ws s = Loads ws s.kinds.now s.ends.now s.pool.now
+
 -- The lent arrays K, E, P now hold the job's terms, which the index I' lists, and past these are as they were; the job is admitted.
 pub record Started (ws K E P K' E' P' I' : List ℕ) (f : Fill) : Type 0 where
   pub ready : Ready ws
@@ -55,3 +60,7 @@ pub record Prepares (ws : List ℕ) (asked mode : ℕ) (K E P I : List ℕ) (scr
   pub started : p.refusal.number ≡ 0 → Started ws K E P K' E' P' I' p.fill
   pub there : p.refusal.number ≡ 0 → asked < (sizes_of ws).proofs
   pub enough : p.refusal.number ≡ 0 → 2 * (length K + (sizes_of ws).proofs) ≤ scratch
+
+-- The same, of a store.
+abbrev pub PreparesIn : List ℕ → ℕ → ℕ → Store → ℕ → Store → Prepared → Type 0
+PreparesIn ws asked mode s scratch s' p = Prepares ws asked mode s.kinds.now s.ends.now s.pool.now s.index.now scratch s'.kinds.now s'.ends.now s'.pool.now s'.index.now p

@@ -4,9 +4,9 @@
 ghost use Rattle.std.specs.Prelude.{◌≡◌, [], ◌∷◌, length};
 ghost use Rattle.index.specs.Loans.{SameLoans};
 ghost use Rattle.model.specs.Layout.{sizes_of, kinds_of, ends_of, pool_of};
-ghost use Rattle.termdag.specs.Store.{Loaded as TermsLoaded};
+ghost use Rattle.termdag.specs.Store.{LoadedIn};
 ghost use Rattle.outcome.specs.Does.{passed, refusal};
-ghost use Rattle.prepare.specs.Prepares.{Loads, Prepares};
+ghost use Rattle.prepare.specs.Prepares.{Loads, LoadsIn, PreparesIn};
 
 use index::{Fill, Store, multiplier};
 use load::{Rejection, load};
@@ -40,9 +40,9 @@ fn refused(number: u32, count: usize, field: u32) -> Prepared
 
 // The terms of a job that loads, copied into the lent arrays; x is the multiplier.
 fn start(job: &[u32], x: u32, store: &mut Store<'_>) -> Prepared
-    requires { Loads job.now store.old.kinds.now store.old.ends.now store.old.pool.now }
+    requires { LoadsIn job.now store.old }
     ensures is { result.refusal ≡ passed }
-    ensures begun { TermsLoaded (kinds_of job.now) (ends_of job.now) (pool_of job.now) (sizes_of job.now).terms x store.old.kinds.now store.old.ends.now store.old.pool.now store.new.kinds.now store.new.ends.now store.new.pool.now result.fill }
+    ensures begun { LoadedIn (kinds_of job.now) (ends_of job.now) (pool_of job.now) (sizes_of job.now).terms x store.old store.new result.fill }
     ensures index { store.new.index.now ≡ store.old.index.now }
     ensures loans { SameLoans store.old store.new }
 {
@@ -65,7 +65,7 @@ pub fn prepare(
     store: &mut Store<'_>,
     scratch: usize,
 ) -> Prepared
-    ensures does { Prepares job.now asked mode store.old.kinds.now store.old.ends.now store.old.pool.now store.old.index.now scratch store.new.kinds.now store.new.ends.now store.new.pool.now store.new.index.now result }
+    ensures does { PreparesIn job.now asked mode store.old scratch store.new result }
     ensures len_i { length store.new.index.now ≡ length store.old.index.now }
     ensures loans { SameLoans store.old store.new }
 {

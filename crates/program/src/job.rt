@@ -3,7 +3,7 @@ ghost use Rattle.std.specs.Prelude.{◌≡◌, ◌<◌, get_or};
 ghost use Rattle.index.specs.Loans.{SameLoans};
 ghost use Rattle.model.specs.Cell.{no_cell};
 ghost use Rattle.model.specs.Layout.{sizes_of, kinds_of, ends_of, pool_of, cell_count};
-ghost use Rattle.termdag.specs.Store.{Loadable, Loaded};
+ghost use Rattle.termdag.specs.Store.{LoadableIn, LoadedIn};
 ghost use Rattle.load.specs.Held.{cell_number};
 ghost use Rattle.program.specs.Ready.{Held, table_for, count_for, cell_for, fill_for};
 
@@ -179,8 +179,8 @@ pub fn words_at(job: &[u32], table: usize, i: usize) -> &[u32]
 // Copies the terms into the lent arrays; the fill has the multiplier.
 pub fn load_terms(job: &[u32], multiplier: u32, store: &mut Store<'_>) -> index::Fill
     requires held { Held job.now }
-    requires loadable { Loadable (kinds_of job.now) (ends_of job.now) (pool_of job.now) (fill_for job.now) (count_for job.now 0) store.old.kinds.now store.old.ends.now store.old.pool.now }
-    ensures does { Loaded (kinds_of job.now) (ends_of job.now) (pool_of job.now) (count_for job.now 0) multiplier store.old.kinds.now store.old.ends.now store.old.pool.now store.new.kinds.now store.new.ends.now store.new.pool.now result }
+    requires loadable { LoadableIn (kinds_of job.now) (ends_of job.now) (pool_of job.now) (fill_for job.now) (count_for job.now 0) store.old }
+    ensures does { LoadedIn (kinds_of job.now) (ends_of job.now) (pool_of job.now) (count_for job.now 0) multiplier store.old store.new result }
     ensures index { store.new.index.now ≡ store.old.index.now }
     ensures loans { SameLoans store.old store.new }
 {

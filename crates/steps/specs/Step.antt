@@ -1,5 +1,6 @@
 -- The contracts of proof steps.
 use Rattle.std.specs.Prelude.{ℕ, ◌+◌, ◌≤◌, ◌<◌, ◌≡◌, List, [], map, Bool, true, false, length, get_or, take, drop}
+use Rattle.index.specs.declared.Store.{Store}
 use Rattle.model.specs.Layout.{sizes_of}
 use Rattle.model.specs.Term.{Term, read_term, Extends}
 use Rattle.model.specs.Program as program
@@ -57,6 +58,10 @@ pub record Prepared (J F : List ℕ) (k e p ix : List ℕ) (f : Fill) (memo scra
   pub past : Past memo
   pub long : length k + length k ≤ length scratch
 
+-- The same, of a store.
+abbrev pub PreparedIn : List ℕ → List ℕ → Store → Fill → List ℕ → List ℕ → Type 0
+PreparedIn J F s f memo scratch = Prepared J F s.kinds.now s.ends.now s.pool.now s.index.now f memo scratch
+
 -- The step of proof n, where the first words of the scratch W are the marks of the global pairs: the outcome is the definition's for whatever pairs these and the unions U stand for.
 -- After a value the memo can be used again, and the store grew and is sane; of the scratch only the second C words are written.
 pub record Concludes (J : List ℕ) (U k e p ix : List ℕ) (f : Fill) (W : List ℕ) (n : ℕ) (k' e' p' ix' : List ℕ) (r : Checked) (memo' W' : List ℕ) : Type 0 where
@@ -67,3 +72,7 @@ pub record Concludes (J : List ℕ) (U k e p ix : List ℕ) (f : Fill) (W : List
   pub grows : r.refusal.number ≡ 0 → Extends (terms_in k e p f) (terms_in k' e' p' r.fill)
   pub sane : r.refusal.number ≡ 0 → (σ : List Binding) → Sane (program_for J) σ (terms_in k e p f) → Sane (program_for J) σ (terms_in k' e' p' r.fill)
   pub scratch : SecondPart (length k) W W'
+
+-- The same, of a store.
+abbrev pub ConcludesIn : List ℕ → List ℕ → Store → Fill → List ℕ → ℕ → Store → Checked → List ℕ → List ℕ → Type 0
+ConcludesIn J U s f W n s' r memo' W' = Concludes J U s.kinds.now s.ends.now s.pool.now s.index.now f W n s'.kinds.now s'.ends.now s'.pool.now s'.index.now r memo' W'

@@ -9,17 +9,17 @@ ghost use Rattle.model.specs.Term as terms;
 ghost use Rattle.model.specs.Program as program;
 ghost use Rattle.model.specs.Walk.{claim_at, is_literal};
 ghost use Rattle.decode.specs.View.{proposition_of};
-ghost use Rattle.termdag.specs.Store.{terms_in, Stored, Indexed, room_of};
-ghost use Rattle.outcome.specs.Does.{outcome_of, Does};
+ghost use Rattle.termdag.specs.Store.{terms_of, StoredIn, IndexedIn, room_in};
+ghost use Rattle.outcome.specs.Does.{outcome_of, DoesIn};
 ghost use Rattle.program.specs.Ready.{Ready, program_for};
 ghost use Rattle.lookups.specs.Keyed.{Keyed};
 ghost use Rattle.program.specs.Read.{proofs_for, ClaimAt, JustificationAt};
-ghost use Rattle.evaluate.specs.Evaluation.{Checks};
+ghost use Rattle.evaluate.specs.Evaluation.{ChecksIn};
 ghost use Rattle.context.specs.Contexts.{GlobalPairs};
 ghost use Rattle.merges.specs.Merge.{merge_step};
 ghost use Rattle.merges.specs.Step.{Small};
 ghost use Rattle.steps.specs.Concluding.{trans_step, sym_step, fiat_step, normalize_step, child_matches, congr_claims, congr_step};
-ghost use Rattle.steps.specs.Step.{TermsFirst, PlainStep, SecondPart, Prepared, Concludes};
+ghost use Rattle.steps.specs.Step.{TermsFirst, PlainStep, SecondPart, PreparedIn, ConcludesIn};
 
 use cells::wide;
 use context::is_global_pair;
@@ -73,9 +73,9 @@ fn sym_step(p: u32, q: Proposition, a: Proposition) -> Refusal
 
 // A term is a literal.
 fn is_literal(store: &Store<'_>, fill: Fill, t: u32) -> bool
-    requires stored { Stored store.now.kinds.now store.now.ends.now store.now.pool.now fill }
+    requires stored { StoredIn store.now fill }
     requires t_lt_cells { t < fill.cells }
-    ensures { result ≡ is_literal (terms.get_term (terms_in store.now.kinds.now store.now.ends.now store.now.pool.now fill) t) }
+    ensures { result ≡ is_literal (terms.get_term (terms_of store.now fill) t) }
 {
     let term = termdag::get(store, fill, wide(t));
     match term {
@@ -94,9 +94,9 @@ fn fiat_step(
     p: u32,
     q: Proposition,
 ) -> Refusal
-    requires stored { Stored store.now.kinds.now store.now.ends.now store.now.pool.now fill }
+    requires stored { StoredIn store.now fill }
     requires lhs_lt_cells { q.lhs < fill.cells }
-    ensures { (ps : List program.Proposition) → GlobalPairs ps unions.now gmarks.now → outcome_of result tt (terms_in store.now.kinds.now store.now.ends.now store.now.pool.now fill) ≡ fiat_step ps p (proposition_of q) (terms_in store.now.kinds.now store.now.ends.now store.now.pool.now fill) }
+    ensures { (ps : List program.Proposition) → GlobalPairs ps unions.now gmarks.now → outcome_of result tt (terms_of store.now fill) ≡ fiat_step ps p (proposition_of q) (terms_of store.now fill) }
 {
     let literal = is_literal(store, fill, q.lhs);
     let global = is_global_pair(unions, gmarks, q);
@@ -132,9 +132,9 @@ fn normalize_step(
 ) -> Refusal
     requires ready { Ready job.now }
     requires keyed { Keyed job.now found.now }
-    requires stored { Stored store.now.kinds.now store.now.ends.now store.now.pool.now fill }
+    requires stored { StoredIn store.now fill }
     requires rhs_lt_cells { a.rhs < fill.cells }
-    ensures { (room : Room) → outcome_of result tt (terms_in store.now.kinds.now store.now.ends.now store.now.pool.now fill) ≡ normalize_step room (program_for job.now) p (proposition_of q) (proposition_of a) (terms_in store.now.kinds.now store.now.ends.now store.now.pool.now fill) }
+    ensures { (room : Room) → outcome_of result tt (terms_of store.now fill) ≡ normalize_step room (program_for job.now) p (proposition_of q) (proposition_of a) (terms_of store.now fill) }
 {
     let n = normalize_container(job, found, store, fill, a.rhs);
     let same = q.lhs == a.lhs;
@@ -209,9 +209,9 @@ fn congr_step(
     i: u32,
     b: Proposition,
 ) -> Checked
-    requires indexed { Indexed store.old.kinds.now store.old.ends.now store.old.pool.now store.old.index.now fill }
-    requires small { Small (terms_in store.old.kinds.now store.old.ends.now store.old.pool.now fill) a.rhs }
-    ensures does { Does store.old.kinds.now store.old.ends.now store.old.pool.now store.old.index.now fill store.new.kinds.now store.new.ends.now store.new.pool.now store.new.index.now result.fill result.refusal tt (congr_step (room_of store.old.kinds.now store.old.pool.now) p (proposition_of q) (proposition_of a) i (proposition_of b) (terms_in store.old.kinds.now store.old.ends.now store.old.pool.now fill)) }
+    requires indexed { IndexedIn store.old fill }
+    requires small { Small (terms_of store.old fill) a.rhs }
+    ensures does { DoesIn store.old fill store.new result.fill result.refusal tt (congr_step (room_in store.old) p (proposition_of q) (proposition_of a) i (proposition_of b) (terms_of store.old fill)) }
     ensures loans { SameLoans store.old store.new }
 {
     let t = a.rhs;
@@ -255,12 +255,12 @@ fn plain_step(
 ) -> Refusal
     requires ready { Ready job.now }
     requires keyed { Keyed job.now found.now }
-    requires stored { Stored store.now.kinds.now store.now.ends.now store.now.pool.now fill }
+    requires stored { StoredIn store.now fill }
     requires job_bound { (sizes_of job.now).terms ≤ fill.cells }
     requires p_bound { p < (sizes_of job.now).proofs }
     requires claim_at { ClaimAt job.now p q }
     requires justification_at { JustificationAt job.now p j }
-    ensures { PlainStep job.now unions.now gmarks.now (terms_in store.now.kinds.now store.now.ends.now store.now.pool.now fill) p (proposition_of q) j result }
+    ensures { PlainStep job.now unions.now gmarks.now (terms_of store.now fill) p (proposition_of q) j result }
 {
     match j {
         Justification::Fiat => fiat_step(store, fill, unions, gmarks, p, q),
@@ -297,11 +297,11 @@ fn congr_at(
     y: u32,
 ) -> Checked
     requires ready { Ready job.now }
-    requires indexed { Indexed store.old.kinds.now store.old.ends.now store.old.pool.now store.old.index.now fill }
-    requires terms_first { TermsFirst job.now (terms_in store.old.kinds.now store.old.ends.now store.old.pool.now fill) }
+    requires indexed { IndexedIn store.old fill }
+    requires terms_first { TermsFirst job.now (terms_of store.old fill) }
     requires x_bound { x < (sizes_of job.now).proofs }
     requires y_bound { y < (sizes_of job.now).proofs }
-    ensures does { Does store.old.kinds.now store.old.ends.now store.old.pool.now store.old.index.now fill store.new.kinds.now store.new.ends.now store.new.pool.now store.new.index.now result.fill result.refusal tt (congr_step (room_of store.old.kinds.now store.old.pool.now) p (proposition_of q) (claim_at (proofs_for job.now) x) i (claim_at (proofs_for job.now) y) (terms_in store.old.kinds.now store.old.ends.now store.old.pool.now fill)) }
+    ensures does { DoesIn store.old fill store.new result.fill result.refusal tt (congr_step (room_in store.old) p (proposition_of q) (claim_at (proofs_for job.now) x) i (claim_at (proofs_for job.now) y) (terms_of store.old fill)) }
     ensures loans { SameLoans store.old store.new }
 {
     let a = claim_at(job, wide(x));
@@ -323,10 +323,10 @@ fn merge_at(
     x: u32,
     y: u32,
 ) -> Checked
-    requires prepared { Prepared job.now found.now store.old.kinds.now store.old.ends.now store.old.pool.now store.old.index.now fill memo.old scratch.old }
+    requires prepared { PreparedIn job.now found.now store.old fill memo.old scratch.old }
     requires x_bound { x < (sizes_of job.now).proofs }
     requires y_bound { y < (sizes_of job.now).proofs }
-    ensures checks { Checks store.old.kinds.now store.old.ends.now store.old.pool.now store.old.index.now fill store.new.kinds.now store.new.ends.now store.new.pool.now store.new.index.now result.fill result.refusal tt memo.new (merge_step (room_of store.old.kinds.now store.old.pool.now) (program_for job.now) p (proposition_of q) function (claim_at (proofs_for job.now) x) (claim_at (proofs_for job.now) y) (terms_in store.old.kinds.now store.old.ends.now store.old.pool.now fill)) }
+    ensures checks { ChecksIn store.old fill store.new result.fill result.refusal tt memo.new (merge_step (room_in store.old) (program_for job.now) p (proposition_of q) function (claim_at (proofs_for job.now) x) (claim_at (proofs_for job.now) y) (terms_of store.old fill)) }
     ensures second_part { SecondPart (length store.old.kinds.now) scratch.old scratch.new }
     ensures loans { SameLoans store.old store.new }
 {
@@ -360,9 +360,9 @@ pub fn conclude(
     scratch: &mut [u32],
     p: u32,
 ) -> Checked
-    requires prepared { Prepared job.now found.now store.old.kinds.now store.old.ends.now store.old.pool.now store.old.index.now fill memo.old scratch.old }
+    requires prepared { PreparedIn job.now found.now store.old fill memo.old scratch.old }
     requires p_bound { p < (sizes_of job.now).proofs }
-    ensures does { Concludes job.now unions.now store.old.kinds.now store.old.ends.now store.old.pool.now store.old.index.now fill scratch.old p store.new.kinds.now store.new.ends.now store.new.pool.now store.new.index.now result memo.new scratch.new }
+    ensures does { ConcludesIn job.now unions.now store.old fill scratch.old p store.new result memo.new scratch.new }
     ensures loans { SameLoans store.old store.new }
 {
     let n = wide(p);

@@ -1,5 +1,6 @@
 -- A store of terms in three word arrays, and the contracts of the functions that fill it.
 use Rattle.std.specs.Prelude.{◌≡◌, Option, Some, None, List, [], ◌∷◌, map, ℕ, ◌≤◌, ◌<◌, ◌^◌, length, drop}
+use Rattle.index.specs.declared.Store.{Store}
 use Rattle.model.specs.Cell.{start_of, cells_of}
 use Rattle.model.specs.Term.{Term, cell_of, read_term}
 use Rattle.model.specs.Check.{Outcome, ok, refused, Room}
@@ -19,15 +20,30 @@ pub record Stored (K E P : List ℕ) (f : Fill) : Type 0 where
   pub once : Once (cells_of K E P f.cells)
   pub terms : map cell_of (terms_in K E P f) ≡ cells_of K E P f.cells
 
+-- The same, of a store.
+abbrev pub StoredIn : Store → Fill → Type 0
+StoredIn s f = Stored s.kinds.now s.ends.now s.pool.now f
+
 -- The index lists the store: each term once and nothing else. It has more slots than there can be terms.
 pub record Indexed (K E P I : List ℕ) (f : Fill) : Type 0 where
   pub stored : Stored K E P f
   pub lists : Lists f.multiplier I (cells_of K E P f.cells)
   pub room : length K < length I
 
+-- The same, of a store.
+abbrev pub IndexedIn : Store → Fill → Type 0
+IndexedIn s f = Indexed s.kinds.now s.ends.now s.pool.now s.index.now f
+
 -- The room of lent arrays.
 abbrev pub room_of : List ℕ → List ℕ → Room
 room_of K P = record { cells = length K; words = length P }
+
+-- The terms that a store holds, and its room.
+abbrev pub terms_of : Store → Fill → List Term
+terms_of s f = terms_in s.kinds.now s.ends.now s.pool.now f
+
+abbrev pub room_in : Store → Room
+room_in s = room_of s.kinds.now s.pool.now
 
 -- What an addition answers, with the terms after: 53 where the store is full.
 abbrev pub outcome_by : Option ℕ → Added → List Term → Outcome ℕ
@@ -51,6 +67,10 @@ pub record Adds (K E P I : List ℕ) (f : Fill) (K' E' P' I' : List ℕ) (a : Ad
   pub ends : drop a.fill.cells E' ≡ drop a.fill.cells E
   pub pool : drop a.fill.words P' ≡ drop a.fill.words P
 
+-- The same, of a store.
+abbrev pub AddsIn : Store → Fill → Store → Added → Outcome ℕ → Type 0
+AddsIn s f s' a o = Adds s.kinds.now s.ends.now s.pool.now s.index.now f s'.kinds.now s'.ends.now s'.pool.now s'.index.now a o
+
 -- The value r, if there is one, of a check with the outcome o in the store s: then the check leaves the store.
 pub record Known (r : Option ℕ) (o : Outcome ℕ) (s : List Term) : Type 0 where
   pub value : (v : ℕ) → r ≡ Some v → o ≡ ok v s
@@ -67,6 +87,10 @@ pub record Loadable (JK JE JP : List ℕ) (f : TableFill) (n : ℕ) (K E P : Lis
   pub few : length K < 2 ^ 32
   pub small : length P < 2 ^ 32
 
+-- The same, of a store.
+abbrev pub LoadableIn : List ℕ → List ℕ → List ℕ → TableFill → ℕ → Store → Type 0
+LoadableIn JK JE JP f n s = Loadable JK JE JP f n s.kinds.now s.ends.now s.pool.now
+
 -- The lent arrays hold the first n terms of a table from their start on, and past these are as they were; x is the multiplier.
 pub record Loaded (JK JE JP : List ℕ) (n x : ℕ) (K E P K' E' P' : List ℕ) (f : Fill) : Type 0 where
   pub cells : f.cells ≡ n
@@ -80,3 +104,7 @@ pub record Loaded (JK JE JP : List ℕ) (n x : ℕ) (K E P K' E' P' : List ℕ) 
   pub kinds : drop f.cells K' ≡ drop f.cells K
   pub ends : drop f.cells E' ≡ drop f.cells E
   pub pool : drop f.words P' ≡ drop f.words P
+
+-- The same, of a store.
+abbrev pub LoadedIn : List ℕ → List ℕ → List ℕ → ℕ → ℕ → Store → Store → Fill → Type 0
+LoadedIn JK JE JP n x s s' f = Loaded JK JE JP n x s.kinds.now s.ends.now s.pool.now s'.kinds.now s'.ends.now s'.pool.now f

@@ -10,16 +10,16 @@ ghost use Rattle.model.specs.Check.{add_node};
 ghost use Rattle.model.specs.Evaluate.{children};
 ghost use Rattle.cells.specs.Table.{find_cell};
 ghost use Rattle.decode.specs.View.{literal_of, term_of};
-ghost use Rattle.termdag.specs.Store.{terms_in, Stored, Indexed, room_of, Adds, Known, Loadable, Loaded};
+ghost use Rattle.termdag.specs.Store.{terms_of, StoredIn, IndexedIn, room_in, AddsIn, Known, LoadableIn, LoadedIn};
 
 use decode::{Literal, Term};
 use index::{Added, Fill, Store};
 
 // The term of a number; `children` has its children.
 pub fn get(store: &Store<'_>, fill: Fill, t: usize) -> Term
-    requires stored { Stored store.now.kinds.now store.now.ends.now store.now.pool.now fill }
+    requires stored { StoredIn store.now fill }
     requires t_lt_cells { t < fill.cells }
-    ensures { get_term (terms_in store.now.kinds.now store.now.ends.now store.now.pool.now fill) t ≡ some (term_of result (children (get_term (terms_in store.now.kinds.now store.now.ends.now store.now.pool.now fill) t))) }
+    ensures { get_term (terms_of store.now fill) t ≡ some (term_of result (children (get_term (terms_of store.now fill) t))) }
 {
     let have = cells::Fill {
         cells: fill.cells,
@@ -31,9 +31,9 @@ pub fn get(store: &Store<'_>, fill: Fill, t: usize) -> Term
 
 // The children of a term: a literal and a variable have none.
 pub fn children<'a>(store: &'a Store<'_>, fill: Fill, t: usize) -> &'a [u32]
-    requires stored { Stored store.now.kinds.now store.now.ends.now store.now.pool.now fill }
+    requires stored { StoredIn store.now fill }
     requires t_lt_cells { t < fill.cells }
-    ensures { result.now ≡ children (get_term (terms_in store.now.kinds.now store.now.ends.now store.now.pool.now fill) t) }
+    ensures { result.now ≡ children (get_term (terms_of store.now fill) t) }
 {
     let have = cells::Fill {
         cells: fill.cells,
@@ -45,8 +45,8 @@ pub fn children<'a>(store: &'a Store<'_>, fill: Fill, t: usize) -> &'a [u32]
 
 // The number of a literal, added if there is none equal.
 pub fn lit(store: &mut Store<'_>, fill: Fill, l: Literal) -> Added
-    requires { Indexed store.old.kinds.now store.old.ends.now store.old.pool.now store.old.index.now fill }
-    ensures does { Adds store.old.kinds.now store.old.ends.now store.old.pool.now store.old.index.now fill store.new.kinds.now store.new.ends.now store.new.pool.now store.new.index.now result (add_node (room_of store.old.kinds.now store.old.pool.now) (lit (literal_of l)) (terms_in store.old.kinds.now store.old.ends.now store.old.pool.now fill)) }
+    requires { IndexedIn store.old fill }
+    ensures does { AddsIn store.old fill store.new result (add_node (room_in store.old) (lit (literal_of l)) (terms_of store.old fill)) }
     ensures loans { SameLoans store.old store.new }
 {
     let ws = [l.kind, l.low, l.high];
@@ -55,9 +55,9 @@ pub fn lit(store: &mut Store<'_>, fill: Fill, l: Literal) -> Added
 
 // The number of an application, added if there is none equal.
 pub fn app(store: &mut Store<'_>, fill: Fill, f: u32, args: &[u32]) -> Added
-    requires indexed { Indexed store.old.kinds.now store.old.ends.now store.old.pool.now store.old.index.now fill }
+    requires indexed { IndexedIn store.old fill }
     requires args_len_bound { length args.now ≤ 17 }
-    ensures does { Adds store.old.kinds.now store.old.ends.now store.old.pool.now store.old.index.now fill store.new.kinds.now store.new.ends.now store.new.pool.now store.new.index.now result (add_node (room_of store.old.kinds.now store.old.pool.now) (app f args.now) (terms_in store.old.kinds.now store.old.ends.now store.old.pool.now fill)) }
+    ensures does { AddsIn store.old fill store.new result (add_node (room_in store.old) (app f args.now) (terms_of store.old fill)) }
     ensures loans { SameLoans store.old store.new }
 {
     let mut ws = [0u32; 18];
@@ -69,7 +69,7 @@ pub fn app(store: &mut Store<'_>, fill: Fill, f: u32, args: &[u32]) -> Added
 
 // The number of an equal term, if there is one; the store stays as it is.
 fn find(store: &Store<'_>, fill: Fill, kind: u32, ws: &[u32]) -> Option<u32>
-    requires { Indexed store.now.kinds.now store.now.ends.now store.now.pool.now store.now.index.now fill }
+    requires { IndexedIn store.now fill }
     ensures { result ≡ find_cell (cells_of store.now.kinds.now store.now.ends.now store.now.pool.now fill.cells) (record { kind = kind; words = ws.now }) }
 {
     let have = cells::Fill {
@@ -92,9 +92,9 @@ fn find(store: &Store<'_>, fill: Fill, kind: u32, ws: &[u32]) -> Option<u32>
 
 // The number of a literal, if there is one equal.
 pub fn find_lit(store: &Store<'_>, fill: Fill, l: Literal) -> Option<u32>
-    requires { Indexed store.now.kinds.now store.now.ends.now store.now.pool.now store.now.index.now fill }
-    ensures known { Known result (add_node (room_of store.now.kinds.now store.now.pool.now) (lit (literal_of l)) (terms_in store.now.kinds.now store.now.ends.now store.now.pool.now fill)) (terms_in store.now.kinds.now store.now.ends.now store.now.pool.now fill) }
-    ensures none { result ≡ None → find_term (terms_in store.now.kinds.now store.now.ends.now store.now.pool.now fill) (lit (literal_of l)) 0 ≡ none }
+    requires { IndexedIn store.now fill }
+    ensures known { Known result (add_node (room_in store.now) (lit (literal_of l)) (terms_of store.now fill)) (terms_of store.now fill) }
+    ensures none { result ≡ None → find_term (terms_of store.now fill) (lit (literal_of l)) 0 ≡ none }
 {
     let ws = [l.kind, l.low, l.high];
     find(store, fill, 0, &ws)
@@ -102,10 +102,10 @@ pub fn find_lit(store: &Store<'_>, fill: Fill, l: Literal) -> Option<u32>
 
 // The number of an application, if there is one equal; ws is the name and the arguments.
 pub fn find_app(store: &Store<'_>, fill: Fill, ws: &[u32]) -> Option<u32>
-    requires indexed { Indexed store.now.kinds.now store.now.ends.now store.now.pool.now store.now.index.now fill }
+    requires indexed { IndexedIn store.now fill }
     requires ws_nonzero { 0 < length ws.now }
-    ensures none { result ≡ None → find_term (terms_in store.now.kinds.now store.now.ends.now store.now.pool.now fill) (app (get_or ws.now 0 0) (drop 1 ws.now)) 0 ≡ none }
-    ensures known { Known result (add_node (room_of store.now.kinds.now store.now.pool.now) (app (get_or ws.now 0 0) (drop 1 ws.now)) (terms_in store.now.kinds.now store.now.ends.now store.now.pool.now fill)) (terms_in store.now.kinds.now store.now.ends.now store.now.pool.now fill) }
+    ensures none { result ≡ None → find_term (terms_of store.now fill) (app (get_or ws.now 0 0) (drop 1 ws.now)) 0 ≡ none }
+    ensures known { Known result (add_node (room_in store.now) (app (get_or ws.now 0 0) (drop 1 ws.now)) (terms_of store.now fill)) (terms_of store.now fill) }
 {
     find(store, fill, 2, ws)
 }
@@ -120,8 +120,8 @@ pub fn load_terms(
     multiplier: u32,
     store: &mut Store<'_>,
 ) -> Fill
-    requires { Loadable jkinds.now jends.now jpool.now jfill terms store.old.kinds.now store.old.ends.now store.old.pool.now }
-    ensures does { Loaded jkinds.now jends.now jpool.now terms multiplier store.old.kinds.now store.old.ends.now store.old.pool.now store.new.kinds.now store.new.ends.now store.new.pool.now result }
+    requires { LoadableIn jkinds.now jends.now jpool.now jfill terms store.old }
+    ensures does { LoadedIn jkinds.now jends.now jpool.now terms multiplier store.old store.new result }
     ensures index { store.new.index.now ≡ store.old.index.now }
     ensures loans { SameLoans store.old store.new }
 {

@@ -1,5 +1,6 @@
 -- The step of a proof, turn by turn: each proof that it needs, between what is done before it and after it; then what the step does itself.
 use Rattle.std.specs.Prelude.{None}
+use Rattle.index.specs.declared.Store.{Store}
 use Rattle.std.specs.Prelude.{ℕ, zero, suc, ◌<◌, ◌≤◌, ◌≡◌, Bool, true, false, List, [], ◌∷◌, map, length, get_or, take, drop}
 use Rattle.std.proofs.Math.Option.{Option, none, some}
 use Rattle.model.specs.Layout.{sizes_of}
@@ -156,3 +157,7 @@ pub record Advances (J : List ℕ) (strict : Bool) (F G U : List ℕ) (p : ℕ) 
   pub sane : rule ≡ true → c.refusal.number ≡ 0 → Sane (program_for J) (bound_over c.binds (bindings_by J p rule X G)) (terms_in k' e' q' c.fill)
   pub plain : rule ≡ false → c.binds ≡ None
   pub waits : c.settled ≡ false → c.binds ≡ None
+
+-- The same, of a store.
+abbrev pub AdvancesIn : List ℕ → Bool → List ℕ → List ℕ → List ℕ → ℕ → Bool → ℕ → ℕ → ℕ → ℕ → List ℕ → Store → Fill → List ℕ → ℕ → ℕ → Store → Stage → List ℕ → List ℕ → Type 0
+AdvancesIn J strict F G U p rule r first second count X s f W i walked s' c memo' W' = Advances J strict F G U p rule r first second count X s.kinds.now s.ends.now s.pool.now s.index.now f W i walked s'.kinds.now s'.ends.now s'.pool.now s'.index.now c memo' W'

@@ -1,6 +1,7 @@
 -- The contract of the walk over the proofs. Scratch has a mark for each cell of the store, for the global pairs; one more for each, for the head at hand; and a word for each
 -- proof: its height where it is checked, else 0.
 use Rattle.std.specs.Prelude.{ℕ, ◌+◌, ◌<◌, ◌≤◌, ◌≡◌, List, [], ◌∷◌, map, Bool, true, false, ltb, length, get_or, take}
+use Rattle.index.specs.declared.Store.{Store}
 use Rattle.model.specs.Layout.{sizes_of}
 use Rattle.model.specs.Term.{read_term, Extends}
 use Rattle.model.specs.Program.{Proposition, Binding, Program, Rule, Proof, rule, references}
@@ -44,6 +45,10 @@ pub record Ground (J : List ℕ) (F G k e p ix : List ℕ) (f : Fill) (memo W : 
   pub long : length k + length k + (sizes_of J).proofs ≤ length W
   pub heights : Heights J (length k) W
 
+-- The same, of a store.
+abbrev pub GroundIn : List ℕ → List ℕ → List ℕ → Store → Fill → List ℕ → List ℕ → Type 0
+GroundIn J F G s f memo W = Ground J F G s.kinds.now s.ends.now s.pool.now s.index.now f memo W
+
 -- The context of the global bindings and pairs.
 abbrev pub context_of : List ℕ → List Proposition → ActionContext
 context_of G ps = record { bindings = read_bindings G; pairs = ps }
@@ -67,6 +72,10 @@ pub record Walks {A : Type 0} (J : List ℕ) (F G U k e p ix : List ℕ) (f : Fi
   pub after : r.number ≡ 0 → After J F G k e p ix f W k' e' p' ix' f' memo' W'
   pub walked : (ps : List Proposition) (done : List ℕ) → GlobalPairs ps U (take (length k) W) → Flags (length k) W (sizes_of J).proofs done
       → Walked (sizes_of J).proofs k e p ix f k' e' p' ix' f' r W' a (o (room_of k p) ps done (terms_in k e p f))
+
+-- The same, of a store.
+abbrev pub WalksIn : {A : Type 0} → List ℕ → List ℕ → List ℕ → List ℕ → Store → Fill → List ℕ → Store → Fill → Refusal → List ℕ → List ℕ → (List ℕ → A) → (Room → List Proposition → List ℕ → Check A) → Type 0
+WalksIn J F G U s f W s' f' r memo' W' a o = Walks J F G U s.kinds.now s.ends.now s.pool.now s.index.now f W s'.kinds.now s'.ends.now s'.pool.now s'.index.now f' r memo' W' a o
 
 -- What a step of proof p refers to: a rule's has a name, premises and pairs; another has at most two references, each lower.
 pub record Operates (J : List ℕ) (p : ℕ) (r : Needs) : Type 0 where

@@ -5,7 +5,7 @@ ghost use Rattle.std.specs.Prelude.{◌≡◌, ◌+◌, ◌≤◌, ◌<◌, true
 ghost use Rattle.index.specs.Loans.{SameLoans};
 ghost use Rattle.model.specs.Fact.{is_container_side_condition};
 ghost use Rattle.model.specs.Layout.{sizes_of};
-ghost use Rattle.termdag.specs.Store.{terms_in, Indexed, room_of};
+ghost use Rattle.termdag.specs.Store.{terms_of, IndexedIn, room_in};
 ghost use Rattle.model.specs.Term.{Extends};
 ghost use Rattle.memo.specs.Memo.{Past};
 ghost use Rattle.outcome.specs.Does.{passed};
@@ -13,11 +13,11 @@ ghost use Rattle.normal_form.specs.Search.{Searched};
 ghost use Rattle.program.specs.Ready.{Ready, program_for};
 ghost use Rattle.lookups.specs.Keyed.{Keyed};
 ghost use Rattle.program.specs.Read.{fact_for, proofs_for};
-ghost use Rattle.evaluate.specs.Value.{bindings_in};
-ghost use Rattle.evaluate.specs.Evaluation.{Sane, Checks};
+ghost use Rattle.evaluate.specs.Value.{bindings_under};
+ghost use Rattle.evaluate.specs.Evaluation.{Sane, ChecksIn};
 ghost use Rattle.conditions.specs.Bound.{bound_over};
-ghost use Rattle.turns.specs.Walking.{Ground, Operates};
-ghost use Rattle.turns.specs.Turning.{of_fact, proof_of, no_turn, turns_by, bindings_by, after_turn, before_proof, RuleStep, Planned, Plans, Advances};
+ghost use Rattle.turns.specs.Walking.{GroundIn, Operates};
+ghost use Rattle.turns.specs.Turning.{of_fact, proof_of, no_turn, turns_by, bindings_by, after_turn, before_proof, RuleStep, Planned, Plans, AdvancesIn};
 
 use cells::wide;
 use conditions::{Bound, check_side_condition};
@@ -252,14 +252,14 @@ fn before_premise(
     requires ready { Ready scope.now.job.now }
     requires keyed { Keyed scope.now.job.now scope.now.found.now }
     requires searched { Searched scope.now.job.now scope.now.found.now }
-    requires indexed { Indexed store.old.kinds.now store.old.ends.now store.old.pool.now store.old.index.now fill }
+    requires indexed { IndexedIn store.old fill }
     requires job_in_bounds { (sizes_of scope.now.job.now).expressions + (sizes_of scope.now.job.now).expressions < length memo.old }
     requires past { Past memo.old }
     requires i_bound { i < (sizes_of scope.now.job.now).facts }
-    requires sane { Sane (program_for scope.now.job.now) (bindings_in scope.now.bound.now scope.now.pairs.now scope.now.globals.now) (terms_in store.old.kinds.now store.old.ends.now store.old.pool.now fill) }
-    ensures does { Checks store.old.kinds.now store.old.ends.now store.old.pool.now store.old.index.now fill store.new.kinds.now store.new.ends.now store.new.pool.now store.new.index.now result.fill result.refusal (bound_over result.binds (bindings_in scope.now.bound.now scope.now.pairs.now scope.now.globals.now)) memo.new (before_proof (room_of store.old.kinds.now store.old.pool.now) (program_for scope.now.job.now) (proofs_for scope.now.job.now) strict scope.now.rule (of_fact (fact_for scope.now.job.now i) 0) (bindings_in scope.now.bound.now scope.now.pairs.now scope.now.globals.now) (terms_in store.old.kinds.now store.old.ends.now store.old.pool.now fill)) }
+    requires sane { Sane (program_for scope.now.job.now) (bindings_under scope.now) (terms_of store.old fill) }
+    ensures does { ChecksIn store.old fill store.new result.fill result.refusal (bound_over result.binds (bindings_under scope.now)) memo.new (before_proof (room_in store.old) (program_for scope.now.job.now) (proofs_for scope.now.job.now) strict scope.now.rule (of_fact (fact_for scope.now.job.now i) 0) (bindings_under scope.now) (terms_of store.old fill)) }
     ensures over { result.refusal.number ≡ 0 → result.settled ≡ is_container_side_condition (program_for scope.now.job.now) (fact_for scope.now.job.now i) }
-    ensures kept { result.refusal.number ≡ 0 → Extends (terms_in store.old.kinds.now store.old.ends.now store.old.pool.now fill) (terms_in store.new.kinds.now store.new.ends.now store.new.pool.now result.fill) × Sane (program_for scope.now.job.now) (bound_over result.binds (bindings_in scope.now.bound.now scope.now.pairs.now scope.now.globals.now)) (terms_in store.new.kinds.now store.new.ends.now store.new.pool.now result.fill) }
+    ensures kept { result.refusal.number ≡ 0 → Extends (terms_of store.old fill) (terms_of store.new result.fill) × Sane (program_for scope.now.job.now) (bound_over result.binds (bindings_under scope.now)) (terms_of store.new result.fill) }
     ensures waits { result.settled ≡ false → result.binds ≡ None }
     ensures loans { SameLoans store.old store.new }
 {
@@ -320,12 +320,12 @@ fn after_premise(
 ) -> Checked
     requires ready { Ready scope.now.job.now }
     requires keyed { Keyed scope.now.job.now scope.now.found.now }
-    requires indexed { Indexed store.old.kinds.now store.old.ends.now store.old.pool.now store.old.index.now fill }
+    requires indexed { IndexedIn store.old fill }
     requires job_in_bounds { (sizes_of scope.now.job.now).expressions + (sizes_of scope.now.job.now).expressions < length memo.old }
     requires past { Past memo.old }
     requires p_bound { p < (sizes_of scope.now.job.now).proofs }
     requires planned { Planned scope.now.job.now p true r scope.now.rule second count }
-    ensures does { Checks store.old.kinds.now store.old.ends.now store.old.pool.now store.old.index.now fill store.new.kinds.now store.new.ends.now store.new.pool.now store.new.index.now result.fill result.refusal tt memo.new (after_turn (room_of store.old.kinds.now store.old.pool.now) (program_for scope.now.job.now) (proofs_for scope.now.job.now) scope.now.rule (drop i (turns_by scope.now.job.now p true r scope.now.rule second count)) (bindings_in scope.now.bound.now scope.now.pairs.now scope.now.globals.now) (terms_in store.old.kinds.now store.old.ends.now store.old.pool.now fill)) }
+    ensures does { ChecksIn store.old fill store.new result.fill result.refusal tt memo.new (after_turn (room_in store.old) (program_for scope.now.job.now) (proofs_for scope.now.job.now) scope.now.rule (drop i (turns_by scope.now.job.now p true r scope.now.rule second count)) (bindings_under scope.now) (terms_of store.old fill)) }
     ensures loans { SameLoans store.old store.new }
 {
     if count <= i {
@@ -357,13 +357,13 @@ fn advance_rule(
     i: usize,
     walked: usize,
 ) -> Stage
-    requires ground { Ground job.now found.now globals.now store.old.kinds.now store.old.ends.now store.old.pool.now store.old.index.now fill memo.old scratch.old }
+    requires ground { GroundIn job.now found.now globals.now store.old fill memo.old scratch.old }
     requires p_bound { p < (sizes_of job.now).proofs }
     requires planned { Planned job.now p true r name second count }
-    requires sane { true ≡ true → Sane (program_for job.now) (bindings_by job.now p true bound.now globals.now) (terms_in store.old.kinds.now store.old.ends.now store.old.pool.now fill) }
+    requires sane { true ≡ true → Sane (program_for job.now) (bindings_by job.now p true bound.now globals.now) (terms_of store.old fill) }
     requires bound_len_bound { length bound.now ≤ 32 }
     requires i_le_count { i ≤ count }
-    ensures does { Advances job.now strict found.now globals.now unions.now p true r name second count bound.now store.old.kinds.now store.old.ends.now store.old.pool.now store.old.index.now fill scratch.old i walked store.new.kinds.now store.new.ends.now store.new.pool.now store.new.index.now result memo.new scratch.new }
+    ensures does { AdvancesIn job.now strict found.now globals.now unions.now p true r name second count bound.now store.old fill scratch.old i walked store.new result memo.new scratch.new }
     ensures loans { SameLoans store.old store.new }
 {
     let pairs = substitution_at(job, wide(p));
@@ -414,14 +414,14 @@ pub fn advance(
     i: usize,
     walked: usize,
 ) -> Stage
-    requires ground { Ground job.now found.now globals.now store.old.kinds.now store.old.ends.now store.old.pool.now store.old.index.now fill memo.old scratch.old }
+    requires ground { GroundIn job.now found.now globals.now store.old fill memo.old scratch.old }
     requires p_bound { p < (sizes_of job.now).proofs }
     requires planned { Planned job.now p rule r first second count }
-    requires sane { rule ≡ true → Sane (program_for job.now) (bindings_by job.now p rule bound.now globals.now) (terms_in store.old.kinds.now store.old.ends.now store.old.pool.now fill) }
+    requires sane { rule ≡ true → Sane (program_for job.now) (bindings_by job.now p rule bound.now globals.now) (terms_of store.old fill) }
     requires bound_len_bound { length bound.now ≤ 32 }
     requires i_le_count { i ≤ count }
     requires count_le_i { rule ≡ false → count ≤ i }
-    ensures does { Advances job.now strict found.now globals.now unions.now p rule r first second count bound.now store.old.kinds.now store.old.ends.now store.old.pool.now store.old.index.now fill scratch.old i walked store.new.kinds.now store.new.ends.now store.new.pool.now store.new.index.now result memo.new scratch.new }
+    ensures does { AdvancesIn job.now strict found.now globals.now unions.now p rule r first second count bound.now store.old fill scratch.old i walked store.new result memo.new scratch.new }
     ensures loans { SameLoans store.old store.new }
 {
     if rule {

@@ -12,7 +12,7 @@ ghost use Rattle.program.specs.Read.{fact_for, proofs_for};
 ghost use Rattle.normal_form.specs.Search.{Searched};
 ghost use Rattle.actions.specs.Acting.{effect_bindings};
 ghost use Rattle.conditions.specs.Bound.{bound_over};
-ghost use Rattle.turns.specs.Walking.{Ground, Walks, context_of};
+ghost use Rattle.turns.specs.Walking.{GroundIn, WalksIn, context_of};
 ghost use Rattle.walk.specs.Start.{Starts, Follows, fact_numbers, StartsFact};
 
 use actions::{Effect, push_binding};
@@ -121,9 +121,9 @@ fn justify(
     scratch: &mut [u32],
     p: u32,
 ) -> Checked
-    requires ground { Ground job.now found.now globals.now store.old.kinds.now store.old.ends.now store.old.pool.now store.old.index.now fill memo.old scratch.old }
+    requires ground { GroundIn job.now found.now globals.now store.old fill memo.old scratch.old }
     requires p_bound { p < (sizes_of job.now).proofs }
-    ensures does { Walks job.now found.now globals.now unions.now store.old.kinds.now store.old.ends.now store.old.pool.now store.old.index.now fill scratch.old store.new.kinds.now store.new.ends.now store.new.pool.now store.new.index.now result.fill result.refusal memo.new scratch.new (λ d. d) (λ room ps done. check_justification room (program_for job.now) (proofs_for job.now) (context_of globals.now ps) (check_proof_with_context room (program_for job.now) (proofs_for job.now) (context_of globals.now ps) strict p) strict p (claim_at (proofs_for job.now) p) (get_or (proofs_for job.now) p no_proof).justification done) }
+    ensures does { WalksIn job.now found.now globals.now unions.now store.old fill scratch.old store.new result.fill result.refusal memo.new scratch.new (λ d. d) (λ room ps done. check_justification room (program_for job.now) (proofs_for job.now) (context_of globals.now ps) (check_proof_with_context room (program_for job.now) (proofs_for job.now) (context_of globals.now ps) strict p) strict p (claim_at (proofs_for job.now) p) (get_or (proofs_for job.now) p no_proof).justification done) }
     ensures high { result.refusal.number ≡ 0 → result.value ≡ height (program_for job.now) (proofs_for job.now) p }
     ensures loans { SameLoans store.old store.new }
 {
@@ -235,10 +235,10 @@ pub fn walk(
     scratch: &mut [u32],
     p: u32,
 ) -> Checked
-    requires ground { Ground job.now found.now globals.now store.old.kinds.now store.old.ends.now store.old.pool.now store.old.index.now fill memo.old scratch.old }
+    requires ground { GroundIn job.now found.now globals.now store.old fill memo.old scratch.old }
     requires p_bound { p < (sizes_of job.now).proofs }
     requires p_value { get_or scratch.old (length store.old.kinds.now + length store.old.kinds.now + p) 0 ≡ 0 }
-    ensures does { Walks job.now found.now globals.now unions.now store.old.kinds.now store.old.ends.now store.old.pool.now store.old.index.now fill scratch.old store.new.kinds.now store.new.ends.now store.new.pool.now store.new.index.now result.fill result.refusal memo.new scratch.new (λ d. d) (λ room ps done. check_proof_with_context room (program_for job.now) (proofs_for job.now) (context_of globals.now ps) strict (suc p) p done) }
+    ensures does { WalksIn job.now found.now globals.now unions.now store.old fill scratch.old store.new result.fill result.refusal memo.new scratch.new (λ d. d) (λ room ps done. check_proof_with_context room (program_for job.now) (proofs_for job.now) (context_of globals.now ps) strict (suc p) p done) }
     ensures high { result.refusal.number ≡ 0 → result.value ≡ height (program_for job.now) (proofs_for job.now) p }
     ensures loans { SameLoans store.old store.new }
 {
