@@ -89,10 +89,10 @@ fn evaluate_arguments(
     let args = arguments_at(job, wide(e));
     memo::new_round(memo);
     let mut have = fill;
-    for (i, argument) in args.iter().enumerate() {
+    for (i, &argument) in args.iter().enumerate() {
         let r = evaluate::eval(
             job, found, bound, pairs, globals, rule, true, skinds, sends, spool, index, have, memo,
-            *argument,
+            argument,
         );
         if r.refusal.number != 0 {
             return r;

@@ -102,7 +102,7 @@ fn head_actions(
     let mut have = fill;
     let mut seen = false;
     let mut kept = false;
-    for action in actions {
+    for &action in actions {
         let r = process_action(
             job,
             found,
@@ -119,7 +119,7 @@ fn head_actions(
             kept,
             marking,
             marks,
-            *action,
+            action,
         );
         have = r.fill;
         if r.refusal.number != 0 {
