@@ -29,8 +29,8 @@ pub fn front(ws: &[u32], n: usize) -> &[u32]
 pub fn all_below(n: usize, ws: &[u32]) -> bool
     ensures { result ≡ below n ws.now }
 {
-    for w in ws {
-        if n <= wide(*w) {
+    for &w in ws {
+        if n <= wide(w) {
             return false;
         }
     }

@@ -82,8 +82,8 @@ fn evaluate_arguments(
     let args = arguments_at(scope.job, wide(e));
     memo::new_round(memo);
     let mut have = fill;
-    for (i, argument) in args.iter().enumerate() {
-        let r = evaluate::eval(scope, true, store, have, memo, *argument);
+    for (i, &argument) in args.iter().enumerate() {
+        let r = evaluate::eval(scope, true, store, have, memo, argument);
         if r.refusal.number != 0 {
             return r;
         }

@@ -94,12 +94,12 @@ fn head_actions(
     let mut have = fill;
     let mut seen = false;
     let mut kept = false;
-    for action in actions {
+    for &action in actions {
         let inner = Scope {
             bound: &table[at..],
             ..*scope
         };
-        let r = process_action(&inner, store, have, memo, kept, marking, marks, *action);
+        let r = process_action(&inner, store, have, memo, kept, marking, marks, action);
         have = r.fill;
         if r.refusal.number != 0 {
             let refusal = r.refusal;

@@ -29,8 +29,8 @@ pub fn ends_rise(ends: &[u32], pool: usize) -> bool
     ensures { result ≡ ends_rise 0 ends.now pool }
 {
     let mut start = 0;
-    for end in ends {
-        let e = wide(*end);
+    for &end in ends {
+        let e = wide(end);
         if e < start {
             return false;
         }

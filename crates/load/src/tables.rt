@@ -444,8 +444,7 @@ pub fn first_marked(
 {
     let ns = counts(z);
     let mut first = 0;
-    for (table, count) in ns.iter().enumerate() {
-        let n = *count;
+    for (table, &n) in ns.iter().enumerate() {
         let f = first_failing(
             kinds, ends, pool, z, distinct, sound, multiplier, round, table, first, n,
         );

@@ -49,8 +49,8 @@ pub fn mark(marks: &mut [u32], t: u32)
 pub fn mark_all(marks: &mut [u32], xs: &[u32])
     ensures { marks.new ≡ mark_all xs.now marks.old }
 {
-    for x in xs {
-        mark(marks, *x);
+    for &x in xs {
+        mark(marks, x);
     }
 }
 

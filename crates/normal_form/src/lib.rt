@@ -141,8 +141,7 @@ fn first_offence(job: &[u32], found: &[u32], e: usize) -> u32
 {
     let h = head_at(job, e);
     let args = arguments_at(job, e);
-    for argument in args {
-        let j = *argument;
+    for &j in args {
         let w = first_of(argument_offence(job, h, j), found[wide(j)] / 2);
         if w != 0 {
             return w;

@@ -6,5 +6,5 @@ use Rattle.program.specs.Read.{expr_for}
 use Rattle.normal_form.proofs.Laws.{rest}
 use Rattle.normal_form.proofs.first_offence.Given as goal
 
-abbrev pub invariant-loop-argument : goal.invariant-loop-argument
-invariant-loop-argument l = (rest l.job (head_of l.h) l.args l.argument-index ≡ offence (expr_for l.job l.e) (program_for l.job))
+abbrev pub invariant-loop-j : goal.invariant-loop-j
+invariant-loop-j l = (rest l.job (head_of l.h) l.args l.j-index ≡ offence (expr_for l.job l.e) (program_for l.job))
