@@ -135,13 +135,11 @@ fn set_largest(job: &mut [u32]) {
     set_sizes(job, 0, 16384);
     set(job, 11, 131072);
     set(job, 32781, 131072);
-    let mut i: u32 = 0;
-    while i < 16384 {
+    for i in 0..16384 {
         let end = term_end(i);
         set(job, 12 + wide(i), 2);
         set(job, 16397 + wide(i), end);
         set(job, 32781 + wide(end), before(i));
-        i += 1;
     }
 }
 

@@ -19,6 +19,7 @@ pub fn read_full<R: Read>(input: &mut R, bytes: &mut [u8]) -> io::Result<usize>
     ensures err { OnErr result (LosesFront (R.remaining input.old) (R.remaining input.new) bytes.new) }
 {
     let mut done = 0;
+    // a `for` is no plainer: each turn goes on by as much as was read
     while done < bytes.len() {
         let n = input.read(&mut bytes[done..])?;
         if n == 0 {
@@ -53,6 +54,7 @@ pub fn read_words<R: Read>(input: &mut R, words: &mut [u32]) -> io::Result<usize
     ensures err { OnErr result (HoldsSome (R.remaining input.old) words.old words.new) }
 {
     let mut at = 0;
+    // a `for` is no plainer: each turn goes on by as much as was read
     while 16384 <= words.len() - at {
         let got = read_some(input, &mut words[at..])?;
         if got == 0 {

@@ -60,6 +60,7 @@ fn check_entry(output: &mut impl Write, entry: &[u32]) -> io::Result<()> {
 // Checks the list's jobs in turn.
 fn check_list(output: &mut impl Write, list: &[u32]) -> io::Result<()> {
     let mut at = 0;
+    // a `for` is no plainer: each job says where the next one begins
     while at < list.len() {
         let end = job_end(list, at);
         check_entry(output, &list[at..end])?;

@@ -33,12 +33,10 @@ fn put_integers(kinds: &mut [u32], ends: &mut [u32], pool: &mut [u32], fill: Fil
     ensures { Formed kinds.new ends.new pool.new result }
 {
     let mut f = fill;
-    let mut i: u32 = 0;
-    while i < 5000 {
+    for i in 0..5000 {
         let ws = [2, i, 0];
         let a = append(kinds, ends, pool, f, 0, &ws);
         f = a.fill;
-        i += 1;
     }
     f
 }
@@ -49,12 +47,10 @@ fn put_applications(kinds: &mut [u32], ends: &mut [u32], pool: &mut [u32], fill:
     ensures { Formed kinds.new ends.new pool.new result }
 {
     let mut f = fill;
-    let mut i: u32 = 0;
-    while i < 5000 {
+    for i in 0..5000 {
         let ws = [4, i];
         let a = append(kinds, ends, pool, f, 2, &ws);
         f = a.fill;
-        i += 1;
     }
     f
 }

@@ -10,7 +10,7 @@ use native.Mathlib.Omega.{arith}
 use lib.Dec.{eqb, leb, ltb, lit<}
 use lib.ListN.{length, get_or, take, drop, length-take}
 use lib.Seq.{take_all}
-use borrow.Author.Tests.{eq-eqb, ne_eqb}
+use borrow.Author.Tests.{ne_eqb}
 use Rattle.model.specs.Cell.{Cell, no_cell}
 use Rattle.model.specs.Layout.{Tables, sizes_of, kinds_of, ends_of, pool_of, cell_count}
 use Rattle.model.specs.Program.{variable, Expr, node, nil, Rule, Function}
@@ -26,11 +26,8 @@ use Rattle.cell_tests.proofs.Laws.{pair-next}
 use Rattle.load.proofs.TableLaws.{table-length}
 use Rattle.program.specs.Ready.{Ready, cells_for, tables_for, table_for, count_for, first_named}
 
--- one pair after another
+-- a name that the first pair does not bind
 module _ (ws pair us : List ℕ) (x : ℕ) (e : ws ≡ pair ++ us) (h : length pair ≡ 2) where
-  pub pair-yes : get_or pair 0 0 ≡ x → some (get_or pair 1 0) ≡ lookup (read_bindings ws) x
-  pair-yes q = rw (pair-next ws pair us e h, lookup, eq-eqb (get_or pair 0 0) x q)
-
   pub pair-no : (get_or pair 0 0 ≡ x → ⊥) → lookup (read_bindings ws) x ≡ lookup (read_bindings us) x
   pair-no q = rw (pair-next ws pair us e h, lookup, ne_eqb (get_or pair 0 0) x q)
 

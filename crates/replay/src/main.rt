@@ -46,32 +46,9 @@ fn entry_end(list: &[u32], at: usize) -> usize
     at + end
 }
 
-// Puts a word everywhere.
-fn fill_with(array: &mut [u32], x: u32) {
-    let mut i = 0;
-    while i < array.len() {
-        array[i] = x;
-        i += 1;
-    }
-}
-
 // The array has the wanted words, and past them the word that was everywhere.
 fn leaves(array: &[u32], wanted: &[u32], x: u32) -> bool {
-    if array.len() < wanted.len() {
-        return false;
-    }
-    let mut i = 0;
-    while i < array.len() {
-        if i < wanted.len() {
-            if array[i] != wanted[i] {
-                return false;
-            }
-        } else if array[i] != x {
-            return false;
-        }
-        i += 1;
-    }
-    true
+    array.starts_with(wanted) && array[wanted.len()..].iter().all(|word| *word == x)
 }
 
 // The answer and every word of the store are the wanted ones.
@@ -194,16 +171,11 @@ fn replay_entry(entry: &[u32]) -> Replayed {
     if len < pool {
         return Replayed::Different;
     }
-    let mut lent_kinds = [0u32; 1024];
-    let mut lent_ends = [0u32; 1024];
-    let mut lent_pool = [0u32; 8192];
-    let mut index = [0u32; 2048];
-    let mut scratch = [0u32; 4096];
-    fill_with(&mut lent_kinds, entry[6]);
-    fill_with(&mut lent_ends, entry[6]);
-    fill_with(&mut lent_pool, entry[6]);
-    fill_with(&mut index, entry[6]);
-    fill_with(&mut scratch, entry[6]);
+    let mut lent_kinds = [entry[6]; 1024];
+    let mut lent_ends = [entry[6]; 1024];
+    let mut lent_pool = [entry[6]; 8192];
+    let mut index = [entry[6]; 2048];
+    let mut scratch = [entry[6]; 4096];
     if !checks_with(
         &entry[..8],
         &entry[8..answer],
@@ -236,6 +208,7 @@ fn replay(output: &mut impl Write, list: &[u32]) -> io::Result<()> {
     let mut refused = 0;
     let mut different = 0;
     let mut at = 7;
+    // a `for` is no plainer: each entry says where the next one begins
     while at < list.len() {
         let end = entry_end(list, at);
         let r = replay_entry(&list[at..end]);
