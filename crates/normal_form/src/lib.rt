@@ -17,8 +17,8 @@ use cells::wide;
 use decode::{Fact, Head};
 use outcome::Refusal;
 use program::job::{EXPRESSIONS, size};
+use program::primitive_at;
 use program::read::{arguments_at, fact_at, head_at};
-use program::{primitive_at};
 
 // An argument, by its expression number, that is not in proof normal form.
 #[derive(Clone, Copy)]

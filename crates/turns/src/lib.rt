@@ -18,7 +18,7 @@ ghost use Rattle.conditions.specs.Bound.{bound_over};
 ghost use Rattle.turns.specs.Walking.{Ground, Operates};
 ghost use Rattle.turns.specs.Turning.{of_fact, proof_of, no_turn, turns_by, bindings_by, after_turn, before_proof, RuleStep, Planned, Plans, Advances};
 
-use cells::{wide};
+use cells::wide;
 use conditions::{Bound, check_side_condition};
 use decode::Justification;
 use facts::check_fact_matches_proposition;
