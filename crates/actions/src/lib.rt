@@ -18,7 +18,7 @@ use evaluate::eval;
 use index::Fill;
 use outcome::{Checked, Refusal};
 use pairs::mark_values;
-use program::job::{EXPRESSIONS, size};
+use program::job::{Table, size};
 use program::read::action_at;
 
 // What an action did: bound a name to a term, joined two terms, or neither.
@@ -72,7 +72,7 @@ pub fn yield_value(
     ensures yields { Yields (program_for job.now) (bindings_in bound.now pairs.now globals.now) (eval_expr (room_of skinds.old spool.old) (program_for job.now) rule (bindings_in bound.now pairs.now globals.now) (expr_for job.now e) (terms_in skinds.old sends.old spool.old fill)) marking skinds.old sends.old spool.old index.old fill marks.old skinds.new sends.new spool.new index.new result memo.new marks.new }
     ensures going { result.refusal.number ≡ 0 → Going job.now rule (bindings_in bound.now pairs.now globals.now) marking skinds.new sends.new spool.new result.fill memo.new marks.new }
 {
-    let count = size(job, EXPRESSIONS);
+    let count = size(job, Table::Expressions);
     let r = eval(
         job, found, bound, pairs, globals, rule, false, skinds, sends, spool, index, fill, memo, e,
     );

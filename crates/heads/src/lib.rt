@@ -26,7 +26,7 @@ use index::Fill;
 use lookups::merge_of;
 use outcome::{Checked, Refusal, pass, refuse1};
 use pairs::mark_values;
-use program::job::{EXPRESSIONS, size};
+use program::job::{Table, size};
 use program::read::{action_at, rule_actions_at, rule_name_at};
 
 // What a head's actions give: whether the claimed pair, if it is not reflexive, is among their pairs.
@@ -267,7 +267,7 @@ fn run_produces(
         return pass(0, have);
     }
     marks::clear(marks);
-    mark_values(memo, size(job, EXPRESSIONS), marks);
+    mark_values(memo, size(job, Table::Expressions), marks);
     let claimed = is_covered(skinds, sends, spool, have, marks, q.lhs);
     produced(claimed, rule, q, have)
 }

@@ -12,9 +12,6 @@ returns-then-v-ne0 c = let P = c.requires in λ t u w. run-stops P.standing P.e_
 pub returns-then-v-q : goal.returns-then-v-q
 returns-then-v-q c = let P = c.requires in λ t u w. run_is P.standing P.e_bound P.lhs_value c.evaluate-v.ensures t u w c.if-v-ne0.false c.if-v-q.true c.pass.ensures
 
-pub size-requires : goal.size-requires
-size-requires c = record { held = c.requires.standing.ready.held; table_bound = omega arith }
-
 pub mark_values-requires : goal.mark_values-requires
 mark_values-requires c = let f = c.requires.standing.fits in let k = c.evaluate-v.auto.memo in omega arith
 
