@@ -19,7 +19,7 @@ use evaluate::{Scope, eval};
 use index::{Fill, Store};
 use outcome::{Checked, Refusal};
 use pairs::mark_values;
-use program::job::{EXPRESSIONS, size};
+use program::job::{Table, size};
 use program::read::action_at;
 
 // What an action did: bound a name to a term, joined two terms, or neither.
@@ -66,7 +66,7 @@ pub fn yield_value(
     ensures going { result.refusal.number ≡ 0 → GoingIn scope.now.job.now scope.now.rule (bindings_under scope.now) marking store.new result.fill memo.new marks.new }
     ensures loans { SameLoans store.old store.new }
 {
-    let count = size(scope.job, EXPRESSIONS);
+    let count = size(scope.job, Table::Expressions);
     let r = eval(scope, false, store, fill, memo, e);
     if r.refusal.number != 0 {
         return r;

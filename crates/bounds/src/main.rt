@@ -5,7 +5,7 @@
 ghost use Rattle.std.specs.Prelude.{◌≡◌, ◌+◌, ◌*◌, ◌≤◌, ◌<◌, length};
 
 use cells::{copy, wide};
-use load::{Loaded, load};
+use load::{Rejection, load};
 use std::io;
 
 // The most cells and words that a job can have: 53,248 and 131,072, behind twelve sizes.
@@ -16,19 +16,19 @@ fn job_words() -> [u32; 240000]
 }
 
 // Writes a text, a number and the answer of loading, to the end of a line.
-fn report(rt: &impl Print, name: &str, n: u64, r: Loaded) -> io::Result<()> {
+fn report(rt: &impl Print, name: &str, n: u64, r: Result<(), Rejection>) -> io::Result<()> {
     print!(rt; "{name}{n}: ")?;
     match r {
-        Loaded::Admitted => println!(rt; "admitted"),
-        Loaded::Host(number) => println!(rt; "{number}"),
-        Loaded::Writer(number, cell) => println!(rt; "{number} at cell {cell}"),
+        Ok(()) => println!(rt; "admitted"),
+        Err(Rejection::Host(number)) => println!(rt; "{number}"),
+        Err(Rejection::Writer(number, cell)) => println!(rt; "{number} at cell {cell}"),
     }
 }
 
 // Loads the first words of a job for proof 0 in mode 0, with 65,536 cells, 1,048,576 words, two slots a cell and enough scratch.
-fn answer(job: &[u32], count: usize) -> Loaded {
+fn answer(job: &[u32], count: usize) -> Result<(), Rejection> {
     if job.len() < count {
-        return Loaded::Host(0);
+        return Err(Rejection::Host(0));
     }
     let mut index = [0u32; 131072];
     load(

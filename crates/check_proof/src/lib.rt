@@ -19,7 +19,7 @@ use index::{Fill, Store};
 use lookups::{chain_tables, needs_no_chains};
 use normal_form::find_offences;
 use outcome::Checked;
-use program::job::{PROOFS, size};
+use program::job::{Table, size};
 use walk::walk;
 
 // The outcome of the asked proof, where the offences and the chains of long tables are found.
@@ -45,7 +45,7 @@ fn check_found(
     let mut unions = [0u32; 512];
     let c = store.kinds.len();
     let d = c + c;
-    let e = d + size(job, PROOFS);
+    let e = d + size(job, Table::Proofs);
     let g = new_context(
         job,
         found,

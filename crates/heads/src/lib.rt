@@ -27,7 +27,7 @@ use index::{Fill, Store};
 use lookups::merge_of;
 use outcome::{Checked, Refusal, pass, refuse1};
 use pairs::mark_values;
-use program::job::{EXPRESSIONS, size};
+use program::job::{Table, size};
 use program::read::{action_at, rule_actions_at, rule_name_at};
 
 // What a head's actions give: whether the claimed pair, if it is not reflexive, is among their pairs.
@@ -230,7 +230,7 @@ fn run_produces(
         return pass(0, have);
     }
     marks::clear(marks);
-    mark_values(memo, size(scope.job, EXPRESSIONS), marks);
+    mark_values(memo, size(scope.job, Table::Expressions), marks);
     let claimed = is_covered(store, have, marks, q.lhs);
     produced(claimed, scope.rule, q, have)
 }

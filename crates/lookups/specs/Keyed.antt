@@ -3,7 +3,8 @@ use Rattle.std.specs.Prelude.{ℕ, ◌≤◌, Bool, true, false, List, get_or}
 use Rattle.model.specs.Layout.{sizes_of, kinds_of, ends_of, pool_of}
 use Rattle.chains.specs.Chains.{words_from, slot_at, Chained}
 use Rattle.load.specs.Held.{cell_number}
-use Rattle.program.specs.Ready.{count_for, fill_for}
+use Rattle.program.specs.declared.job.Table.{Table}
+use Rattle.program.specs.Ready.{number_of, count_for, fill_for}
 
 -- The words of cell i of table k.
 abbrev pub words_in : List ℕ → ℕ → ℕ → List ℕ
@@ -15,7 +16,7 @@ pub record ChainedTable (J N : List ℕ) (k : ℕ) (rows : Bool) (b : ℕ) : Typ
 
 -- The four tables are.
 pub record Keyed (J N : List ℕ) : Type 0 where
-  pub rows : ChainedTable J N 6 true 4097
-  pub normalisers : ChainedTable J N 7 false 12289
-  pub rules : ChainedTable J N 8 false 20481
-  pub functions : ChainedTable J N 4 false 28673
+  pub rows : ChainedTable J N (number_of Table.Rows) true 4097
+  pub normalisers : ChainedTable J N (number_of Table.Normalisers) false 12289
+  pub rules : ChainedTable J N (number_of Table.Rules) false 20481
+  pub functions : ChainedTable J N (number_of Table.Functions) false 28673

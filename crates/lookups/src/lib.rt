@@ -13,7 +13,7 @@ ghost use Rattle.model.specs.Normalize.{normaliser_of, normalize_app, normalize_
 ghost use Rattle.model.specs.Walk.{duplicate_rule_name};
 ghost use Rattle.termdag.specs.Store.{terms_of, StoredIn};
 ghost use Rattle.chains.specs.Chains.{has_key, same_key, Within, FirstHit, Differ};
-ghost use Rattle.program.specs.Ready.{Held, Ready, tables_for, table_for, count_for, program_for, option_of, FindsCell, FindsRule, Merges};
+ghost use Rattle.program.specs.Ready.{Held, Ready, number_of, tables_for, table_for, count_for, program_for, option_of, FindsCell, FindsRule, Merges};
 ghost use Rattle.lookups.specs.Keyed.{words_in, ChainedTable, Keyed};
 
 use cell_tests::words::at;
@@ -21,30 +21,53 @@ use cells::{same_words, wide};
 use decode::{Term, read_function, read_normaliser, read_row, row_arguments, rule_name};
 use index::{Fill, Store};
 use program::job::{
-    FUNCTIONS, NORMALISERS, ROWS, RULES, cell_count, cell_words, ends, fill, first, kind_at, kinds,
-    nearest_first, pool, size, words_at,
+    Table, cell_count, cell_words, ends, fill, first, kind_at, kinds, nearest_first, pool, size,
+    words_at,
 };
 
 // A table of fewer cells is looked through, which is quicker than its chains.
 const FEW: usize = 64;
 
-// Where the multiplier stands, and where the chains of each table start.
+// Where the multiplier stands.
 const MULTIPLIER: usize = 4096;
 
-const ROW_CHAINS: usize = 4097;
+// How a table is chained: where its chains start, and whether its keys have arguments, as a row's do.
+#[derive(Clone, Copy)]
+struct Chaining {
+    table: Table,
+    start: usize,
+    rows: bool,
+}
 
-const NORMALISER_CHAINS: usize = 12289;
+const ROWS: Chaining = Chaining {
+    table: Table::Rows,
+    start: 4097,
+    rows: true,
+};
 
-const RULE_CHAINS: usize = 20481;
+const NORMALISERS: Chaining = Chaining {
+    table: Table::Normalisers,
+    start: 12289,
+    rows: false,
+};
 
-const FUNCTION_CHAINS: usize = 28673;
+const RULES: Chaining = Chaining {
+    table: Table::Rules,
+    start: 20481,
+    rows: false,
+};
+
+const FUNCTIONS: Chaining = Chaining {
+    table: Table::Functions,
+    start: 28673,
+    rows: false,
+};
 
 // Of the first `count` cells of a table, the place of the first of that name. The end of one cell is the start of the next.
-fn first_named(job: &[u32], table: usize, count: usize, name: u32) -> Option<usize>
+fn first_named(job: &[u32], table: Table, count: usize, name: u32) -> Option<usize>
     requires held { Held job.now }
-    requires table_bound { table < 10 }
-    requires count_bound { count ≤ count_for job.now table }
-    ensures { FindsCell (take count (table_for job.now table)) count name result }
+    requires count_bound { count ≤ count_for job.now (number_of table) }
+    ensures { FindsCell (take count (table_for job.now (number_of table))) count name result }
 {
     let start = first(job, table);
     let n = cell_count(job);
@@ -62,26 +85,25 @@ fn first_named(job: &[u32], table: usize, count: usize, name: u32) -> Option<usi
 }
 
 // Chains the cells of a table by their keys, unless they are few.
-fn chain_table(job: &[u32], found: &mut [u32], table: usize, b: usize, rows: bool)
+fn chain_table(job: &[u32], found: &mut [u32], by: Chaining)
     requires held { Held job.now }
-    requires table_bound { table < 10 }
-    requires table_bound_2 { count_for job.now table ≤ 4096 }
-    requires lt_b { 4096 < b }
-    requires b_in_bounds { b + 8192 ≤ length found.old }
-    ensures chained { ChainedTable job.now found.new table rows b }
-    ensures within { Within b 8192 found.old found.new }
+    requires count_bound { count_for job.now (number_of by.table) ≤ 4096 }
+    requires start_bound { 4096 < by.start }
+    requires in_bounds { by.start + 8192 ≤ length found.old }
+    ensures chained { ChainedTable job.now found.new (number_of by.table) by.rows by.start }
+    ensures within { Within by.start 8192 found.old found.new }
 {
-    let count = size(job, table);
+    let count = size(job, by.table);
     if count < FEW {
         return;
     }
     let x = found[MULTIPLIER];
     let f = fill(job);
     let n = f.cells;
-    let start = nearest_first(job, table);
+    let start = nearest_first(job, by.table);
     chains::chain(
         found,
-        b,
+        by.start,
         x,
         kinds(job, n),
         ends(job, n),
@@ -89,7 +111,7 @@ fn chain_table(job: &[u32], found: &mut [u32], table: usize, b: usize, rows: boo
         f,
         start,
         count,
-        rows,
+        by.rows,
     )
 }
 
@@ -101,10 +123,10 @@ pub fn chain_tables(job: &[u32], x: u32, found: &mut [u32])
     ensures within { Within 4096 32769 found.old found.new }
 {
     found[MULTIPLIER] = x;
-    chain_table(job, found, ROWS, ROW_CHAINS, true);
-    chain_table(job, found, NORMALISERS, NORMALISER_CHAINS, false);
-    chain_table(job, found, RULES, RULE_CHAINS, false);
-    chain_table(job, found, FUNCTIONS, FUNCTION_CHAINS, false)
+    chain_table(job, found, ROWS);
+    chain_table(job, found, NORMALISERS);
+    chain_table(job, found, RULES);
+    chain_table(job, found, FUNCTIONS)
 }
 
 // No table is chained, as all are small.
@@ -112,37 +134,28 @@ pub fn needs_no_chains(job: &[u32]) -> bool
     requires { Held job.now }
     ensures { result ≡ true → (N : List ℕ) → Keyed job.now N }
 {
-    (size(job, ROWS) < FEW)
-        & (size(job, NORMALISERS) < FEW)
-        & (size(job, RULES) < FEW)
-        & (size(job, FUNCTIONS) < FEW)
+    (size(job, Table::Rows) < FEW)
+        & (size(job, Table::Normalisers) < FEW)
+        & (size(job, Table::Rules) < FEW)
+        & (size(job, Table::Functions) < FEW)
 }
 
 // The place of the first cell of a table that has the key, by its chains.
-fn find_key(
-    job: &[u32],
-    found: &[u32],
-    table: usize,
-    b: usize,
-    rows: bool,
-    head: u32,
-    args: &[u32],
-) -> Option<usize>
+fn find_key(job: &[u32], found: &[u32], by: Chaining, head: u32, args: &[u32]) -> Option<usize>
     requires held { Held job.now }
-    requires table_bound { table < 10 }
-    requires lt_b { 4096 < b }
-    requires chained_table { ChainedTable job.now found.now table rows b }
-    requires bound { 64 ≤ count_for job.now table }
-    ensures { FirstHit (λ i. has_key rows (words_in job.now table i) head args.now) (count_for job.now table) result }
+    requires start_bound { 4096 < by.start }
+    requires chained_table { ChainedTable job.now found.now (number_of by.table) by.rows by.start }
+    requires bound { 64 ≤ count_for job.now (number_of by.table) }
+    ensures { FirstHit (λ i. has_key by.rows (words_in job.now (number_of by.table) i) head args.now) (count_for job.now (number_of by.table)) result }
 {
     let x = found[MULTIPLIER];
     let f = fill(job);
     let n = f.cells;
-    let start = nearest_first(job, table);
-    let count = size(job, table);
+    let start = nearest_first(job, by.table);
+    let count = size(job, by.table);
     chains::find(
         found,
-        b,
+        by.start,
         x,
         kinds(job, n),
         ends(job, n),
@@ -150,26 +163,26 @@ fn find_key(
         f,
         start,
         count,
-        rows,
+        by.rows,
         head,
         args,
     )
 }
 
 // The place of the first cell of a table that has the name.
-fn find_named(job: &[u32], found: &[u32], table: usize, b: usize, name: u32) -> Option<usize>
+fn find_named(job: &[u32], found: &[u32], by: Chaining, name: u32) -> Option<usize>
     requires held { Held job.now }
-    requires table_bound { table < 10 }
-    requires lt_b { 4096 < b }
-    requires chained_table { ChainedTable job.now found.now table false b }
-    ensures { FindsCell (table_for job.now table) (count_for job.now table) name result }
+    requires start_bound { 4096 < by.start }
+    requires by_name { by.rows ≡ false }
+    requires chained_table { ChainedTable job.now found.now (number_of by.table) by.rows by.start }
+    ensures { FindsCell (table_for job.now (number_of by.table)) (count_for job.now (number_of by.table)) name result }
 {
-    let count = size(job, table);
+    let count = size(job, by.table);
     if count < FEW {
-        return first_named(job, table, count, name);
+        return first_named(job, by.table, count, name);
     }
     let none = [0u32; 0];
-    find_key(job, found, table, b, false, name, &none)
+    find_key(job, found, by, name, &none)
 }
 
 // The result of the row of a primitive and its arguments, among all rows.
@@ -177,8 +190,8 @@ fn scan_rows(job: &[u32], p: u32, args: &[u32]) -> Option<u32>
     requires { Ready job.now }
     ensures { option_of result ≡ row_value (program_for job.now).rows p args.now }
 {
-    let count = size(job, ROWS);
-    let start = first(job, ROWS);
+    let count = size(job, Table::Rows);
+    let start = first(job, Table::Rows);
     for i in 0..count {
         let ws = cell_words(job, start + i);
         let row = read_row(ws);
@@ -196,14 +209,14 @@ pub fn row_value(job: &[u32], found: &[u32], p: u32, args: &[u32]) -> Option<u32
     requires keyed { Keyed job.now found.now }
     ensures { option_of result ≡ row_value (program_for job.now).rows p args.now }
 {
-    if size(job, ROWS) < FEW {
+    if size(job, Table::Rows) < FEW {
         return scan_rows(job, p, args);
     }
-    let place = find_key(job, found, ROWS, ROW_CHAINS, true, p, args);
+    let place = find_key(job, found, ROWS, p, args);
     let Some(i) = place else {
         return None;
     };
-    let row = read_row(words_at(job, ROWS, i));
+    let row = read_row(words_at(job, Table::Rows, i));
     Some(row.result)
 }
 
@@ -213,11 +226,11 @@ pub fn normaliser_of(job: &[u32], found: &[u32], head: u32) -> Option<u32>
     requires keyed { Keyed job.now found.now }
     ensures { option_of result ≡ normaliser_of (program_for job.now).normalisers head }
 {
-    let place = find_named(job, found, NORMALISERS, NORMALISER_CHAINS, head);
+    let place = find_named(job, found, NORMALISERS, head);
     let Some(i) = place else {
         return None;
     };
-    let n = read_normaliser(words_at(job, NORMALISERS, i));
+    let n = read_normaliser(words_at(job, Table::Normalisers, i));
     Some(n.primitive)
 }
 
@@ -227,7 +240,7 @@ pub fn rule_of(job: &[u32], found: &[u32], name: u32) -> Option<usize>
     requires keyed { Keyed job.now found.now }
     ensures { FindsRule (program_for job.now).rules (sizes_of job.now).rules name result }
 {
-    find_named(job, found, RULES, RULE_CHAINS, name)
+    find_named(job, found, RULES, name)
 }
 
 // The merge of the first function of a name.
@@ -236,11 +249,14 @@ pub fn merge_of(job: &[u32], found: &[u32], function: u32) -> Option<u32>
     requires keyed { Keyed job.now found.now }
     ensures { Merges (expr_of (tables_for job.now).expressions) (sizes_of job.now).expressions result (merge_of (program_for job.now).functions function) }
 {
-    let place = find_named(job, found, FUNCTIONS, FUNCTION_CHAINS, function);
+    let place = find_named(job, found, FUNCTIONS, function);
     let Some(i) = place else {
         return None;
     };
-    let f = read_function(kind_at(job, FUNCTIONS, i), words_at(job, FUNCTIONS, i));
+    let f = read_function(
+        kind_at(job, Table::Functions, i),
+        words_at(job, Table::Functions, i),
+    );
     f.merge
 }
 
@@ -249,10 +265,10 @@ fn scan_rule_names(job: &[u32]) -> Option<u32>
     requires { Ready job.now }
     ensures { option_of result ≡ duplicate_rule_name [] (program_for job.now).rules }
 {
-    let count = size(job, RULES);
+    let count = size(job, Table::Rules);
     for i in 0..count {
-        let name = rule_name(words_at(job, RULES, i));
-        let seen = first_named(job, RULES, i, name);
+        let name = rule_name(words_at(job, Table::Rules, i));
+        let seen = first_named(job, Table::Rules, i, name);
         if let Some(_) = seen {
             return Some(name);
         }
@@ -263,18 +279,18 @@ fn scan_rule_names(job: &[u32]) -> Option<u32>
 // How many rules, from the first on, have another name than those before them.
 fn differing_rules(job: &[u32], found: &[u32]) -> usize
     requires held { Held job.now }
-    requires chained_table { ChainedTable job.now found.now 8 false 20481 }
-    requires bound { 64 ≤ count_for job.now 8 }
-    ensures { Differ (same_key false (words_in job.now 8)) (count_for job.now 8) result }
+    requires chained_table { ChainedTable job.now found.now (number_of RULES.table) RULES.rows RULES.start }
+    requires bound { 64 ≤ count_for job.now (number_of RULES.table) }
+    ensures { Differ (same_key RULES.rows (words_in job.now (number_of RULES.table))) (count_for job.now (number_of RULES.table)) result }
 {
     let x = found[MULTIPLIER];
     let f = fill(job);
     let n = f.cells;
-    let start = nearest_first(job, RULES);
-    let count = size(job, RULES);
+    let start = nearest_first(job, Table::Rules);
+    let count = size(job, Table::Rules);
     chains::differing(
         found,
-        RULE_CHAINS,
+        RULES.start,
         x,
         kinds(job, n),
         ends(job, n),
@@ -282,7 +298,7 @@ fn differing_rules(job: &[u32], found: &[u32]) -> usize
         f,
         start,
         count,
-        false,
+        RULES.rows,
     )
 }
 
@@ -292,13 +308,13 @@ pub fn duplicate_rule_name(job: &[u32], found: &[u32]) -> Option<u32>
     requires keyed { Keyed job.now found.now }
     ensures { option_of result ≡ duplicate_rule_name [] (program_for job.now).rules }
 {
-    let count = size(job, RULES);
+    let count = size(job, Table::Rules);
     if count < FEW {
         return scan_rule_names(job);
     }
     let i = differing_rules(job, found);
     if i < count {
-        return Some(rule_name(words_at(job, RULES, i)));
+        return Some(rule_name(words_at(job, Table::Rules, i)));
     }
     None
 }

@@ -16,9 +16,9 @@ ghost use Rattle.normal_form.specs.Search.{offence_of, offence_in, container_in,
 use cells::wide;
 use decode::{Fact, Head};
 use outcome::Refusal;
-use program::job::{EXPRESSIONS, size};
+use program::job::{Table, size};
+use program::primitive_at;
 use program::read::{arguments_at, fact_at, head_at};
-use program::{primitive_at};
 
 // An argument, by its expression number, that is not in proof normal form.
 #[derive(Clone, Copy)]
@@ -176,7 +176,7 @@ pub fn find_offences(job: &[u32], found: &mut [u32])
     requires job_in_bounds { (sizes_of job.now).expressions ≤ length found.old }
     ensures { Searched job.now found.new }
 {
-    for e in 0..size(job, EXPRESSIONS) {
+    for e in 0..size(job, Table::Expressions) {
         let offence = first_offence(job, found, e);
         found[e] = word_of(offence, is_container_primitive(job, e));
     }

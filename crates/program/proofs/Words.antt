@@ -3,6 +3,8 @@ use mathlib.Core.Path.{◌≡◌, refl, sym, ap, subst, ◌∙◌}
 use mathlib.Core.List.{List}
 use Prim.Native.Nat.{ℕ, zero, suc, ◌+◌, ◌-◌, ◌≤◌, ◌<◌, ◌/◌}
 use native.Mathlib.Omega.{arith}
+use denote.Enum.Declared.{tag_of}
+use lib.Dec.{lit<}
 use lib.ListN.{length, get_or, take, drop}
 use lib.Seq.{get_or-take, get_or-drop}
 use Rattle.model.specs.Cell.{Cell, no_cell, start_of, words_at, cells_of}
@@ -16,7 +18,34 @@ use Rattle.index.specs.declared.Fill.{Fill as IndexedFill}
 use Rattle.termdag.specs.Store.{Loadable, Loaded}
 use Rattle.load.specs.Held.{cell_number}
 use Rattle.load.proofs.TableLaws.{table-cell, place_inside, number-count}
-use Rattle.program.specs.Ready.{Held, fill_for, cells_for, cell_for, table_for, count_for}
+use Rattle.program.specs.declared.job.Table.{Table}
+use Rattle.program.specs.contracts.job.Table.{the_type}
+use Rattle.program.specs.Ready.{Held, number_of, fill_for, cells_for, cell_for, table_for, count_for}
+
+-- the number of a table
+pub number-below : (t : Table) → number_of t < 10
+number-below Table.Terms = lit< tt
+number-below Table.Expressions = lit< tt
+number-below Table.Facts = lit< tt
+number-below Table.Actions = lit< tt
+number-below Table.Functions = lit< tt
+number-below Table.Primitives = lit< tt
+number-below Table.Rows = lit< tt
+number-below Table.Normalisers = lit< tt
+number-below Table.Rules = lit< tt
+number-below Table.Proofs = lit< tt
+
+pub number-is : (t : Table) → tag_of the_type t ≡ number_of t
+number-is Table.Terms = refl
+number-is Table.Expressions = refl
+number-is Table.Facts = refl
+number-is Table.Actions = refl
+number-is Table.Functions = refl
+number-is Table.Primitives = refl
+number-is Table.Rows = refl
+number-is Table.Normalisers = refl
+number-is Table.Rules = refl
+number-is Table.Proofs = refl
 
 -- the sizes among the first twelve words
 module _ (J : List ℕ) where

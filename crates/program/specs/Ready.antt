@@ -13,6 +13,7 @@ use Rattle.decode.specs.View as view
 use Rattle.cells.specs.Table.{Formed}
 use Rattle.cells.specs.declared.Fill.{Fill}
 use Rattle.load.specs.Held.{Limits, counts_of, first_found}
+use Rattle.program.specs.declared.job.Table.{Table}
 
 -- The cells of a job, cell i, and the tables.
 abbrev pub cells_for : List ℕ → List Cell
@@ -23,6 +24,19 @@ cell_for J i = get_or (cells_for J) i no_cell
 
 abbrev pub tables_for : List ℕ → Tables
 tables_for J = tables_in (sizes_of J) (cells_for J)
+
+-- The number of a table, in the order of the tables.
+abbrev pub number_of : Table → ℕ
+number_of Table.Terms = 0
+number_of Table.Expressions = 1
+number_of Table.Facts = 2
+number_of Table.Actions = 3
+number_of Table.Functions = 4
+number_of Table.Primitives = 5
+number_of Table.Rows = 6
+number_of Table.Normalisers = 7
+number_of Table.Rules = 8
+number_of Table.Proofs = 9
 
 -- The cells of table k, in the order of the tables, and how many they are.
 abbrev pub table_for : List ℕ → ℕ → List Cell

@@ -5,31 +5,25 @@ ghost use Rattle.model.specs.Cell.{no_cell};
 ghost use Rattle.model.specs.Layout.{sizes_of, kinds_of, ends_of, pool_of, cell_count};
 ghost use Rattle.termdag.specs.Store.{LoadableIn, LoadedIn};
 ghost use Rattle.load.specs.Held.{cell_number};
-ghost use Rattle.program.specs.Ready.{Held, table_for, count_for, cell_for, fill_for};
+ghost use Rattle.program.specs.Ready.{Held, number_of, table_for, count_for, cell_for, fill_for};
 
 use cells::{Fill, wide, words};
 use index::Store;
 
-// The tables, by their numbers.
-pub const TERMS: usize = 0;
-
-pub const EXPRESSIONS: usize = 1;
-
-pub const FACTS: usize = 2;
-
-pub const ACTIONS: usize = 3;
-
-pub const FUNCTIONS: usize = 4;
-
-pub const PRIMITIVES: usize = 5;
-
-pub const ROWS: usize = 6;
-
-pub const NORMALISERS: usize = 7;
-
-pub const RULES: usize = 8;
-
-pub const PROOFS: usize = 9;
+// The tables of a job, in their order.
+#[derive(Clone, Copy)]
+pub enum Table {
+    Terms,
+    Expressions,
+    Facts,
+    Actions,
+    Functions,
+    Primitives,
+    Rows,
+    Normalisers,
+    Rules,
+    Proofs,
+}
 
 // The number of global actions: the fifth size, which counts no cells of its own.
 pub fn globals(job: &[u32]) -> usize
@@ -39,27 +33,34 @@ pub fn globals(job: &[u32]) -> usize
     wide(job[4])
 }
 
-// The number of cells of a table.
-pub fn size(job: &[u32], table: usize) -> usize
+// The number of cells of table k.
+fn count_at(job: &[u32], k: usize) -> usize
     requires held { Held job.now }
-    requires table_bound { table < 10 }
-    ensures { result ≡ count_for job.now table }
+    requires k_bound { k < 10 }
+    ensures { result ≡ count_for job.now k }
 {
-    if table < 4 {
-        return wide(job[table]);
+    if k < 4 {
+        return wide(job[k]);
     }
-    wide(job[table + 1])
+    wide(job[k + 1])
+}
+
+// The number of cells of a table.
+pub fn size(job: &[u32], table: Table) -> usize
+    requires { Held job.now }
+    ensures { result ≡ count_for job.now (number_of table) }
+{
+    count_at(job, table as usize)
 }
 
 // The number, over all tables, of the first cell of a table.
-pub fn first(job: &[u32], table: usize) -> usize
-    requires held { Held job.now }
-    requires table_bound { table < 10 }
-    ensures { result ≡ cell_number (sizes_of job.now) table }
+pub fn first(job: &[u32], table: Table) -> usize
+    requires { Held job.now }
+    ensures { result ≡ cell_number (sizes_of job.now) (number_of table) }
 {
     let mut sum = 0;
-    for k in 0..table {
-        sum += size(job, k);
+    for k in 0..table as usize {
+        sum += count_at(job, k);
     }
     sum
 }
@@ -86,26 +87,24 @@ pub fn cell_count(job: &[u32]) -> usize
 }
 
 // The number of the first cell of a table, counted from the end of all cells.
-fn first_behind(job: &[u32], table: usize) -> usize
-    requires held { Held job.now }
-    requires table_bound { table < 10 }
-    ensures { result ≡ cell_number (sizes_of job.now) table }
+fn first_behind(job: &[u32], table: Table) -> usize
+    requires { Held job.now }
+    ensures { result ≡ cell_number (sizes_of job.now) (number_of table) }
 {
     let f = fill(job);
     let mut left = f.cells;
-    for k in (table..10).rev() {
-        left -= size(job, k);
+    for k in (table as usize..10).rev() {
+        left -= count_at(job, k);
     }
     left
 }
 
 // The number of the first cell of a table, by the side with fewer sizes to read.
-pub fn nearest_first(job: &[u32], table: usize) -> usize
-    requires held { Held job.now }
-    requires table_bound { table < 10 }
-    ensures { result ≡ cell_number (sizes_of job.now) table }
+pub fn nearest_first(job: &[u32], table: Table) -> usize
+    requires { Held job.now }
+    ensures { result ≡ cell_number (sizes_of job.now) (number_of table) }
 {
-    if table < 6 {
+    if (table as usize) < 6 {
         return first(job, table);
     }
     first_behind(job, table)
@@ -155,22 +154,20 @@ pub fn cell_words(job: &[u32], i: usize) -> &[u32]
 }
 
 // The kind of cell i of a table.
-pub fn kind_at(job: &[u32], table: usize, i: usize) -> u32
+pub fn kind_at(job: &[u32], table: Table, i: usize) -> u32
     requires held { Held job.now }
-    requires table_bound { table < 10 }
-    requires i_bound { i < count_for job.now table }
-    ensures { result ≡ (get_or (table_for job.now table) i no_cell).kind }
+    requires i_bound { i < count_for job.now (number_of table) }
+    ensures { result ≡ (get_or (table_for job.now (number_of table)) i no_cell).kind }
 {
     let k = nearest_first(job, table) + i;
     job[12 + k]
 }
 
 // The words of cell i of a table.
-pub fn words_at(job: &[u32], table: usize, i: usize) -> &[u32]
+pub fn words_at(job: &[u32], table: Table, i: usize) -> &[u32]
     requires held { Held job.now }
-    requires table_bound { table < 10 }
-    requires i_bound { i < count_for job.now table }
-    ensures { result.now ≡ (get_or (table_for job.now table) i no_cell).words }
+    requires i_bound { i < count_for job.now (number_of table) }
+    ensures { result.now ≡ (get_or (table_for job.now (number_of table)) i no_cell).words }
 {
     let k = nearest_first(job, table) + i;
     cell_words(job, k)
@@ -186,7 +183,7 @@ pub fn load_terms(job: &[u32], multiplier: u32, store: &mut Store<'_>) -> index:
 {
     let f = fill(job);
     let n = f.cells;
-    let terms = size(job, TERMS);
+    let terms = size(job, Table::Terms);
     termdag::load_terms(
         kinds(job, n),
         ends(job, n),

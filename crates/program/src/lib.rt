@@ -11,7 +11,7 @@ ghost use Rattle.model.specs.Evaluate.{lookup, primitive_at};
 ghost use Rattle.decode.specs.View.{primitive_of};
 ghost use Rattle.program.specs.Ready.{Ready, program_for, option_of};
 
-use crate::job::{PRIMITIVES, kind_at, words_at};
+use crate::job::{Table, kind_at, words_at};
 use decode::{Primitive, read_primitive};
 
 // The term bound to a name in pairs of name and term: the first pair counts.
@@ -32,5 +32,8 @@ pub fn primitive_at(job: &[u32], p: usize) -> Primitive
     requires p_bound { p < (sizes_of job.now).primitives }
     ensures { primitive_of result ≡ primitive_at (program_for job.now).primitives p }
 {
-    read_primitive(kind_at(job, PRIMITIVES, p), words_at(job, PRIMITIVES, p))
+    read_primitive(
+        kind_at(job, Table::Primitives, p),
+        words_at(job, Table::Primitives, p),
+    )
 }

@@ -4,7 +4,7 @@ ghost use Rattle.model.specs.Layout.{sizes_of};
 ghost use Rattle.program.specs.Ready.{Ready, rule_for};
 ghost use Rattle.program.specs.Read.{HeadAt, ArgumentsAt, FactAt, ActionAt, RuleFactsAt, RuleActionsAt, proof_cell, ClaimAt, JustificationAt, PremisesAt, SubstitutionAt};
 
-use crate::job::{ACTIONS, EXPRESSIONS, FACTS, PROOFS, RULES, kind_at, words_at};
+use crate::job::{Table, kind_at, words_at};
 use decode::{
     Action, Fact, Head, Justification, Proposition, read_action, read_arguments, read_claim,
     read_fact, read_head, read_justification, rule_actions, rule_facts, rule_name, rule_pairs,
@@ -17,7 +17,10 @@ pub fn head_at(job: &[u32], e: usize) -> Head
     requires e_bound { e < (sizes_of job.now).expressions }
     ensures { HeadAt job.now e result }
 {
-    read_head(kind_at(job, EXPRESSIONS, e), words_at(job, EXPRESSIONS, e))
+    read_head(
+        kind_at(job, Table::Expressions, e),
+        words_at(job, Table::Expressions, e),
+    )
 }
 
 // The arguments of expression e.
@@ -26,7 +29,10 @@ pub fn arguments_at<'a>(job: &'a [u32], e: usize) -> &'a [u32]
     requires e_bound { e < (sizes_of job.now).expressions }
     ensures { ArgumentsAt job.now e result.now }
 {
-    read_arguments(kind_at(job, EXPRESSIONS, e), words_at(job, EXPRESSIONS, e))
+    read_arguments(
+        kind_at(job, Table::Expressions, e),
+        words_at(job, Table::Expressions, e),
+    )
 }
 
 // Fact i.
@@ -35,7 +41,10 @@ pub fn fact_at(job: &[u32], i: usize) -> Fact
     requires i_bound { i < (sizes_of job.now).facts }
     ensures { FactAt job.now i result }
 {
-    read_fact(kind_at(job, FACTS, i), words_at(job, FACTS, i))
+    read_fact(
+        kind_at(job, Table::Facts, i),
+        words_at(job, Table::Facts, i),
+    )
 }
 
 // Action i.
@@ -44,7 +53,10 @@ pub fn action_at(job: &[u32], i: usize) -> Action
     requires i_bound { i < (sizes_of job.now).actions }
     ensures { ActionAt job.now i result }
 {
-    read_action(kind_at(job, ACTIONS, i), words_at(job, ACTIONS, i))
+    read_action(
+        kind_at(job, Table::Actions, i),
+        words_at(job, Table::Actions, i),
+    )
 }
 
 // The name of rule r.
@@ -53,7 +65,7 @@ pub fn rule_name_at(job: &[u32], r: usize) -> u32
     requires r_bound { r < (sizes_of job.now).rules }
     ensures { result ≡ (rule_for job.now r).name }
 {
-    rule_name(words_at(job, RULES, r))
+    rule_name(words_at(job, Table::Rules, r))
 }
 
 // The facts of rule r.
@@ -62,7 +74,7 @@ pub fn rule_facts_at<'a>(job: &'a [u32], r: usize) -> &'a [u32]
     requires r_bound { r < (sizes_of job.now).rules }
     ensures { RuleFactsAt job.now r result.now }
 {
-    rule_facts(words_at(job, RULES, r))
+    rule_facts(words_at(job, Table::Rules, r))
 }
 
 // The actions of rule r.
@@ -71,7 +83,7 @@ pub fn rule_actions_at<'a>(job: &'a [u32], r: usize) -> &'a [u32]
     requires r_bound { r < (sizes_of job.now).rules }
     ensures { RuleActionsAt job.now r result.now }
 {
-    rule_actions(words_at(job, RULES, r))
+    rule_actions(words_at(job, Table::Rules, r))
 }
 
 // What proof p claims.
@@ -80,7 +92,7 @@ pub fn claim_at(job: &[u32], p: usize) -> Proposition
     requires p_bound { p < (sizes_of job.now).proofs }
     ensures { ClaimAt job.now p result }
 {
-    read_claim(words_at(job, PROOFS, p))
+    read_claim(words_at(job, Table::Proofs, p))
 }
 
 // Why proof p holds.
@@ -89,7 +101,10 @@ pub fn justification_at(job: &[u32], p: usize) -> Justification
     requires p_bound { p < (sizes_of job.now).proofs }
     ensures { JustificationAt job.now p result }
 {
-    read_justification(kind_at(job, PROOFS, p), words_at(job, PROOFS, p))
+    read_justification(
+        kind_at(job, Table::Proofs, p),
+        words_at(job, Table::Proofs, p),
+    )
 }
 
 // The premises of proof p, which is by a rule.
@@ -99,7 +114,7 @@ pub fn premises_at<'a>(job: &'a [u32], p: usize) -> &'a [u32]
     requires p_value { (proof_cell job.now p).kind ≡ 1 }
     ensures { PremisesAt job.now p result.now }
 {
-    rule_premises(words_at(job, PROOFS, p))
+    rule_premises(words_at(job, Table::Proofs, p))
 }
 
 // The pairs of name and term of the substitution of proof p, which is by a rule.
@@ -109,5 +124,5 @@ pub fn substitution_at<'a>(job: &'a [u32], p: usize) -> &'a [u32]
     requires p_value { (proof_cell job.now p).kind ≡ 1 }
     ensures { SubstitutionAt job.now p result.now }
 {
-    rule_pairs(words_at(job, PROOFS, p))
+    rule_pairs(words_at(job, Table::Proofs, p))
 }

@@ -12,9 +12,6 @@ returns-then-v-ne0-clause-does c = let P = c.requires in λ t u w. run-stops P.s
 pub returns-then-v-q-clause-does : goal.returns-then-v-q-clause-does
 returns-then-v-q-clause-does c = let P = c.requires in λ t u w. run_is P.standing P.e_bound P.lhs_value c.evaluate-v.ensures.does t u w c.if-v-ne0.false c.if-v-q.true c.pass.ensures
 
-pub size-requires : goal.size-requires
-size-requires c = record { held = c.requires.standing.ready.held; table_bound = omega arith }
-
 pub mark_values-requires : goal.mark_values-requires
 mark_values-requires c = let f = c.requires.standing.fits in let k = c.evaluate-v.auto.memo in omega arith
 

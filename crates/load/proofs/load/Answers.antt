@@ -62,4 +62,4 @@ returns c = let a = c.args in
     let w = sym c.wrong_length.ensures ∙ c.if-wrong_length.false in
     let s = c.read_sizes-z.ensures.is in
     let p = ap (λ (y : Sizes). leb y.proofs a.asked) (sym s) ∙ lt-leb c.read_sizes-z.result.proofs a.asked (omega (arith, c.wide.ensures)) in
-    record { refusal = c.load_cells.ensures.refusal ∙ cut-refusal a.job.now c.read_sizes-z.result c.cell_count-n.result s c.cell_count-n.ensures w l ∙ behind-11 a.job.now a.asked a.mode l w (ap too_large (sym c.read_sizes-z.ensures.is) ∙ sym c.too_large.ensures ∙ c.if-too_large.false) p (le-ltb 1 a.mode (omega arith)); lists = on_ok_weaker c.load_cells.result (subst (λ (cs : List Cell). Lists a.multiplier c.load_cells.new.index cs) (cut-terms a.job.now c.read_sizes-z.result c.cell_count-n.result s c.cell_count-n.ensures w) ) c.load_cells.ensures.lists }
+    record { refusal = c.load_cells.ensures.refusal ∙ cut-refusal a.job.now c.read_sizes-z.result c.cell_count-n.result s c.cell_count-n.ensures w l ∙ behind-11 a.job.now a.asked a.mode l w (ap too_large (sym c.read_sizes-z.ensures.is) ∙ sym c.too_large.ensures ∙ c.if-too_large.false) p (le-ltb 1 a.mode (omega arith)); lists = on_ok_weaker c.load_cells.result (subst (λ (cs : List Cell). Lists a.multiplier c.load_cells.new.index cs) (cut-terms a.job.now c.read_sizes-z.result c.cell_count-n.result s c.cell_count-n.ensures w)) c.load_cells.ensures.lists }

@@ -2,7 +2,6 @@ use mathlib.Core.Path.{◌≡◌, sym, ap, ◌∙◌}
 use mathlib.Core.List.{[]}
 use mathlib.Core.Option.{some}
 use native.Mathlib.Omega.{arith}
-use lib.Dec.{lit<}
 use lib.ListN.{get_or}
 use Rattle.model.specs.Cell.{no_cell}
 use Rattle.model.specs.Layout.{sizes_of}
@@ -21,7 +20,7 @@ pub differing_rules-i-requires : goal.differing_rules-i-requires
 differing_rules-i-requires c = record { held = c.requires.ready.held; chained_table = c.requires.keyed.rules; bound = omega (arith, c.if-count-lt-FEW.false, c.size-count.ensures) }
 
 pub words_at-requires : goal.words_at-requires
-words_at-requires c = record { held = c.requires.ready.held; table_bound = lit< tt; i_bound = omega (arith, c.if-i-count.true, c.size-count.ensures) }
+words_at-requires c = record { held = c.requires.ready.held; i_bound = omega (arith, c.if-i-count.true, c.size-count.ensures) }
 
 pub rule_name-requires : goal.rule_name-requires
 rule_name-requires c = rule-words c.requires.ready c.differing_rules-i.result c.words_at.ensures (omega (arith, c.if-i-count.true, c.size-count.ensures))

@@ -1,7 +1,6 @@
-use mathlib.Core.Path.{◌≡◌, sym, ap, ◌∙◌}
+use mathlib.Core.Path.{refl, ◌≡◌, sym, ap, ◌∙◌}
 use Prim.Native.Nat.{ℕ}
 use native.Mathlib.Omega.{arith}
-use lib.Dec.{lit<}
 use lib.ListN.{get_or}
 use Rattle.model.specs.Cell.{no_cell}
 use Rattle.model.specs.Layout.{sizes_of}
@@ -16,7 +15,7 @@ use Rattle.lookups.proofs.Laws.{look-found, look-nothing, merge-looks}
 use Rattle.lookups.proofs.merge_of.Goals as goal
 
 pub find_named-place-requires : goal.find_named-place-requires
-find_named-place-requires c = record { held = c.requires.ready.held; table_bound = lit< tt; lt_b = omega arith; chained_table = c.requires.keyed.functions }
+find_named-place-requires c = record { held = c.requires.ready.held; start_bound = omega arith; by_name = refl; chained_table = c.requires.keyed.functions }
 
 pub returns-in_default : goal.returns-in_default
 returns-in_default c = let a = c.args in
@@ -28,10 +27,10 @@ returns-in_default c = let a = c.args in
     }
 
 pub kind_at-requires : goal.kind_at-requires
-kind_at-requires c = record { held = c.requires.ready.held; table_bound = lit< tt; i_bound = c.find_named-place.ensures.within c.in-Some.i c.in-Some.is }
+kind_at-requires c = record { held = c.requires.ready.held; i_bound = c.find_named-place.ensures.within c.in-Some.i c.in-Some.is }
 
 pub words_at-requires : goal.words_at-requires
-words_at-requires c = record { held = c.requires.ready.held; table_bound = lit< tt; i_bound = c.find_named-place.ensures.within c.in-Some.i c.in-Some.is }
+words_at-requires c = record { held = c.requires.ready.held; i_bound = c.find_named-place.ensures.within c.in-Some.i c.in-Some.is }
 
 pub read_function-f-requires : goal.read_function-f-requires
 read_function-f-requires c = let i = c.in-Some.i in

@@ -1,7 +1,6 @@
 use mathlib.Core.Path.{sym, ap, ◌∙◌}
 use mathlib.Core.Option.{some}
 use native.Mathlib.Omega.{arith}
-use lib.Dec.{lit<}
 use lib.ListN.{get_or}
 use Rattle.model.specs.Layout.{sizes_of}
 use Rattle.model.specs.Program.{Row}
@@ -16,7 +15,7 @@ pub returns-then-size-lt-FEW : goal.returns-then-size-lt-FEW
 returns-then-size-lt-FEW c = c.scan_rows.ensures
 
 pub find_key-place-requires : goal.find_key-place-requires
-find_key-place-requires c = record { held = c.requires.ready.held; table_bound = lit< tt; lt_b = omega arith; chained_table = c.requires.keyed.rows; bound = omega (arith, c.if-size-lt-FEW.false, c.size.ensures) }
+find_key-place-requires c = record { held = c.requires.ready.held; start_bound = omega arith; chained_table = c.requires.keyed.rows; bound = omega (arith, c.if-size-lt-FEW.false, c.size.ensures) }
 
 pub returns-in_default : goal.returns-in_default
 returns-in_default c = let a = c.args in
@@ -24,7 +23,7 @@ returns-in_default c = let a = c.args in
     sym (ap (λ rs. row_value rs a.p a.args.now) (rows-read (sizes_of J).globals (tables_for J)) ∙ look-nothing (row-looks a.p a.args.now) (tables_for J).rows (sym (row_first J a.p a.args.now c.find_key-place.ensures) ∙ c.in_default.is))
 
 pub words_at-requires : goal.words_at-requires
-words_at-requires c = record { held = c.requires.ready.held; table_bound = lit< tt; i_bound = (c.find_key-place.ensures.there c.in-Some.i c.in-Some.is).0 }
+words_at-requires c = record { held = c.requires.ready.held; i_bound = (c.find_key-place.ensures.there c.in-Some.i c.in-Some.is).0 }
 
 pub read_row-row-requires : goal.read_row-row-requires
 read_row-row-requires c = let i = c.in-Some.i in row_words c.requires.ready i c.words_at.ensures (c.find_key-place.ensures.there i c.in-Some.is).0

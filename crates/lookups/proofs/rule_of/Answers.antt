@@ -1,4 +1,4 @@
-use lib.Dec.{lit<}
+use mathlib.Core.Path.{refl}
 use native.Mathlib.Omega.{arith}
 use Rattle.model.specs.Layout.{sizes_of}
 use Rattle.program.specs.Ready.{tables_for}
@@ -7,7 +7,7 @@ use Rattle.lookups.proofs.Laws.{rule_found}
 use Rattle.lookups.proofs.rule_of.Goals as goal
 
 pub find_named-requires : goal.find_named-requires
-find_named-requires c = record { held = c.requires.ready.held; table_bound = lit< tt; lt_b = omega arith; chained_table = c.requires.keyed.rules }
+find_named-requires c = record { held = c.requires.ready.held; start_bound = omega arith; by_name = refl; chained_table = c.requires.keyed.rules }
 
 pub returns : goal.returns
 returns c = let a = c.args in
