@@ -22,7 +22,7 @@ ghost use Rattle.evaluate.specs.Value.{custom_term, head_term, bindings_under, e
 ghost use Rattle.evaluate.specs.Evaluation.{Memo, Knows, KnowsFirst, EvaluatesIn, EvaluatesRootIn};
 
 use cells::wide;
-use computing::{computed, find_computed};
+use computing::{compute, find_result};
 use decode::{Head, Validator};
 use index::{Fill, Store};
 use lookups::row_value;
@@ -84,7 +84,7 @@ fn validated(
             Some(t) => pass(t, fill),
             None => refuse1(46, name, fill),
         },
-        Validator::Computes(operation) => computed(store, fill, operation, name, args),
+        Validator::Computes(operation) => compute(store, fill, operation, name, args),
         Validator::Unknown(_) => refuse1(46, name, fill),
     }
 }
@@ -259,7 +259,7 @@ fn find_validated(
     match primitive.validator {
         Validator::Nothing | Validator::Unknown(_) => None,
         Validator::Rows => row_value(job, found, p, args),
-        Validator::Computes(operation) => { find_computed(store, fill, operation, args) }
+        Validator::Computes(operation) => { find_result(store, fill, operation, args) }
     }
 }
 

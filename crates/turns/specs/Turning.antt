@@ -160,4 +160,4 @@ pub record Advances (J : List ℕ) (strict : Bool) (F G U : List ℕ) (p : ℕ) 
 
 -- The same, of a store.
 abbrev pub AdvancesIn : List ℕ → Bool → List ℕ → List ℕ → List ℕ → ℕ → Bool → ℕ → ℕ → ℕ → ℕ → List ℕ → Store → Fill → List ℕ → ℕ → ℕ → Store → Stage → List ℕ → List ℕ → Type 0
-AdvancesIn J strict F G U p rule r first second count X s f W i walked s' c memo' W' = Advances J strict F G U p rule r first second count X s.kinds.now s.ends.now s.pool.now s.index.now f W i walked s'.kinds.now s'.ends.now s'.pool.now s'.index.now c memo' W'
+AdvancesIn J strict F G U p ruled r first second count X s f W i walked s' c memo' W' = Advances J strict F G U p ruled r first second count X s.kinds.now s.ends.now s.pool.now s.index.now f W i walked s'.kinds.now s'.ends.now s'.pool.now s'.index.now c memo' W'

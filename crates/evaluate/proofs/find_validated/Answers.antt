@@ -14,4 +14,4 @@ pub returns-in-Rows : goal.returns-in-Rows
 returns-in-Rows c = let a = c.args in let prog = program_for a.job.now in let s = terms_in a.store.now.kinds.now a.store.now.ends.now a.store.now.pool.now a.fill in let q = c.primitive_at-primitive.result in let is : primitive_of q ≡ primitive_at prog.primitives a.p = c.primitive_at-primitive.ensures ∙ ap (primitive_at prog.primitives) c.wide.ensures in λ n. row-found prog n a.p a.args.now (primitive_of q) is (room_of a.store.now.kinds.now a.store.now.pool.now) s (ap validates c.in-Rows.is) (rows-kind q c.in-Rows.is) c.row_value.ensures
 
 pub returns-in-Computes : goal.returns-in-Computes
-returns-in-Computes c = let a = c.args in let prog = program_for a.job.now in let s = terms_in a.store.now.kinds.now a.store.now.ends.now a.store.now.pool.now a.fill in let q = c.primitive_at-primitive.result in let is : primitive_of q ≡ primitive_at prog.primitives a.p = c.primitive_at-primitive.ensures ∙ ap (primitive_at prog.primitives) c.wide.ensures in λ n. computes-found prog n a.p a.args.now (primitive_of q) is (room_of a.store.now.kinds.now a.store.now.pool.now) s _ (ap validates c.in-Computes.is) (ap (λ (v : Validator). validator_kind v q.container) c.in-Computes.is) (operation-kind _) (c.find_computed.ensures q.name)
+returns-in-Computes c = let a = c.args in let prog = program_for a.job.now in let s = terms_in a.store.now.kinds.now a.store.now.ends.now a.store.now.pool.now a.fill in let q = c.primitive_at-primitive.result in let is : primitive_of q ≡ primitive_at prog.primitives a.p = c.primitive_at-primitive.ensures ∙ ap (primitive_at prog.primitives) c.wide.ensures in λ n. computes-found prog n a.p a.args.now (primitive_of q) is (room_of a.store.now.kinds.now a.store.now.pool.now) s _ (ap validates c.in-Computes.is) (ap (λ (v : Validator). validator_kind v q.container) c.in-Computes.is) (operation-kind _) (c.find_result.ensures.known q.name)

@@ -16,7 +16,7 @@ pub returns-in-None-clause-does : goal.returns-in-None-clause-does
 returns-in-None-clause-does c = let a = c.args in let prog = program_for a.job.now in let q = c.primitive_at-primitive.result in let is : primitive_of q ≡ primitive_at prog.primitives a.p = c.primitive_at-primitive.ensures ∙ ap (primitive_at prog.primitives) c.wide.ensures in row-none prog a.n a.p a.args.now (primitive_of q) is c.requires.indexed (ap validates c.in-Rows.is) (rows-kind q c.in-Rows.is) c.row_value.ensures _ (ap option_of (sym c.in-None.is)) c.refuse1-in-None.ensures
 
 pub returns-in-Computes-clause-does : goal.returns-in-Computes-clause-does
-returns-in-Computes-clause-does c = let a = c.args in let prog = program_for a.job.now in let q = c.primitive_at-primitive.result in let is : primitive_of q ≡ primitive_at prog.primitives a.p = c.primitive_at-primitive.ensures ∙ ap (primitive_at prog.primitives) c.wide.ensures in computes-value prog a.n a.p a.args.now (primitive_of q) is _ (ap validates c.in-Computes.is) (ap (λ (v : Validator). validator_kind v q.container) c.in-Computes.is) (operation-kind _) c.computed.ensures.does
+returns-in-Computes-clause-does c = let a = c.args in let prog = program_for a.job.now in let q = c.primitive_at-primitive.result in let is : primitive_of q ≡ primitive_at prog.primitives a.p = c.primitive_at-primitive.ensures ∙ ap (primitive_at prog.primitives) c.wide.ensures in computes-value prog a.n a.p a.args.now (primitive_of q) is _ (ap validates c.in-Computes.is) (ap (λ (v : Validator). validator_kind v q.container) c.in-Computes.is) (operation-kind _) c.compute.ensures.does
 
 pub returns-in-Unknown-clause-does : goal.returns-in-Unknown-clause-does
 returns-in-Unknown-clause-does c = let a = c.args in let prog = program_for a.job.now in let q = c.primitive_at-primitive.result in let is : primitive_of q ≡ primitive_at prog.primitives a.p = c.primitive_at-primitive.ensures ∙ ap (primitive_at prog.primitives) c.wide.ensures in unknown-value prog a.n a.p a.args.now (primitive_of q) is c.requires.indexed _ _ (ap validates c.in-Unknown.is) (ap (λ (v : Validator). validator_kind v q.container) c.in-Unknown.is) c.refuse1-in-Unknown.ensures
