@@ -192,11 +192,7 @@ fn act(
         Action::Union(l, r) => act_union(scope, store, fill, memo, marking, marks, l, r),
         Action::Run(e) => act_run(scope, store, fill, memo, marking, marks, e),
         Action::Idle => Acted {
-            refusal: Refusal {
-                number: 0,
-                count: 0,
-                fields: [0; 6],
-            },
+            refusal: Refusal::NONE,
             effect: Effect::Nothing,
             fill,
         },

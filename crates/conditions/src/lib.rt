@@ -64,11 +64,7 @@ fn eval_side(scope: &Scope<'_>, store: &mut Store<'_>, fill: Fill, memo: &mut [u
     if let Some(x) = variable {
         let value = lookup(scope, x);
         return Side {
-            refusal: Refusal {
-                number: 0,
-                count: 0,
-                fields: [0; 6],
-            },
+            refusal: Refusal::NONE,
             value,
             fill,
         };
@@ -90,11 +86,7 @@ fn bind_output(rule: u32, i: u32, variable: Option<u32>, t: u32, fill: Fill) -> 
 {
     match variable {
         Some(x) => Condition {
-            refusal: Refusal {
-                number: 0,
-                count: 0,
-                fields: [0; 6],
-            },
+            refusal: Refusal::NONE,
             binds: Some(Bound { name: x, term: t }),
             fill,
         },
@@ -136,11 +128,7 @@ fn compare_values(rule: u32, i: u32, x: u32, y: u32, fill: Fill) -> Condition
 {
     if x == y {
         return Condition {
-            refusal: Refusal {
-                number: 0,
-                count: 0,
-                fields: [0; 6],
-            },
+            refusal: Refusal::NONE,
             binds: None,
             fill,
         };
@@ -250,11 +238,7 @@ fn check_bare_condition(
         return binds_nothing(eval_side(scope, store, fill, memo, e));
     }
     Condition {
-        refusal: Refusal {
-            number: 0,
-            count: 0,
-            fields: [0; 6],
-        },
+        refusal: Refusal::NONE,
         binds: None,
         fill,
     }

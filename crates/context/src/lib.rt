@@ -163,11 +163,7 @@ fn global_actions(
         n = r.unions;
     }
     Globals {
-        refusal: Refusal {
-            number: 0,
-            count: 0,
-            fields: [0; 6],
-        },
+        refusal: Refusal::NONE,
         bindings: at,
         unions: n,
         fill: have,

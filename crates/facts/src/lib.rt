@@ -274,11 +274,7 @@ fn equality_matches(
 {
     let call = function_fact(job, left, right);
     if (q.lhs == w.lhs) & (q.rhs == w.rhs) {
-        return Refusal {
-            number: 0,
-            count: 0,
-            fields: [0; 6],
-        };
+        return Refusal::NONE;
     }
     match call {
         Some(_) => Refusal {
@@ -306,11 +302,7 @@ fn bare_matches(rule: u32, i: u32, w: Proposition, q: Proposition) -> Refusal
     ensures { (e : Expr) (s : List Term) → outcome_of result tt s ≡ model.matches rule (bare i e) (proposition_of w) (proposition_of q) s }
 {
     if same_right(w, q) {
-        return Refusal {
-            number: 0,
-            count: 0,
-            fields: [0; 6],
-        };
+        return Refusal::NONE;
     }
     Refusal {
         number: 30,

@@ -115,11 +115,7 @@ fn head_actions(
         at = push_binding(&mut table, at, effect);
     }
     Headed {
-        refusal: Refusal {
-            number: 0,
-            count: 0,
-            fields: [0; 6],
-        },
+        refusal: Refusal::NONE,
         found: seen,
         fill: have,
     }

@@ -41,11 +41,7 @@ pub fn check_that(test: bool, refusal: Refusal) -> Refusal
     ensures { result ≡ refused_unless test refusal }
 {
     if test {
-        return Refusal {
-            number: 0,
-            count: 0,
-            fields: [0; 6],
-        };
+        return Refusal::NONE;
     }
     refusal
 }

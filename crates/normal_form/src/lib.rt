@@ -204,11 +204,7 @@ pub fn assert_body_proof_normal_form(job: &[u32], found: &[u32], rule: u32, i: u
     ensures { (s : List Term) → outcome_of result tt s ≡ assert_body_proof_normal_form (program_for job.now) rule (fact_for job.now i) s }
 {
     let Some(offence) = fact_offence(job, found, wide(i)) else {
-        return Refusal {
-            number: 0,
-            count: 0,
-            fields: [0; 6],
-        };
+        return Refusal::NONE;
     };
     match offence {
         Offence::PrimitiveNonNormalArg(e) => Refusal {

@@ -20,6 +20,15 @@ pub struct Refusal {
     pub fields: [u32; 6],
 }
 
+impl Refusal {
+    // No refusal.
+    pub const NONE: Refusal = Refusal {
+        number: 0,
+        count: 0,
+        fields: [0; 6],
+    };
+}
+
 // What a check gives: a value, unless there is a refusal, and the fill of the store.
 #[derive(Clone, Copy)]
 pub struct Checked {
@@ -33,11 +42,7 @@ pub fn pass(value: u32, fill: Fill) -> Checked
     ensures { result ≡ record { refusal = passed; value = value; fill = fill } }
 {
     Checked {
-        refusal: Refusal {
-            number: 0,
-            count: 0,
-            fields: [0; 6],
-        },
+        refusal: Refusal::NONE,
         value,
         fill,
     }

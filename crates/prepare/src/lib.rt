@@ -48,11 +48,7 @@ fn start(job: &[u32], x: u32, store: &mut Store<'_>) -> Prepared
 {
     let have = load_terms(job, x, store);
     Prepared {
-        refusal: Refusal {
-            number: 0,
-            count: 0,
-            fields: [0; 6],
-        },
+        refusal: Refusal::NONE,
         fill: have,
     }
 }

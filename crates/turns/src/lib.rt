@@ -135,11 +135,7 @@ fn plain_plan(ops: Needs) -> Plan
     ensures { result ≡ record { refusal = passed; rule = false; r = 0; count = ops.count; first = ops.first; second = ops.second } }
 {
     Plan {
-        refusal: Refusal {
-            number: 0,
-            count: 0,
-            fields: [0; 6],
-        },
+        refusal: Refusal::NONE,
         rule: false,
         r: 0,
         count: ops.count,
@@ -188,11 +184,7 @@ fn rule_plan(job: &[u32], found: &[u32], p: u32, name: u32) -> Plan
         };
     }
     Plan {
-        refusal: Refusal {
-            number: 0,
-            count: 0,
-            fields: [0; 6],
-        },
+        refusal: Refusal::NONE,
         rule: true,
         r,
         count: facts,
