@@ -114,10 +114,7 @@ fn fiat_step(
 fn flag(test: bool) -> u32
     ensures { result ≡ cond test 1 0 }
 {
-    if test {
-        return 1;
-    }
-    0
+    u32::from(test)
 }
 
 // `ContainerNormalize`: the right side of a has the normal form that is claimed.

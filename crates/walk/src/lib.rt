@@ -44,10 +44,7 @@ fn note_height(scratch: &mut [u32], at: usize, height: u32)
 fn greater(a: u32, b: u32) -> u32
     ensures { result ≡ max a b }
 {
-    if a < b {
-        return b;
-    }
-    a
+    a.max(b)
 }
 
 // What a condition bound, as an action would.
