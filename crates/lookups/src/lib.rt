@@ -31,7 +31,7 @@ const FEW: usize = 64;
 // Where the multiplier stands.
 const MULTIPLIER: usize = 4096;
 
-// How a table is chained: where its chains start, and whether its keys have arguments, as a row's do.
+// How a table is chained: where its chains start, and whether its keys have arguments, as a row's do. Functions that take it are inlined, so that its table is a constant in them.
 #[derive(Clone, Copy)]
 struct Chaining {
     table: Table,
@@ -85,6 +85,7 @@ fn first_named(job: &[u32], table: Table, count: usize, name: u32) -> Option<usi
 }
 
 // Chains the cells of a table by their keys, unless they are few.
+#[inline(always)]
 fn chain_table(job: &[u32], found: &mut [u32], by: Chaining)
     requires held { Held job.now }
     requires count_bound { count_for job.now (number_of by.table) ≤ 4096 }
@@ -141,6 +142,7 @@ pub fn needs_no_chains(job: &[u32]) -> bool
 }
 
 // The place of the first cell of a table that has the key, by its chains.
+#[inline(always)]
 fn find_key(job: &[u32], found: &[u32], by: Chaining, head: u32, args: &[u32]) -> Option<usize>
     requires held { Held job.now }
     requires start_bound { 4096 < by.start }
@@ -170,6 +172,7 @@ fn find_key(job: &[u32], found: &[u32], by: Chaining, head: u32, args: &[u32]) -
 }
 
 // The place of the first cell of a table that has the name.
+#[inline(always)]
 fn find_named(job: &[u32], found: &[u32], by: Chaining, name: u32) -> Option<usize>
     requires held { Held job.now }
     requires start_bound { 4096 < by.start }
