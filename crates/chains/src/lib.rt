@@ -54,9 +54,7 @@ fn empty(table: &mut [u32], b: usize, n: usize)
     requires n_bound { n < 2 ^ 32 }
     ensures { Emptied b n table.old table.new }
 {
-    for s in 0..n {
-        table[b + s] = n as u32;
-    }
+    table[b..b + n].fill(n as u32);
 }
 
 // Puts number i before those of its slot s.
