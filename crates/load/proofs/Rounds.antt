@@ -17,12 +17,13 @@ use Rattle.std.proofs.lemmas.Nat.{zero_from_ones, ones_le_self}
 use lib.Seq.{drop-cons}
 use borrow.Author.Tests.{eq-eqb, ne_eqb, lt-ltb, le-ltb, le-leb, lt-leb}
 use Rattle.model.specs.Layout.{Sizes, Tables, table_list}
+use Rattle.model.specs.Cell.{Cell}
 use Rattle.model.specs.Check.{Refusal}
 use Rattle.model.specs.Load.{Lent, ends_rise, marks, first_marked, first_refusal, first_failing, doubles}
 use Rattle.load.specs.Held.{first_found, tests_for, writer_tests, room_lacks}
 
 -- the refusal of a cell that was found
-abbrev found_refusal : ℕ → prelude.Option ℕ → Option Refusal
+abbrev pub found_refusal : ℕ → prelude.Option ℕ → Option Refusal
 found_refusal n (Some j) = some (record { number = n; fields = j ∷ [] })
 found_refusal n None = none
 
@@ -31,6 +32,9 @@ unfolding first_marked first_found
 found-marked n i [] = refl
 found-marked n i (true ∷ ms) = refl
 found-marked n i (false ∷ ms) = found-marked n (suc i) ms
+
+pub failing-is : (n : ℕ) (fs : List (ℕ → Cell → Bool)) (t : Tables) → first_failing n fs t ≡ found_refusal n (first_found 0 (marks fs (table_list t)))
+failing-is n fs t = found-marked n 0 _
 
 -- the first refusal of the two
 abbrev pub or_rest : Option Refusal → Option Refusal → Option Refusal

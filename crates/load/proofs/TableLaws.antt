@@ -18,10 +18,13 @@ use Rattle.model.specs.Program.{looks_up}
 use Rattle.model.specs.Load.{any, fails_from, marks, is_first, same_head, counts, is_set_call, set_fits, primitive_looks_up, passed, fit_tests, valid_tests, once_tests}
 use Rattle.model.proofs.Tests.{or_cases, eq_of, and-true}
 use Rattle.cells.proofs.Laws.{cell-at, cells-length, cells-fewer, same-cell-eq}
+use Rattle.cells.specs.Table.{Formed}
 use Rattle.cells.specs.declared.Fill.{Fill}
+use Rattle.cells.specs.declared.Table.{Table}
+use Rattle.load.specs.declared.tables.Cells.{Cells}
 use Rattle.chains.specs.Chains.{words_from, same_key, Differ}
 use Rattle.load.specs.declared.sizes.Sizes.{Sizes as SizesHeld}
-use Rattle.load.specs.Held.{sizes_in, fill_of, Limits, Distinct, counts_of, cell_number, fixed_counts, alike_by, first_among, tables_for, cell_held, Passing, Sound, tests_for, first_found}
+use Rattle.load.specs.Held.{table_held, HeldCells, cell_of, sizes_in, fill_of, Limits, Distinct, counts_of, cell_number, fixed_counts, alike_by, first_among, tables_for, cell_held, Passing, Sound, tests_for, first_found}
 
 -- a cell of a table is a cell of the job
 pub part_at : (cs : List Cell) (from count i : ℕ) → i < count → get_or (part cs from count) i no_cell ≡ get_or cs (from + i) no_cell
@@ -116,6 +119,15 @@ pub held-cell : (K E P : List ℕ) (n i : ℕ) (us : List ℕ) → i < n → us 
 held-cell K E P n i us h e =
     let k : get_or K i 0 ≡ (get_or (cells_of K E P n) i no_cell).kind = sym (ap (λ (x : Cell). x.kind) (cell-at K E P n i h)) in
     λ t. record { kind = k t; words = e t }
+
+-- the cells as one table
+pub formed-table : {c : Cells} {t : Table} → t ≡ table_held c → HeldCells c → Formed t.kinds.now t.ends.now t.pool.now t.fill
+formed-table {c} {t} e h = rw e h.formed
+
+pub table-held : (c : Cells) {t : Table} {i : ℕ} {us : List ℕ} → t ≡ table_held c → i < cell_count (sizes_in c.sizes)
+    → us ≡ (get_or (cells_of t.kinds.now t.ends.now t.pool.now t.fill.cells) i no_cell).words → record { kind = get_or c.kinds.now i 0; words = us } ≡ cell_of c i
+table-held c {t} {i} {us} e h w =
+    held-cell c.kinds.now c.ends.now c.pool.now (cell_count (sizes_in c.sizes)) i us h (w ∙ ap (λ (x : Table). (get_or (cells_of x.kinds.now x.ends.now x.pool.now x.fill.cells) i no_cell).words) e)
 
 pub validator-kind : (k : ℕ) → (eqb k 1 || eqb k 3) ≡ (get_or (false ∷ true ∷ false ∷ []) k true && not (ltb 3 k))
 validator-kind zero = refl
@@ -265,6 +277,18 @@ module _ {K E P : List ℕ} {z : SizesHeld} {n : ℕ} where
   keys-pass k first count f e p q g d =
       let differing : KeysDiffer K E P z n k = rw (p, q, g) at d in
       elim (keyed k e) [ inl o ↦ rw o (rows_pass (rw o at differing)) | inr o ↦ rw o (normalisers-pass (rw o at differing)) ]
+
+-- the tables whose cells may stand once, by a test with the cells before
+pub once-first : (t : Tables) (k i : ℕ) (c : Cell) → (k ≡ 0) ⊎ ((6 ≤ k) × (k < 8)) → get_or (once_tests t) k passed i c ≡ is_first (alike_by k) (get_or (table_list t) k []) i c
+once-first t zero i c h = refl
+once-first t (suc zero) i c h = elim h [ inl p ↦ absurd (omega arith) | inr (p, q) ↦ absurd (omega arith) ]
+once-first t (suc (suc zero)) i c h = elim h [ inl p ↦ absurd (omega arith) | inr (p, q) ↦ absurd (omega arith) ]
+once-first t (suc (suc (suc zero))) i c h = elim h [ inl p ↦ absurd (omega arith) | inr (p, q) ↦ absurd (omega arith) ]
+once-first t (suc (suc (suc (suc zero)))) i c h = elim h [ inl p ↦ absurd (omega arith) | inr (p, q) ↦ absurd (omega arith) ]
+once-first t (suc (suc (suc (suc (suc zero))))) i c h = elim h [ inl p ↦ absurd (omega arith) | inr (p, q) ↦ absurd (omega arith) ]
+once-first t (suc (suc (suc (suc (suc (suc zero)))))) i c h = refl
+once-first t (suc (suc (suc (suc (suc (suc (suc zero))))))) i c h = refl
+once-first t (suc (suc (suc (suc (suc (suc (suc (suc k)))))))) i c h = elim h [ inl p ↦ absurd (omega arith) | inr (p, q) ↦ absurd (omega arith) ]
 
 pub once-other : (t : Tables) (k i : ℕ) (c : Cell) → (k ≡ 9 → ⊥) → (k ≡ 0 → ⊥) → (k ≡ 6 → ⊥) → (k ≡ 7 → ⊥) → true ≡ get_or (once_tests t) k passed i c
 once-other t zero i c a b d e = absurd (b refl)
