@@ -64,7 +64,7 @@ impl Test {
 
 impl<'a> Cells<'a> {
     // All the cells as one table.
-    pub fn table(&self) -> Table<'a>
+    fn table(&self) -> Table<'a>
         requires { Limits (sizes_in self.now.sizes) }
         ensures { result ≡ table_held self.now }
     {
@@ -109,8 +109,7 @@ pub fn action_fits(cells: &Cells<'_>, kind: u32, ws: &[u32]) -> bool
     requires { HeldCells cells.now }
     ensures { result ≡ action_fits (tables_of cells.now).expressions (record { kind = kind; words = ws.now }) }
 {
-    let ns: [u32; 6] = [2, 2, 1, 1, 0, 0];
-    let counted = fit::counted(&ns, kind, ws);
+    let counted = fit::counted(&[2, 2, 1, 1, 0, 0], kind, ws);
     let call = set_fits(cells, kind, ws);
     counted & call
 }
@@ -194,10 +193,7 @@ pub fn alike(table: usize, j: u32, a: &[u32], k: u32, b: &[u32]) -> bool
     ensures { result ≡ alike_by table (record { kind = j; words = a.now }) (record { kind = k; words = b.now }) }
 {
     match table {
-        0 => {
-            let whole = same_words(a, b);
-            (j == k) & whole
-        }
+        0 => j == k && same_words(a, b),
         6 => once::same_row(a, b),
         _ => once::same_head(a, b),
     }

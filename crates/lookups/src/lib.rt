@@ -14,10 +14,11 @@ ghost use Rattle.model.specs.Walk.{duplicate_rule_name};
 ghost use Rattle.termdag.specs.Store.{terms_in, Stored};
 ghost use Rattle.chains.specs.Chains.{has_key, same_key, Within, FirstHit, Differ};
 ghost use Rattle.program.specs.Ready.{Held, Ready, tables_for, table_for, count_for, program_for, option_of, FindsCell, FindsRule, Merges};
-ghost use Rattle.lookups.specs.Keyed.{words_in, ChainedTable, Keyed};
+ghost use Rattle.lookups.specs.Keyed.{words_in, KeysOf, ChainedTable, Keyed};
 
 use cell_tests::words::at;
-use cells::{same_words, wide};
+use cells::{Table, same_words, wide};
+use chains::Keys;
 use decode::{Term, read_function, read_normaliser, read_row, row_arguments, rule_name};
 use index::Fill;
 use program::job::{
@@ -61,6 +62,29 @@ fn first_named(job: &[u32], table: usize, count: usize, name: u32) -> Option<usi
     None
 }
 
+// The cells of a table, to be chained by their keys.
+fn keys_of(job: &[u32], table: usize, rows: bool, multiplier: u32) -> Keys<'_>
+    requires held { Held job.now }
+    requires table_bound { table < 10 }
+    ensures { KeysOf job.now table rows multiplier result }
+{
+    let fill = fill(job);
+    let n = fill.cells;
+    let cells = Table {
+        kinds: kinds(job, n),
+        ends: ends(job, n),
+        pool: pool(job, n),
+        fill,
+    };
+    Keys {
+        cells,
+        first: nearest_first(job, table),
+        count: size(job, table),
+        rows,
+        multiplier,
+    }
+}
+
 // Chains the cells of a table by their keys, unless they are few.
 fn chain_table(job: &[u32], found: &mut [u32], table: usize, b: usize, rows: bool)
     requires held { Held job.now }
@@ -71,26 +95,11 @@ fn chain_table(job: &[u32], found: &mut [u32], table: usize, b: usize, rows: boo
     ensures chained { ChainedTable job.now found.new table rows b }
     ensures within { Within b 8192 found.old found.new }
 {
-    let count = size(job, table);
-    if count < FEW {
+    if size(job, table) < FEW {
         return;
     }
-    let x = found[MULTIPLIER];
-    let f = fill(job);
-    let n = f.cells;
-    let start = nearest_first(job, table);
-    chains::chain(
-        found,
-        b,
-        x,
-        kinds(job, n),
-        ends(job, n),
-        pool(job, n),
-        f,
-        start,
-        count,
-        rows,
-    )
+    let keys = keys_of(job, table, rows, found[MULTIPLIER]);
+    chains::chain(found, b, &keys)
 }
 
 // Chains the rows, normalisers, rules and functions, each unless they are few, in the words behind the offences.
@@ -135,25 +144,8 @@ fn find_key(
     requires bound { 64 ≤ count_for job.now table }
     ensures { FirstHit (λ i. has_key rows (words_in job.now table i) head args.now) (count_for job.now table) result }
 {
-    let x = found[MULTIPLIER];
-    let f = fill(job);
-    let n = f.cells;
-    let start = nearest_first(job, table);
-    let count = size(job, table);
-    chains::find(
-        found,
-        b,
-        x,
-        kinds(job, n),
-        ends(job, n),
-        pool(job, n),
-        f,
-        start,
-        count,
-        rows,
-        head,
-        args,
-    )
+    let keys = keys_of(job, table, rows, found[MULTIPLIER]);
+    chains::find(found, b, &keys, head, args)
 }
 
 // The place of the first cell of a table that has the name.
@@ -267,23 +259,8 @@ fn differing_rules(job: &[u32], found: &[u32]) -> usize
     requires bound { 64 ≤ count_for job.now 8 }
     ensures { Differ (same_key false (words_in job.now 8)) (count_for job.now 8) result }
 {
-    let x = found[MULTIPLIER];
-    let f = fill(job);
-    let n = f.cells;
-    let start = nearest_first(job, RULES);
-    let count = size(job, RULES);
-    chains::differing(
-        found,
-        RULE_CHAINS,
-        x,
-        kinds(job, n),
-        ends(job, n),
-        pool(job, n),
-        f,
-        start,
-        count,
-        false,
-    )
+    let keys = keys_of(job, RULES, false, found[MULTIPLIER]);
+    chains::differing(found, RULE_CHAINS, &keys)
 }
 
 // The first rule name that has been seen before.
