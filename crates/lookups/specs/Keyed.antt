@@ -10,15 +10,15 @@ use Rattle.program.specs.Ready.{count_for, fill_for}
 abbrev pub words_in : List ℕ → ℕ → ℕ → List ℕ
 words_in J k i = words_from (kinds_of J) (ends_of J) (pool_of J) (fill_for J) (cell_number (sizes_of J) k) i
 
--- The cells of table k to be chained, rows or not, with the multiplier x.
-pub record KeysOf (J : List ℕ) (k : ℕ) (rows : Bool) (x : ℕ) (keys : Keys) : Type 0 where
+-- The cells of table k to be chained, as rows or not by r, with the multiplier x.
+pub record KeysOf (J : List ℕ) (k : ℕ) (r : Bool) (x : ℕ) (keys : Keys) : Type 0 where
   pub kinds : keys.cells.kinds.now ≡ kinds_of J
   pub ends : keys.cells.ends.now ≡ ends_of J
   pub pool : keys.cells.pool.now ≡ pool_of J
   pub fill : keys.cells.fill ≡ fill_for J
   pub first : keys.first ≡ cell_number (sizes_of J) k
   pub count : keys.count ≡ count_for J k
-  pub rows : keys.rows ≡ rows
+  pub rows : keys.rows ≡ r
   pub multiplier : keys.multiplier ≡ x
 
 -- Table k is chained from word b of N on, unless its cells are few.

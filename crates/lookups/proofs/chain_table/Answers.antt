@@ -1,7 +1,5 @@
-use mathlib.Core.Path.{sym, ◌∙◌}
 use Prim.Native.Nat.{◌≤◌}
 use native.Mathlib.Omega.{arith}
-use lib.ListN.{get_or}
 use Rattle.chains.specs.Chains.{words_from, slot_at, Chained}
 use Rattle.chains.proofs.Chaining.{within_same}
 use Rattle.program.specs.Ready.{count_for}

@@ -1,4 +1,4 @@
-use mathlib.Core.Path.{refl, ap}
+use mathlib.Core.Path.{ap}
 use Rattle.cells.specs.declared.Fill.{Fill}
 use Rattle.lookups.proofs.keys_of.Goals as goal
 
