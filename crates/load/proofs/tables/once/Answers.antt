@@ -6,14 +6,13 @@ use Prim.Native.Nat.{◌≤◌, ◌<◌}
 use Rattle.model.specs.Cell.{cells_of}
 use Rattle.model.specs.Layout.{cell_count}
 use Rattle.load.specs.Held.{sizes_in, alike_by, tables_of, cell_of}
-use Rattle.load.proofs.tables.once.Goals.{in-0-1, in_default+else-span-lt6+then-span-lt8}
 use Rattle.load.proofs.tables.once.Goals as goal
 
 pub returns-in-0 : goal.returns-in-0
 returns-in-0 c = let a = c.args in
     let p = c.requires.place in
     let k = a.span.table in
-    let which : (k ≡ 0) ⊎ ((6 ≤ k) × (k < 8)) = elim c.in-0-1.branch [ in-0-1 w ↦ inl (omega arith) | in_default+else-span-lt6+then-span-lt8 w ↦ inr (omega arith, omega arith) ] in
+    let which : (k ≡ 0) ⊎ ((6 ≤ k) × (k < 8)) = grind arith in
     c.is_first.ensures ∙ first-in (sizes_in a.cells.now.sizes) (cells_of a.cells.now.kinds.now a.cells.now.ends.now a.cells.now.pool.now (cell_count (sizes_in a.cells.now.sizes))) (alike_by k) k a.span.first a.i p.table p.first p.inside
     ∙ sym (once-first (tables_of a.cells.now) k a.i (cell_of a.cells.now _) which)
 
