@@ -12,6 +12,15 @@ pub struct Fill {
     pub words: usize,
 }
 
+// A table of cells to be read: its three arrays, and how much of them is in use.
+#[derive(Clone, Copy)]
+pub struct Table<'a> {
+    pub kinds: &'a [u32],
+    pub ends: &'a [u32],
+    pub pool: &'a [u32],
+    pub fill: Fill,
+}
+
 // The number of a cell, or none where the table was full, and the fill after.
 #[derive(Clone, Copy)]
 pub struct Added {
@@ -45,6 +54,17 @@ pub fn words<'a>(kinds: &[u32], ends: &[u32], pool: &'a [u32], fill: Fill, i: us
     let s = start(ends, i);
     let e = wide(ends[i]);
     &pool[s..e]
+}
+
+impl<'a> Table<'a> {
+    // The words of cell i, as a part of the pool.
+    pub fn words(&self, i: usize) -> &'a [u32]
+        requires formed { Formed self.now.kinds.now self.now.ends.now self.now.pool.now self.now.fill }
+        requires i_lt_cells { i < self.now.fill.cells }
+        ensures { result.now ≡ (get_or (cells_of self.now.kinds.now self.now.ends.now self.now.pool.now self.now.fill.cells) i no_cell).words }
+    {
+        words(self.kinds, self.ends, self.pool, self.fill, i)
+    }
 }
 
 // Two runs of words are equal.

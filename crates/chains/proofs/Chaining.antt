@@ -19,28 +19,6 @@ use Rattle.chains.specs.Chains.{key_arguments, has_key, key_slot, slot_at, same_
 pub within_same : (b k : ℕ) (T : List ℕ) → Within b k T T
 within_same b k T = record { even = refl; same = λ i _. refl }
 
--- the first s of n slots are empty
-pub record Emptying (b n s : ℕ) (T T' : List ℕ) : Type 0 where
-  pub low : s ≤ n
-  pub within : Within b n T T'
-  pub each : (t : ℕ) → t < s → get_or T' (b + t) 0 ≡ n
-
-pub emptying_none : (b n : ℕ) (T : List ℕ) → Emptying b n 0 T T
-emptying_none b n T = record { low = omega arith; within = within_same b n T; each = λ t h. absurd (omega arith) }
-
-pub emptying_more : {b n s : ℕ} {T T' : List ℕ} → Emptying b n s T T' → s < n → b + s < length T' → Emptying b n (s + 1) T (set T' (b + s) n)
-emptying_more {b} {n} {s} {T} {T'} e h l = record {
-  low = omega arith;
-  within = record {
-    even = length-set T' (b + s) n ∙ e.within.even;
-    same = λ i o. get_or-set_other T' (b + s) i n 0 (λ q. elim o [ inl p ↦ omega arith | inr p ↦ omega arith ]) ∙ e.within.same i o;
-  };
-  each = λ t k. elim (eq-or-ne t s) [ inl p ↦ rw p (get_or-set_same T' (b + s) n 0 l) | inr p ↦ get_or-set_other T' (b + s) (b + t) n 0 (λ q. p (omega arith)) ∙ e.each t (omega arith) ];
-}
-
-pub emptying_all : {b n s : ℕ} {T T' : List ℕ} → Emptying b n s T T' → n ≤ s → Emptied b n T T'
-emptying_all e h = record { within = e.within; each = λ t k. e.each t (omega arith) }
-
 -- where nothing is chained
 pub chained-none : (slot : ℕ → ℕ) {n b : ℕ} {T T' : List ℕ} → b + (n + n) ≤ length T → Emptied b n T T' → Chained slot n b n T'
 chained-none slot {n} {b} {T} {T'} l e = record {

@@ -3,7 +3,9 @@ use Rattle.std.specs.Prelude as prelude
 use Rattle.std.specs.Prelude.{Some, None}
 use Rattle.std.specs.Prelude.{◌≡◌, ◌⊎◌, Bool, true, false, cond, ◌&&◌, List, [], ℕ, suc, ◌+◌, ◌≤◌, ◌<◌, eqb, ltb, length, get_or, set, drop}
 use Rattle.model.specs.Cell.{no_cell, same_words, cells_of}
+use Rattle.cells.specs.Table.{Formed}
 use Rattle.cells.specs.declared.Fill.{Fill}
+use Rattle.chains.specs.declared.Keys.{Keys}
 use Rattle.index.specs.Mixing.{golden, stirred, slot_of}
 
 -- A key is a cell's first word and, of a row, its arguments.
@@ -42,6 +44,18 @@ pub record Chained (slot : ℕ → ℕ) (n b m : ℕ) (T : List ℕ) : Type 0 wh
   pub long : b + (n + n) ≤ length T
   pub slots : (s : ℕ) → s < n → Next slot n s m (get_or T (b + s) 0)
   pub numbers : (i : ℕ) → m ≤ i → i < n → Next slot n (slot i) (suc i) (get_or T (b + n + i) 0)
+
+-- The words of cell i of those to be chained.
+abbrev pub words_of : Keys → ℕ → List ℕ
+words_of k = words_from k.cells.kinds.now k.cells.ends.now k.cells.pool.now k.cells.fill k.first
+
+-- The table that has them is well formed.
+abbrev pub FormedCells : Keys → Type 0
+FormedCells k = Formed k.cells.kinds.now k.cells.ends.now k.cells.pool.now k.cells.fill
+
+-- They are chained in the words of T from b on.
+abbrev pub ChainedBy : Keys → ℕ → List ℕ → Type 0
+ChainedBy k b T = Chained (slot_at k.multiplier k.count k.rows (words_of k)) k.count b 0 T
 
 -- T' differs from T in the k words from b on, if at all.
 pub record Within (b k : ℕ) (T T' : List ℕ) : Type 0 where

@@ -3,12 +3,21 @@
 #![tactic(auto)]
 
 ghost use Rattle.std.specs.Prelude.{◌≡◌, true, false, ℕ, ◌+◌, ◌≤◌, ◌<◌, ◌^◌, length};
-ghost use Rattle.cells.specs.Table.{Formed};
-ghost use Rattle.chains.specs.Chains.{key_arguments, has_key, key_slot, words_from, slot_at, same_key, Chained, Within, Emptied, Linked, FirstHit, found_before, Differ};
+ghost use Rattle.chains.specs.Chains.{key_arguments, has_key, key_slot, words_of, same_key, FormedCells, ChainedBy, Within, Emptied, Linked, FirstHit, found_before, Differ};
 
 use cell_tests::words::{at, rest};
-use cells::{Fill, same_words, wide, words};
+use cells::{Table, same_words, wide};
 use index::{home, stir_last};
+
+// What is chained: `count` cells of a table from number `first` on, by their keys, which are those of rows or of other cells, with a multiplier.
+#[derive(Clone, Copy)]
+pub struct Keys<'a> {
+    pub cells: Table<'a>,
+    pub first: usize,
+    pub count: usize,
+    pub rows: bool,
+    pub multiplier: u32,
+}
 
 // The words of a key behind its first: a row's arguments, else none.
 fn key_arguments(rows: bool, ws: &[u32]) -> &[u32]
@@ -45,11 +54,7 @@ fn empty(table: &mut [u32], b: usize, n: usize)
     requires n_bound { n < 2 ^ 32 }
     ensures { Emptied b n table.old table.new }
 {
-    let mut s = 0;
-    while s < n {
-        table[b + s] = n as u32;
-        s += 1;
-    }
+    table[b..b + n].fill(n as u32);
 }
 
 // Puts number i before those of its slot s.
@@ -66,62 +71,39 @@ fn link(table: &mut [u32], b: usize, n: usize, s: usize, i: usize)
 }
 
 // Chains the n cells from `first` on by their keys, in the 2 n words of the table from b on.
-pub fn chain(
-    table: &mut [u32],
-    b: usize,
-    x: u32,
-    kinds: &[u32],
-    ends: &[u32],
-    pool: &[u32],
-    fill: Fill,
-    first: usize,
-    n: usize,
-    rows: bool,
-)
-    requires formed { Formed kinds.now ends.now pool.now fill }
-    requires n_bound { first + n ≤ fill.cells }
-    requires n_in_bounds { b + (n + n) ≤ length table.old }
-    ensures chained { Chained (slot_at x n rows (words_from kinds.now ends.now pool.now fill first)) n b 0 table.new }
-    ensures within { Within b (n + n) table.old table.new }
+pub fn chain(table: &mut [u32], b: usize, keys: &Keys<'_>)
+    requires formed { FormedCells keys.now }
+    requires n_bound { keys.now.first + keys.now.count ≤ keys.now.cells.fill.cells }
+    requires n_in_bounds { b + (keys.now.count + keys.now.count) ≤ length table.old }
+    ensures chained { ChainedBy keys.now b table.new }
+    ensures within { Within b (keys.now.count + keys.now.count) table.old table.new }
 {
+    let n = keys.count;
     empty(table, b, n);
-    let mut i = n;
-    while 0 < i {
-        i -= 1;
-        let ws = words(kinds, ends, pool, fill, first + i);
-        let s = slot_of(x, n, at(ws, 0), key_arguments(rows, ws));
+    for i in (0..n).rev() {
+        let ws = keys.cells.words(keys.first + i);
+        let s = slot_of(keys.multiplier, n, at(ws, 0), key_arguments(keys.rows, ws));
         link(table, b, n, s, i);
     }
 }
 
-// The first of the n cells from `first` on that has the key, by its place.
-pub fn find(
-    table: &[u32],
-    b: usize,
-    x: u32,
-    kinds: &[u32],
-    ends: &[u32],
-    pool: &[u32],
-    fill: Fill,
-    first: usize,
-    n: usize,
-    rows: bool,
-    head: u32,
-    args: &[u32],
-) -> Option<usize>
-    requires formed { Formed kinds.now ends.now pool.now fill }
-    requires n_bound { first + n ≤ fill.cells }
-    requires chained { Chained (slot_at x n rows (words_from kinds.now ends.now pool.now fill first)) n b 0 table.now }
-    ensures { FirstHit (λ i. has_key rows (words_from kinds.now ends.now pool.now fill first i) head args.now) n result }
+// The first of the cells that has the key, by its place.
+pub fn find(table: &[u32], b: usize, keys: &Keys<'_>, head: u32, args: &[u32]) -> Option<usize>
+    requires formed { FormedCells keys.now }
+    requires n_bound { keys.now.first + keys.now.count ≤ keys.now.cells.fill.cells }
+    requires chained { ChainedBy keys.now b table.now }
+    ensures { FirstHit (λ i. has_key keys.now.rows (words_of keys.now i) head args.now) keys.now.count result }
 {
+    let n = keys.count;
     if n == 0 {
         return None;
     }
-    let s = slot_of(x, n, head, args);
+    let s = slot_of(keys.multiplier, n, head, args);
     let mut i = wide(table[b + s]);
+    // A while, as the next number comes from the chain.
     while i < n {
-        let ws = words(kinds, ends, pool, fill, first + i);
-        if has_key(rows, ws, head, args) {
+        let ws = keys.cells.words(keys.first + i);
+        if has_key(keys.rows, ws, head, args) {
             return Some(i);
         }
         i = wide(table[b + n + i]);
@@ -140,32 +122,22 @@ fn found_before(f: Option<usize>, i: usize) -> bool
 }
 
 // A cell behind cell i has its key, by the way along the chain from i on.
-fn again_later(
-    table: &[u32],
-    b: usize,
-    x: u32,
-    kinds: &[u32],
-    ends: &[u32],
-    pool: &[u32],
-    fill: Fill,
-    first: usize,
-    n: usize,
-    rows: bool,
-    i: usize,
-) -> bool
-    requires formed { Formed kinds.now ends.now pool.now fill }
-    requires n_bound { first + n ≤ fill.cells }
-    requires chained { Chained (slot_at x n rows (words_from kinds.now ends.now pool.now fill first)) n b 0 table.now }
-    requires i_lt_n { i < n }
-    ensures { result ≡ false → (j : ℕ) → i < j → j < n → same_key rows (words_from kinds.now ends.now pool.now fill first) j i ≡ false }
+fn again_later(table: &[u32], b: usize, keys: &Keys<'_>, i: usize) -> bool
+    requires formed { FormedCells keys.now }
+    requires n_bound { keys.now.first + keys.now.count ≤ keys.now.cells.fill.cells }
+    requires chained { ChainedBy keys.now b table.now }
+    requires i_lt_n { i < keys.now.count }
+    ensures { result ≡ false → (j : ℕ) → i < j → j < keys.now.count → same_key keys.now.rows (words_of keys.now) j i ≡ false }
 {
-    let own = words(kinds, ends, pool, fill, first + i);
+    let n = keys.count;
+    let own = keys.cells.words(keys.first + i);
     let head = at(own, 0);
-    let args = key_arguments(rows, own);
+    let args = key_arguments(keys.rows, own);
     let mut k = wide(table[b + n + i]);
+    // A while, as the next number comes from the chain.
     while k < n {
-        let ws = words(kinds, ends, pool, fill, first + k);
-        if has_key(rows, ws, head, args) {
+        let ws = keys.cells.words(keys.first + k);
+        if has_key(keys.rows, ws, head, args) {
             return true;
         }
         k = wide(table[b + n + k]);
@@ -173,76 +145,37 @@ fn again_later(
     false
 }
 
-// All of the n cells from `first` on differ in their keys.
-fn all_differ(
-    table: &[u32],
-    b: usize,
-    x: u32,
-    kinds: &[u32],
-    ends: &[u32],
-    pool: &[u32],
-    fill: Fill,
-    first: usize,
-    n: usize,
-    rows: bool,
-) -> bool
-    requires formed { Formed kinds.now ends.now pool.now fill }
-    requires n_bound { first + n ≤ fill.cells }
-    requires chained { Chained (slot_at x n rows (words_from kinds.now ends.now pool.now fill first)) n b 0 table.now }
-    ensures { result ≡ true → Differ (same_key rows (words_from kinds.now ends.now pool.now fill first)) n n }
+// All of the cells differ in their keys.
+fn all_differ(table: &[u32], b: usize, keys: &Keys<'_>) -> bool
+    requires formed { FormedCells keys.now }
+    requires n_bound { keys.now.first + keys.now.count ≤ keys.now.cells.fill.cells }
+    requires chained { ChainedBy keys.now b table.now }
+    ensures { result ≡ true → Differ (same_key keys.now.rows (words_of keys.now)) keys.now.count keys.now.count }
 {
-    let mut i = 0;
-    while i < n {
-        if again_later(table, b, x, kinds, ends, pool, fill, first, n, rows, i) {
+    for i in 0..keys.count {
+        if again_later(table, b, keys, i) {
             return false;
         }
-        i += 1;
     }
     true
 }
 
-// How many of the n cells from `first` on differ in their keys from those before them, up to one that does not.
-pub fn differing(
-    table: &[u32],
-    b: usize,
-    x: u32,
-    kinds: &[u32],
-    ends: &[u32],
-    pool: &[u32],
-    fill: Fill,
-    first: usize,
-    n: usize,
-    rows: bool,
-) -> usize
-    requires formed { Formed kinds.now ends.now pool.now fill }
-    requires n_bound { first + n ≤ fill.cells }
-    requires chained { Chained (slot_at x n rows (words_from kinds.now ends.now pool.now fill first)) n b 0 table.now }
-    ensures { Differ (same_key rows (words_from kinds.now ends.now pool.now fill first)) n result }
+// How many of the cells differ in their keys from those before them, up to one that does not.
+pub fn differing(table: &[u32], b: usize, keys: &Keys<'_>) -> usize
+    requires formed { FormedCells keys.now }
+    requires n_bound { keys.now.first + keys.now.count ≤ keys.now.cells.fill.cells }
+    requires chained { ChainedBy keys.now b table.now }
+    ensures { Differ (same_key keys.now.rows (words_of keys.now)) keys.now.count result }
 {
-    if all_differ(table, b, x, kinds, ends, pool, fill, first, n, rows) {
-        return n;
+    if all_differ(table, b, keys) {
+        return keys.count;
     }
-    let mut i = 0;
-    while i < n {
-        let ws = words(kinds, ends, pool, fill, first + i);
-        let f = find(
-            table,
-            b,
-            x,
-            kinds,
-            ends,
-            pool,
-            fill,
-            first,
-            n,
-            rows,
-            at(ws, 0),
-            key_arguments(rows, ws),
-        );
+    for i in 0..keys.count {
+        let ws = keys.cells.words(keys.first + i);
+        let f = find(table, b, keys, at(ws, 0), key_arguments(keys.rows, ws));
         if found_before(f, i) {
             return i;
         }
-        i += 1;
     }
-    i
+    keys.count
 }

@@ -4,7 +4,7 @@ use mathlib.Core.Path.{◌≡◌, refl, sym, ap, subst, ◌∙◌}
 use mathlib.Core.Bool.{Bool, true, false, not, ◌||◌, true≢false}
 use mathlib.Core.List.Memᴰ
 use mathlib.Core.List.{List, [], ◌∷◌}
-use mathlib.Core.Option.{none, some, none-ne-some}
+use mathlib.Core.Option.{none}
 use Prim.Native.Nat.{ℕ, ◌+◌, ◌*◌, ◌<◌}
 use native.Mathlib.Omega.{arith}
 use native.Mathlib.Decide.{dec_lt}
@@ -14,7 +14,6 @@ use lib.Pow.{pow_pos}
 use borrow.Author.Tests.{ltb-false}
 use Rattle.model.specs.Cell.{Cell, no_cell, same_cell, tabulate, cell_at, cells_of}
 use Rattle.model.specs.Layout.{Sizes}
-use Rattle.model.specs.Check.{Refusal}
 use Rattle.model.specs.Load.{Lent, any, is_first, once_tests, is_power, wrong_slots, first_refusal}
 use Rattle.model.proofs.Tests.{or_left, not-false}
 use Rattle.model.proofs.Valid.{pass, table-passes}

@@ -1,4 +1,4 @@
--- Laws of the rounds 6 to 9, of rising ends, of the room and of the slots.
+-- Laws of the numbers 6 to 9, of rising ends, of the room and of the slots.
 use Rattle.std.specs.Prelude as prelude
 use Rattle.std.specs.Prelude.{Some, None}
 use mathlib.Core.Path.{◌≡◌, refl, ap, ◌∙◌}
@@ -17,12 +17,13 @@ use Rattle.std.proofs.lemmas.Nat.{zero_from_ones, ones_le_self}
 use lib.Seq.{drop-cons}
 use borrow.Author.Tests.{eq-eqb, ne_eqb, lt-ltb, le-ltb, le-leb, lt-leb}
 use Rattle.model.specs.Layout.{Sizes, Tables, table_list}
+use Rattle.model.specs.Cell.{Cell}
 use Rattle.model.specs.Check.{Refusal}
-use Rattle.model.specs.Load.{Lent, ends_rise, marks, first_marked, first_refusal, first_failing, doubles}
-use Rattle.load.specs.Held.{first_found, tests_for, writer_tests, room_lacks}
+use Rattle.model.specs.Load.{Lent, ends_rise, marks, first_marked, first_failing, doubles}
+use Rattle.load.specs.Held.{first_found, room_lacks}
 
 -- the refusal of a cell that was found
-abbrev found_refusal : ℕ → prelude.Option ℕ → Option Refusal
+abbrev pub found_refusal : ℕ → prelude.Option ℕ → Option Refusal
 found_refusal n (Some j) = some (record { number = n; fields = j ∷ [] })
 found_refusal n None = none
 
@@ -32,33 +33,12 @@ found-marked n i [] = refl
 found-marked n i (true ∷ ms) = refl
 found-marked n i (false ∷ ms) = found-marked n (suc i) ms
 
+pub failing-is : (n : ℕ) (fs : List (ℕ → Cell → Bool)) (t : Tables) → first_failing n fs t ≡ found_refusal n (first_found 0 (marks fs (table_list t)))
+failing-is n fs t = found-marked n 0 _
+
 -- the first refusal of the two
 abbrev pub or_rest : Option Refusal → Option Refusal → Option Refusal
 or_rest o rest = elim o [ none ↦ rest | some r ↦ some r ]
-
-module _ (z : Sizes) (t : Tables) where
-  round-step : (n k : ℕ) (rest : Option Refusal) (f : prelude.Option ℕ) → first_found 0 (marks (tests_for k z t) (table_list t)) ≡ f
-      → or_rest (first_failing n (tests_for k z t) t) rest ≡ or_rest (found_refusal n f) rest
-  round-step n k rest f e = ap (λ (o : Option Refusal). or_rest o rest) (found-marked n 0 _ ∙ ap (found_refusal n) e)
-
-  round_is : (k : ℕ) → k < 4 → (f : prelude.Option ℕ) → first_found 0 (marks (tests_for k z t) (table_list t)) ≡ f
-      → first_refusal (drop k (writer_tests z t)) ≡ or_rest (found_refusal (6 + k) f) (first_refusal (drop (k + 1) (writer_tests z t)))
-  round_is zero h f e = round-step 6 0 _ f e
-  round_is (suc zero) h f e = round-step 7 1 _ f e
-  round_is (suc (suc zero)) h f e = round-step 8 2 _ f e
-  round_is (suc (suc (suc zero))) h f e = round-step 9 3 _ f e
-  round_is (suc (suc (suc (suc k)))) h f e = absurd (omega arith)
-
-  pub round-yes : (k c : ℕ) → k < 4 → first_found 0 (marks (tests_for k z t) (table_list t)) ≡ Some c
-      → first_refusal (drop k (writer_tests z t)) ≡ some (record { number = 6 + k; fields = c ∷ [] })
-  round-yes k c h e = round_is k h (Some c) e
-
-  pub round-no : (k : ℕ) → k < 4 → first_found 0 (marks (tests_for k z t) (table_list t)) ≡ None
-      → first_refusal (drop k (writer_tests z t)) ≡ first_refusal (drop (k + 1) (writer_tests z t))
-  round-no k h e = round_is k h None e
-
-  pub rounds-end : (k : ℕ) → 4 ≤ k → none ≡ first_refusal (drop k (writer_tests z t))
-  rounds-end k h = rw (drop_of_length-le (writer_tests z t) {i = k} h)
 
 -- ends that rise, one after another
 module _ (E : List ℕ) (start i pool : ℕ) where

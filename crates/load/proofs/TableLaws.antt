@@ -18,10 +18,13 @@ use Rattle.model.specs.Program.{looks_up}
 use Rattle.model.specs.Load.{any, fails_from, marks, is_first, same_head, counts, is_set_call, set_fits, primitive_looks_up, passed, fit_tests, valid_tests, once_tests}
 use Rattle.model.proofs.Tests.{or_cases, eq_of, and-true}
 use Rattle.cells.proofs.Laws.{cell-at, cells-length, cells-fewer, same-cell-eq}
+use Rattle.cells.specs.Table.{Formed}
 use Rattle.cells.specs.declared.Fill.{Fill}
+use Rattle.cells.specs.declared.Table.{Table}
+use Rattle.load.specs.declared.tables.Cells.{Cells}
 use Rattle.chains.specs.Chains.{words_from, same_key, Differ}
 use Rattle.load.specs.declared.sizes.Sizes.{Sizes as SizesHeld}
-use Rattle.load.specs.Held.{sizes_in, fill_of, Limits, Distinct, counts_of, cell_number, fixed_counts, alike_by, first_among, tables_for, cell_held, Passing, Sound, tests_for, first_found}
+use Rattle.load.specs.Held.{table_held, HeldCells, cell_of, sizes_in, fill_of, Limits, Distinct, counts_of, cell_number, fixed_counts, alike_by, first_among, tables_for, cell_held, Passing, tests_for, first_found}
 
 -- a cell of a table is a cell of the job
 pub part_at : (cs : List Cell) (from count i : ℕ) → i < count → get_or (part cs from count) i no_cell ≡ get_or cs (from + i) no_cell
@@ -75,16 +78,6 @@ fixed-table t (suc (suc (suc (suc (suc (suc (suc (suc zero)))))))) i c h a b d e
 fixed-table t (suc (suc (suc (suc (suc (suc (suc (suc (suc zero))))))))) i c h a b d e f g = absurd (g refl)
 fixed-table t (suc (suc (suc (suc (suc (suc (suc (suc (suc (suc k)))))))))) i c h a b d e f g = absurd (omega arith)
 
--- past the kinds with counts of their own
-pub fixed-rest : (k : ℕ) → (k ≡ 2 → ⊥) → (k ≡ 4 → ⊥) → (k ≡ 5 → ⊥) → 2 ∷ [] ≡ fixed_counts k
-fixed-rest zero a b d = refl
-fixed-rest (suc zero) a b d = refl
-fixed-rest (suc (suc zero)) a b d = absurd (a refl)
-fixed-rest (suc (suc (suc zero))) a b d = refl
-fixed-rest (suc (suc (suc (suc zero)))) a b d = absurd (b refl)
-fixed-rest (suc (suc (suc (suc (suc zero))))) a b d = absurd (d refl)
-fixed-rest (suc (suc (suc (suc (suc (suc k)))))) a b d = refl
-
 -- the expressions of a job
 pub exprs_length : (z : Sizes) (cs : List Cell) → length cs ≡ cell_count z → length (tables_in z cs).expressions ≡ z.expressions
 exprs_length z cs e = simp (length-take, length-drop) (omega arith)
@@ -97,25 +90,20 @@ set-held z cs k i us ws n e h f g =
     let x : get_or (tables_in z cs).expressions (get_or ws 0 0) no_cell ≡ get_or cs i no_cell = part_at cs z.terms z.expressions (get_or ws 0 0) h ∙ ap (λ (j : ℕ). get_or cs j no_cell) (sym e) in
     rw (f, g) (set-call (get_or cs i no_cell).kind (get_or cs i no_cell).words) ∙ ap is_set_call (sym x) ∙ set-in (tables_in z cs).expressions ws z.expressions (exprs_length z cs n) h
 
--- the last of ten
-pub last-table : (k : ℕ) → k < 10 → (k ≡ 0 → ⊥) → (k ≡ 1 → ⊥) → (k ≡ 2 → ⊥) → (k ≡ 3 → ⊥) → (k ≡ 4 → ⊥) → (k ≡ 5 → ⊥) → (k ≡ 6 → ⊥) → (k ≡ 7 → ⊥) → (k ≡ 8 → ⊥) → k ≡ 9
-last-table zero h a b d e f g i j l = absurd (a refl)
-last-table (suc zero) h a b d e f g i j l = absurd (b refl)
-last-table (suc (suc zero)) h a b d e f g i j l = absurd (d refl)
-last-table (suc (suc (suc zero))) h a b d e f g i j l = absurd (e refl)
-last-table (suc (suc (suc (suc zero)))) h a b d e f g i j l = absurd (f refl)
-last-table (suc (suc (suc (suc (suc zero))))) h a b d e f g i j l = absurd (g refl)
-last-table (suc (suc (suc (suc (suc (suc zero)))))) h a b d e f g i j l = absurd (i refl)
-last-table (suc (suc (suc (suc (suc (suc (suc zero))))))) h a b d e f g i j l = absurd (j refl)
-last-table (suc (suc (suc (suc (suc (suc (suc (suc zero)))))))) h a b d e f g i j l = absurd (l refl)
-last-table (suc (suc (suc (suc (suc (suc (suc (suc (suc zero))))))))) h a b d e f g i j l = refl
-last-table (suc (suc (suc (suc (suc (suc (suc (suc (suc (suc k)))))))))) h a b d e f g i j l = absurd (omega arith)
-
 -- a cell read off the arrays
 pub held-cell : (K E P : List ℕ) (n i : ℕ) (us : List ℕ) → i < n → us ≡ (get_or (cells_of K E P n) i no_cell).words → record { kind = get_or K i 0; words = us } ≡ get_or (cells_of K E P n) i no_cell
 held-cell K E P n i us h e =
     let k : get_or K i 0 ≡ (get_or (cells_of K E P n) i no_cell).kind = sym (ap (λ (x : Cell). x.kind) (cell-at K E P n i h)) in
     λ t. record { kind = k t; words = e t }
+
+-- the cells as one table
+pub formed-table : {c : Cells} {t : Table} → t ≡ table_held c → HeldCells c → Formed t.kinds.now t.ends.now t.pool.now t.fill
+formed-table {c} {t} e h = rw e h.formed
+
+pub table-held : (c : Cells) {t : Table} {i : ℕ} {us : List ℕ} → t ≡ table_held c → i < cell_count (sizes_in c.sizes)
+    → us ≡ (get_or (cells_of t.kinds.now t.ends.now t.pool.now t.fill.cells) i no_cell).words → record { kind = get_or c.kinds.now i 0; words = us } ≡ cell_of c i
+table-held c {t} {i} {us} e h w =
+    held-cell c.kinds.now c.ends.now c.pool.now (cell_count (sizes_in c.sizes)) i us h (w ∙ ap (λ (x : Table). (get_or (cells_of x.kinds.now x.ends.now x.pool.now x.fill.cells) i no_cell).words) e)
 
 pub validator-kind : (k : ℕ) → (eqb k 1 || eqb k 3) ≡ (get_or (false ∷ true ∷ false ∷ []) k true && not (ltb 3 k))
 validator-kind zero = refl
@@ -266,6 +254,18 @@ module _ {K E P : List ℕ} {z : SizesHeld} {n : ℕ} where
       let differing : KeysDiffer K E P z n k = rw (p, q, g) at d in
       elim (keyed k e) [ inl o ↦ rw o (rows_pass (rw o at differing)) | inr o ↦ rw o (normalisers-pass (rw o at differing)) ]
 
+-- the tables whose cells may stand once, by a test with the cells before
+pub once-first : (t : Tables) (k i : ℕ) (c : Cell) → (k ≡ 0) ⊎ ((6 ≤ k) × (k < 8)) → get_or (once_tests t) k passed i c ≡ is_first (alike_by k) (get_or (table_list t) k []) i c
+once-first t zero i c h = refl
+once-first t (suc zero) i c h = elim h [ inl p ↦ absurd (omega arith) | inr (p, q) ↦ absurd (omega arith) ]
+once-first t (suc (suc zero)) i c h = elim h [ inl p ↦ absurd (omega arith) | inr (p, q) ↦ absurd (omega arith) ]
+once-first t (suc (suc (suc zero))) i c h = elim h [ inl p ↦ absurd (omega arith) | inr (p, q) ↦ absurd (omega arith) ]
+once-first t (suc (suc (suc (suc zero)))) i c h = elim h [ inl p ↦ absurd (omega arith) | inr (p, q) ↦ absurd (omega arith) ]
+once-first t (suc (suc (suc (suc (suc zero))))) i c h = elim h [ inl p ↦ absurd (omega arith) | inr (p, q) ↦ absurd (omega arith) ]
+once-first t (suc (suc (suc (suc (suc (suc zero)))))) i c h = refl
+once-first t (suc (suc (suc (suc (suc (suc (suc zero))))))) i c h = refl
+once-first t (suc (suc (suc (suc (suc (suc (suc (suc k)))))))) i c h = elim h [ inl p ↦ absurd (omega arith) | inr (p, q) ↦ absurd (omega arith) ]
+
 pub once-other : (t : Tables) (k i : ℕ) (c : Cell) → (k ≡ 9 → ⊥) → (k ≡ 0 → ⊥) → (k ≡ 6 → ⊥) → (k ≡ 7 → ⊥) → true ≡ get_or (once_tests t) k passed i c
 once-other t zero i c a b d e = absurd (b refl)
 once-other t (suc zero) i c a b d e = refl
@@ -278,19 +278,6 @@ once-other t (suc (suc (suc (suc (suc (suc (suc zero))))))) i c a b d e = absurd
 once-other t (suc (suc (suc (suc (suc (suc (suc (suc zero)))))))) i c a b d e = refl
 once-other t (suc (suc (suc (suc (suc (suc (suc (suc (suc zero))))))))) i c a b d e = absurd (a refl)
 once-other t (suc (suc (suc (suc (suc (suc (suc (suc (suc (suc k)))))))))) i c a b d e = refl
-
--- rounds past the third
-pub last-round : (k : ℕ) (z : Sizes) (t : Tables) → (k ≡ 0 → ⊥) → (k ≡ 1 → ⊥) → (k ≡ 2 → ⊥) → once_tests t ≡ tests_for k z t
-last-round zero z t a b d = absurd (a refl)
-last-round (suc zero) z t a b d = absurd (b refl)
-last-round (suc (suc zero)) z t a b d = absurd (d refl)
-last-round (suc (suc (suc k))) z t a b d = refl
-
-pub late-pass : {K E P : List ℕ} {z : SizesHeld} {k n : ℕ} (round : ℕ) → (round < 2 → ⊥) → (round ≡ 2 → ⊥) → Passing K E P z 3 k n → Passing K E P z round k n
-late-pass {K} {E} {P} {z} round h d A = record {
-  few = A.few;
-  pass = λ i l. rw (← last-round round (sizes_in z) (tables_for K E P z) (λ e. h (omega arith)) (λ e. h (omega arith)) d) (A.pass i l);
-}
 
 pub number-count : (z : Sizes) (k : ℕ) → k < 10 → cell_number z k + get_or (counts_of z) k 0 ≤ cell_count z
 number-count z zero h = omega arith
@@ -345,12 +332,6 @@ more-pass {K} {E} {P} {z} {round} {k} {n} l A e = record { few = omega arith; pa
     go i false q h =
         let d : n ≡ i = let g = ltb-false i n q in omega arith in
         subst (λ (j : ℕ). true ≡ get_or (tests_for round (sizes_in z) (tables_for K E P z)) k passed j (cell_held K E P z (cell_number (sizes_in z) k + j))) d e
-
--- terms that pass 6 and 7
-pub sound-round : {K E P : List ℕ} {z : SizesHeld} {n : ℕ} → Sound K E P z n → (round : ℕ) → round < 2 → Passing K E P z round 0 n
-sound-round S zero h = S.fit
-sound-round S (suc zero) h = S.refer
-sound-round S (suc (suc k)) h = absurd (omega arith)
 
 -- past cells that pass
 pub found-past : (f : ℕ → Cell → Bool) (t : List Cell) (first n : ℕ) → n ≤ length t → ((i : ℕ) → i < n → true ≡ f i (get_or t i no_cell))

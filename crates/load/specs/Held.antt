@@ -10,7 +10,10 @@ use Rattle.model.specs.Check.{Refusal}
 use Rattle.model.specs.Layout.{Sizes, cell_count, Tables, tables_in}
 use Rattle.model.specs.Load.{Lent, any, ends_rise, no_room, wrong_slots, refused_if, first_refusal, first_failing, same_row, same_head, passed, fit_tests, refer_tests, valid_tests, once_tests}
 use Rattle.load.specs.declared.sizes.Sizes.{Sizes as SizesHeld}
+use Rattle.load.specs.declared.tables.Cells.{Cells}
+use Rattle.load.specs.declared.tables.Test.{Test}
 use Rattle.load.specs.declared.Rejection.{Rejection}
+use Rattle.cells.specs.declared.Table.{Table}
 use Rattle.cells.specs.Table.{Formed, Once}
 use Rattle.cells.specs.declared.Fill.{Fill}
 use Rattle.index.specs.Listing.{Filled}
@@ -186,3 +189,32 @@ cell_tests E z t lent =
 -- The first refusal of these.
 unfoldable pub cell_refusal : List ℕ → Sizes → Tables → Lent → Option Refusal
 cell_refusal E z t lent = first_refusal (cell_tests E z t lent)
+
+-- The same of the cells that are lent as one value.
+abbrev pub HeldCells : Cells → Type 0
+HeldCells c = Held c.kinds.now c.ends.now c.pool.now c.sizes
+
+abbrev pub table_held : Cells → Table
+table_held c = record { kinds = c.kinds; ends = c.ends; pool = c.pool; fill = fill_of c.sizes }
+
+abbrev pub tables_of : Cells → Tables
+tables_of c = tables_for c.kinds.now c.ends.now c.pool.now c.sizes
+
+abbrev pub cell_of : Cells → ℕ → Cell
+cell_of c i = cell_held c.kinds.now c.ends.now c.pool.now c.sizes i
+
+abbrev pub DistinctCells : Cells → ℕ → Type 0
+DistinctCells c n = Distinct c.kinds.now c.ends.now c.pool.now c.sizes n
+
+abbrev pub PassingCells : Cells → ℕ → ℕ → ℕ → Type 0
+PassingCells c round k n = Passing c.kinds.now c.ends.now c.pool.now c.sizes round k n
+
+abbrev pub SoundCells : Cells → ℕ → Type 0
+SoundCells c n = Sound c.kinds.now c.ends.now c.pool.now c.sizes n
+
+-- The place of a test among those for 6, 7, 8 and 9.
+abbrev pub round_of : Test → ℕ
+round_of Test.Shape = 0
+round_of Test.References = 1
+round_of Test.Validators = 2
+round_of Test.Once = 3

@@ -8,12 +8,12 @@ pub mod tables;
 ghost use Rattle.std.specs.Prelude.{◌≡◌, OnOk, true, false, ℕ, ◌+◌, ◌≤◌, ◌<◌, length};
 ghost use Rattle.model.specs.Cell.{cells_of};
 ghost use Rattle.model.specs.Layout.{sizes_of, kinds_of, ends_of, pool_of};
-ghost use Rattle.model.specs.Load.{ends_rise, wrong_slots, first_refusal, load_refusal};
+ghost use Rattle.model.specs.Load.{ends_rise, wrong_slots, first_failing, first_refusal, load_refusal};
 ghost use Rattle.index.specs.Listing.{Lists};
-ghost use Rattle.load.specs.Held.{sizes_in, Limits, Held, Distinct, Fills, tables_for, refusal_of, writer_tests, room_lacks, Cut, cell_refusal};
+ghost use Rattle.load.specs.Held.{sizes_in, Limits, Fills, HeldCells, DistinctCells, SoundCells, tables_of, tests_for, round_of, refusal_of, writer_tests, room_lacks, Cut, cell_refusal};
 
 use crate::sizes::{Sizes, cell_count, read_sizes, too_large, wrong_length};
-use crate::tables::{fill, first_marked, passing_terms};
+use crate::tables::{Cells, Known, Test, fill, first_marked, passing_terms};
 use cells::{start, wide};
 use index::fill_once;
 
@@ -39,36 +39,35 @@ pub fn ends_rise(ends: &[u32], pool: usize) -> bool
     start == pool
 }
 
-// 6 to 9: the first cell, of the lowest number that applies.
-pub fn writer_refusal(
-    kinds: &[u32],
-    ends: &[u32],
-    pool: &[u32],
-    z: Sizes,
-    distinct: usize,
-    multiplier: u32,
-) -> Result<(), Rejection>
-    requires held { Held kinds.now ends.now pool.now z }
-    requires distinct { Distinct kinds.now ends.now pool.now z distinct }
-    ensures { refusal_of result ≡ first_refusal (writer_tests (sizes_in z) (tables_for kinds.now ends.now pool.now z)) }
+// 6, 7, 8 or 9: the first cell that fails.
+fn test_refusal(cells: &Cells<'_>, known: Known, test: Test) -> Result<(), Rejection>
+    requires held { HeldCells cells.now }
+    requires distinct { DistinctCells cells.now known.distinct }
+    requires sound { SoundCells cells.now known.sound }
+    ensures { refusal_of result ≡ first_failing (6 + round_of test) (tests_for (round_of test) (sizes_in cells.now.sizes) (tables_of cells.now)) (tables_of cells.now) }
 {
-    let sound = passing_terms(kinds, ends, pool, z);
-    for round in 0..4u32 {
-        let f = first_marked(
-            kinds,
-            ends,
-            pool,
-            z,
-            distinct,
-            sound,
-            multiplier,
-            wide(round),
-        );
-        if let Some(cell) = f {
-            return Err(Rejection::Writer(6 + round, cell));
-        }
+    match first_marked(cells, known, test) {
+        Some(cell) => Err(Rejection::Writer(test.number(), cell)),
+        None => Ok(()),
     }
-    Ok(())
+}
+
+// 6 to 9: the first cell, of the lowest number that applies.
+pub fn writer_refusal(cells: &Cells<'_>, distinct: usize, multiplier: u32) -> Result<(), Rejection>
+    requires held { HeldCells cells.now }
+    requires distinct { DistinctCells cells.now distinct }
+    ensures { refusal_of result ≡ first_refusal (writer_tests (sizes_in cells.now.sizes) (tables_of cells.now)) }
+{
+    let sound = passing_terms(cells);
+    let known = Known {
+        distinct,
+        sound,
+        multiplier,
+    };
+    test_refusal(cells, known, Test::Shape)?;
+    test_refusal(cells, known, Test::References)?;
+    test_refusal(cells, known, Test::Validators)?;
+    test_refusal(cells, known, Test::Once)
 }
 
 // 10: too little room, too much, unequal arrays, or scratch short.
@@ -102,31 +101,30 @@ pub fn wrong_slots(slots: usize, cells: usize) -> bool
 }
 
 // How many terms, from the first on, are known to differ: those that the index lists, or none where it has too few slots.
-fn known_terms(
-    kinds: &[u32],
-    ends: &[u32],
-    pool: &[u32],
-    z: Sizes,
-    index: &mut [u32],
-    multiplier: u32,
-) -> usize
-    requires { Held kinds.now ends.now pool.now z }
-    ensures distinct { Distinct kinds.now ends.now pool.now z result }
-    ensures fills { z.terms < length index.old → Fills multiplier kinds.now ends.now pool.now z index.new result }
+fn known_terms(cells: &Cells<'_>, index: &mut [u32], multiplier: u32) -> usize
+    requires { HeldCells cells.now }
+    ensures distinct { DistinctCells cells.now result }
+    ensures fills { cells.now.sizes.terms < length index.old → Fills multiplier cells.now.kinds.now cells.now.ends.now cells.now.pool.now cells.now.sizes index.new result }
 {
-    if index.len() <= z.terms {
+    let terms = cells.sizes.terms;
+    if index.len() <= terms {
         return 0;
     }
-    let t = fill_once(index, multiplier, kinds, ends, pool, fill(z), z.terms);
+    let t = fill_once(
+        index,
+        multiplier,
+        cells.kinds,
+        cells.ends,
+        cells.pool,
+        fill(cells.sizes),
+        terms,
+    );
     t.listed
 }
 
 // 5 to 10 and 12, on the kinds, the ends and the pool of a job's words; after an admitted job the index lists its terms.
 pub fn load_cells(
-    kinds: &[u32],
-    ends: &[u32],
-    pool: &[u32],
-    z: Sizes,
+    cells: &Cells<'_>,
     lent_kinds: usize,
     lent_ends: usize,
     lent_pool: usize,
@@ -134,17 +132,18 @@ pub fn load_cells(
     multiplier: u32,
     scratch: usize,
 ) -> Result<(), Rejection>
-    requires { Cut kinds.now ends.now pool.now z }
-    ensures refusal { refusal_of result ≡ cell_refusal ends.now (sizes_in z) (tables_for kinds.now ends.now pool.now z) (record { kinds = lent_kinds; ends = lent_ends; pool = lent_pool; index = length index.old; scratch = scratch }) }
-    ensures lists { OnOk result (Lists multiplier index.new (cells_of kinds.now ends.now pool.now z.terms)) }
+    requires { Cut cells.now.kinds.now cells.now.ends.now cells.now.pool.now cells.now.sizes }
+    ensures refusal { refusal_of result ≡ cell_refusal cells.now.ends.now (sizes_in cells.now.sizes) (tables_of cells.now) (record { kinds = lent_kinds; ends = lent_ends; pool = lent_pool; index = length index.old; scratch = scratch }) }
+    ensures lists { OnOk result (Lists multiplier index.new (cells_of cells.now.kinds.now cells.now.ends.now cells.now.pool.now cells.now.sizes.terms)) }
 {
-    if !ends_rise(ends, z.pool) {
+    let z = cells.sizes;
+    if !ends_rise(cells.ends, z.pool) {
         return Err(Rejection::Host(5));
     }
     let slots = index.len();
-    let distinct = known_terms(kinds, ends, pool, z, index, multiplier);
-    writer_refusal(kinds, ends, pool, z, distinct, multiplier)?;
-    let words = start(ends, z.terms);
+    let distinct = known_terms(cells, index, multiplier);
+    writer_refusal(cells, distinct, multiplier)?;
+    let words = start(cells.ends, z.terms);
     if no_room(z, words, lent_kinds, lent_ends, lent_pool, scratch) {
         return Err(Rejection::Host(10));
     }
@@ -186,16 +185,11 @@ pub fn load(
     let a = 12 + n;
     let b = a + n;
     let len = job.len();
-    load_cells(
-        &job[12..a],
-        &job[a..b],
-        &job[b..len],
-        z,
-        kinds,
-        ends,
-        pool,
-        index,
-        multiplier,
-        scratch,
-    )
+    let cells = Cells {
+        kinds: &job[12..a],
+        ends: &job[a..b],
+        pool: &job[b..len],
+        sizes: z,
+    };
+    load_cells(&cells, kinds, ends, pool, index, multiplier, scratch)
 }

@@ -20,11 +20,12 @@ use Rattle.model.specs.Walk.{duplicate_rule_name}
 use Rattle.model.proofs.Tests.{and-true}
 use Rattle.cells.specs.declared.Fill.{Fill}
 use Rattle.load.specs.Held.{cell_number, first_found}
-use Rattle.chains.specs.Chains.{has_key, same_key, slot_at, Chained, Next, Within, FirstHit, Differ}
-use Rattle.program.specs.Ready.{fill_for, table_for, count_for, first_named}
-use Rattle.program.proofs.Words.{inside, words-in}
+use Rattle.chains.specs.Chains.{FormedCells, has_key, same_key, slot_at, Chained, Next, Within, FirstHit, Differ}
+use Rattle.program.specs.Ready.{Held, fill_for, table_for, count_for, first_named}
+use Rattle.chains.specs.declared.Keys.{Keys}
+use Rattle.program.proofs.Words.{inside, words-in, formed-part}
 use Rattle.program.proofs.Laws.{table-long, front_long}
-use Rattle.lookups.specs.Keyed.{words_in, ChainedTable}
+use Rattle.lookups.specs.Keyed.{words_in, KeysOf, ChainedTable}
 use Rattle.lookups.proofs.Laws.{mark-yes, mark-no, mark-end, seen, duplicate-yes, duplicate-no, duplicate-end}
 
 -- the first mark is that of the first cell that passes
@@ -59,15 +60,22 @@ row_first J p xs {r} f =
     first-mark (λ c. eqb (word c 0) p && same_words (drop 2 c.words) xs) (table_for J 6) r (table-long J 6 (lit< tt)) (λ i l. ap (λ (us : List ℕ). has_key true us p xs) (words-at J 6 (lit< tt) i l)) f
 
 -- what the code has of a table is what the definitions have
-module _ (J : List ℕ) (k : ℕ) {K E P : List ℕ} {f : Fill} {s n : ℕ} (a : K ≡ kinds_of J) (b : E ≡ ends_of J) (c : P ≡ pool_of J) (d : f ≡ fill_for J) (e : s ≡ cell_number (sizes_of J) k) (g : n ≡ count_for J k) where
-  pub to-parts : (Q : List ℕ → List ℕ → List ℕ → Fill → ℕ → ℕ → Type 0) → Q (kinds_of J) (ends_of J) (pool_of J) (fill_for J) (cell_number (sizes_of J) k) (count_for J k) → Q K E P f s n
-  to-parts Q q = subst (λ (y : List ℕ × List ℕ × List ℕ × Fill × ℕ × ℕ). Q y.0 y.1 y.2 y.3 y.4 y.5) (λ i. (sym a i, sym b i, sym c i, sym d i, sym e i, sym g i)) q
+module _ {J : List ℕ} {k : ℕ} {rows : Bool} {x : ℕ} {keys : Keys} (e : KeysOf J k rows x keys) where
+  pub to-keys : (Q : List ℕ → List ℕ → List ℕ → Fill → ℕ → ℕ → Bool → ℕ → Type 0) → Q (kinds_of J) (ends_of J) (pool_of J) (fill_for J) (cell_number (sizes_of J) k) (count_for J k) rows x
+      → Q keys.cells.kinds.now keys.cells.ends.now keys.cells.pool.now keys.cells.fill keys.first keys.count keys.rows keys.multiplier
+  to-keys Q q =
+      subst (λ (y : List ℕ × List ℕ × List ℕ × Fill × ℕ × ℕ × Bool × ℕ). Q y.0 y.1 y.2 y.3 y.4 y.5 y.6 y.7) (λ i. (sym e.kinds i, sym e.ends i, sym e.pool i, sym e.fill i, sym e.first i, sym e.count i, sym e.rows i, sym e.multiplier i)) q
 
-  pub from_parts : (Q : List ℕ → List ℕ → List ℕ → Fill → ℕ → ℕ → Type 0) → Q K E P f s n → Q (kinds_of J) (ends_of J) (pool_of J) (fill_for J) (cell_number (sizes_of J) k) (count_for J k)
-  from_parts Q q = subst (λ (y : List ℕ × List ℕ × List ℕ × Fill × ℕ × ℕ). Q y.0 y.1 y.2 y.3 y.4 y.5) (λ i. (a i, b i, c i, d i, e i, g i)) q
+  pub from-keys : (Q : List ℕ → List ℕ → List ℕ → Fill → ℕ → ℕ → Bool → ℕ → Type 0) → Q keys.cells.kinds.now keys.cells.ends.now keys.cells.pool.now keys.cells.fill keys.first keys.count keys.rows keys.multiplier
+      → Q (kinds_of J) (ends_of J) (pool_of J) (fill_for J) (cell_number (sizes_of J) k) (count_for J k) rows x
+  from-keys Q q =
+      subst (λ (y : List ℕ × List ℕ × List ℕ × Fill × ℕ × ℕ × Bool × ℕ). Q y.0 y.1 y.2 y.3 y.4 y.5 y.6 y.7) (λ i. (e.kinds i, e.ends i, e.pool i, e.fill i, e.first i, e.count i, e.rows i, e.multiplier i)) q
 
-  pub parts_within : k < 10 → 64 ≤ n → s + n ≤ f.cells
-  parts_within h l = omega (arith, inside J k h (n - 1) (omega (arith, g)), e, ap (λ (x : Fill). x.cells) d)
+  pub keys-formed : Held J → FormedCells keys
+  keys-formed h = formed-part J e.kinds e.ends e.pool e.fill h
+
+  pub keys-within : k < 10 → 64 ≤ count_for J k → keys.first + keys.count ≤ keys.cells.fill.cells
+  keys-within h l = omega (arith, inside J k h (count_for J k - 1) (omega arith), e.first, e.count, ap (λ (f : Fill). f.cells) e.fill)
 
 -- the chains of a table where others are made
 module _ (J : List ℕ) (k : ℕ) (rows : Bool) (b : ℕ) {c : ℕ} {N N' : List ℕ} (l : count_for J k ≤ 4096) (m : 4096 < b) (o : 4096 < c) (w : Within c 8192 N N') (p : (b + 8192 ≤ c) ⊎ (c + 8192 ≤ b)) where

@@ -14,10 +14,11 @@ ghost use Rattle.model.specs.Walk.{duplicate_rule_name};
 ghost use Rattle.termdag.specs.Store.{terms_of, StoredIn};
 ghost use Rattle.chains.specs.Chains.{has_key, same_key, Within, FirstHit, Differ};
 ghost use Rattle.program.specs.Ready.{Held, Ready, number_of, tables_for, table_for, count_for, program_for, option_of, FindsCell, FindsRule, Merges};
-ghost use Rattle.lookups.specs.Keyed.{words_in, ChainedTable, Keyed};
+ghost use Rattle.lookups.specs.Keyed.{words_in, KeysOf, ChainedTable, Keyed};
 
 use cell_tests::words::at;
 use cells::{same_words, wide};
+use chains::Keys;
 use decode::{Term, read_function, read_normaliser, read_row, row_arguments, rule_name};
 use index::{Fill, Store};
 use program::job::{
@@ -84,6 +85,29 @@ fn first_named(job: &[u32], table: Table, count: usize, name: u32) -> Option<usi
     None
 }
 
+// The cells of a table, to be chained by their keys.
+#[inline(always)]
+fn keys_of(job: &[u32], by: Chaining, multiplier: u32) -> Keys<'_>
+    requires held { Held job.now }
+    ensures { KeysOf job.now (number_of by.table) by.rows multiplier result }
+{
+    let fill = fill(job);
+    let n = fill.cells;
+    let cells = cells::Table {
+        kinds: kinds(job, n),
+        ends: ends(job, n),
+        pool: pool(job, n),
+        fill,
+    };
+    Keys {
+        cells,
+        first: nearest_first(job, by.table),
+        count: size(job, by.table),
+        rows: by.rows,
+        multiplier,
+    }
+}
+
 // Chains the cells of a table by their keys, unless they are few.
 #[inline(always)]
 fn chain_table(job: &[u32], found: &mut [u32], by: Chaining)
@@ -94,26 +118,11 @@ fn chain_table(job: &[u32], found: &mut [u32], by: Chaining)
     ensures chained { ChainedTable job.now found.new (number_of by.table) by.rows by.start }
     ensures within { Within by.start 8192 found.old found.new }
 {
-    let count = size(job, by.table);
-    if count < FEW {
+    if size(job, by.table) < FEW {
         return;
     }
-    let x = found[MULTIPLIER];
-    let f = fill(job);
-    let n = f.cells;
-    let start = nearest_first(job, by.table);
-    chains::chain(
-        found,
-        by.start,
-        x,
-        kinds(job, n),
-        ends(job, n),
-        pool(job, n),
-        f,
-        start,
-        count,
-        by.rows,
-    )
+    let keys = keys_of(job, by, found[MULTIPLIER]);
+    chains::chain(found, by.start, &keys)
 }
 
 // Chains the rows, normalisers, rules and functions, each unless they are few, in the words behind the offences.
@@ -150,25 +159,8 @@ fn find_key(job: &[u32], found: &[u32], by: Chaining, head: u32, args: &[u32]) -
     requires bound { 64 ≤ count_for job.now (number_of by.table) }
     ensures { FirstHit (λ i. has_key by.rows (words_in job.now (number_of by.table) i) head args.now) (count_for job.now (number_of by.table)) result }
 {
-    let x = found[MULTIPLIER];
-    let f = fill(job);
-    let n = f.cells;
-    let start = nearest_first(job, by.table);
-    let count = size(job, by.table);
-    chains::find(
-        found,
-        by.start,
-        x,
-        kinds(job, n),
-        ends(job, n),
-        pool(job, n),
-        f,
-        start,
-        count,
-        by.rows,
-        head,
-        args,
-    )
+    let keys = keys_of(job, by, found[MULTIPLIER]);
+    chains::find(found, by.start, &keys, head, args)
 }
 
 // The place of the first cell of a table that has the name.
@@ -286,23 +278,8 @@ fn differing_rules(job: &[u32], found: &[u32]) -> usize
     requires bound { 64 ≤ count_for job.now (number_of RULES.table) }
     ensures { Differ (same_key RULES.rows (words_in job.now (number_of RULES.table))) (count_for job.now (number_of RULES.table)) result }
 {
-    let x = found[MULTIPLIER];
-    let f = fill(job);
-    let n = f.cells;
-    let start = nearest_first(job, Table::Rules);
-    let count = size(job, Table::Rules);
-    chains::differing(
-        found,
-        RULES.start,
-        x,
-        kinds(job, n),
-        ends(job, n),
-        pool(job, n),
-        f,
-        start,
-        count,
-        RULES.rows,
-    )
+    let keys = keys_of(job, RULES, found[MULTIPLIER]);
+    chains::differing(found, RULES.start, &keys)
 }
 
 // The first rule name that has been seen before.

@@ -3,7 +3,7 @@ use Rattle.index.specs.Listing.{Lists}
 use Rattle.load.specs.Held.{sizes_in}
 use Rattle.load.proofs.Loading.{refuses-1, refuses-2, refuses-3, refuses-11, behind-11, sizes-words, limits_of, inside, cut_of, cut-terms, cut-refusal}
 use Rattle.std.proofs.lemmas.Result.{on_ok_weaker}
-use mathlib.Core.Path.{refl, sym, ap, subst, ◌∙◌}
+use mathlib.Core.Path.{sym, ap, subst, ◌∙◌}
 use mathlib.Core.List.{List}
 use native.Mathlib.Omega.{arith}
 use lib.Dec.{leb}
@@ -41,17 +41,17 @@ returns-then-mode-gt1 c = let a = c.args in
 pub cell_count-n-requires : goal.cell_count-n-requires
 cell_count-n-requires c = c.read_sizes-z.ensures.small
 
-pub slice_bounds-load_cells-end : goal.slice_bounds-load_cells-end
-slice_bounds-load_cells-end c = let i = inside c.args.job.now c.read_sizes-z.result c.cell_count-n.result c.read_sizes-z.ensures.is c.cell_count-n.ensures (sym c.wrong_length.ensures ∙ c.if-wrong_length.false) in omega (arith, i)
+pub slice_bounds-cells-end : goal.slice_bounds-cells-end
+slice_bounds-cells-end c = let i = inside c.args.job.now c.read_sizes-z.result c.cell_count-n.result c.read_sizes-z.ensures.is c.cell_count-n.ensures (sym c.wrong_length.ensures ∙ c.if-wrong_length.false) in omega (arith, i)
 
-pub slice_bounds-load_cells-end-2 : goal.slice_bounds-load_cells-end-2
-slice_bounds-load_cells-end-2 c = let i = inside c.args.job.now c.read_sizes-z.result c.cell_count-n.result c.read_sizes-z.ensures.is c.cell_count-n.ensures (sym c.wrong_length.ensures ∙ c.if-wrong_length.false) in omega (arith, i)
+pub slice_bounds-cells-end-2 : goal.slice_bounds-cells-end-2
+slice_bounds-cells-end-2 c = let i = inside c.args.job.now c.read_sizes-z.result c.cell_count-n.result c.read_sizes-z.ensures.is c.cell_count-n.ensures (sym c.wrong_length.ensures ∙ c.if-wrong_length.false) in omega (arith, i)
 
-pub slice_bounds-load_cells-count-3 : goal.slice_bounds-load_cells-count-3
-slice_bounds-load_cells-count-3 c = inside c.args.job.now c.read_sizes-z.result c.cell_count-n.result c.read_sizes-z.ensures.is c.cell_count-n.ensures (sym c.wrong_length.ensures ∙ c.if-wrong_length.false)
+pub slice_bounds-cells-count-3 : goal.slice_bounds-cells-count-3
+slice_bounds-cells-count-3 c = inside c.args.job.now c.read_sizes-z.result c.cell_count-n.result c.read_sizes-z.ensures.is c.cell_count-n.ensures (sym c.wrong_length.ensures ∙ c.if-wrong_length.false)
 
-pub slice_bounds-load_cells-start-3 : goal.slice_bounds-load_cells-start-3
-slice_bounds-load_cells-start-3 c = let i = inside c.args.job.now c.read_sizes-z.result c.cell_count-n.result c.read_sizes-z.ensures.is c.cell_count-n.ensures (sym c.wrong_length.ensures ∙ c.if-wrong_length.false) in omega (arith, i)
+pub slice_bounds-cells-start-3 : goal.slice_bounds-cells-start-3
+slice_bounds-cells-start-3 c = let i = inside c.args.job.now c.read_sizes-z.result c.cell_count-n.result c.read_sizes-z.ensures.is c.cell_count-n.ensures (sym c.wrong_length.ensures ∙ c.if-wrong_length.false) in omega (arith, i)
 
 pub load_cells-requires : goal.load_cells-requires
 load_cells-requires c = cut_of c.args.job.now c.read_sizes-z.result c.cell_count-n.result c.read_sizes-z.ensures.is c.cell_count-n.ensures (sym c.wrong_length.ensures ∙ c.if-wrong_length.false) (limits_of (sizes_in c.read_sizes-z.result) (sym c.too_large.ensures ∙ c.if-too_large.false))

@@ -1,37 +1,22 @@
-use mathlib.Core.Path.{ap}
-use mathlib.Core.Bool.{false}
 use native.Mathlib.Omega.{arith}
 use lib.Dec.{lit<}
-use lib.ListN.{get_or}
-use Rattle.cells.specs.declared.Fill.{Fill}
 use Rattle.chains.specs.Chains.{same_key, words_from, slot_at, Chained, Differ}
-use Rattle.program.proofs.Words.{formed-part}
-use Rattle.lookups.proofs.Keys.{to-parts, from_parts, parts_within}
+use Rattle.lookups.proofs.Keys.{to-keys, from-keys, keys-formed, keys-within}
 use Rattle.lookups.proofs.differing_rules.Goals as goal
 
 pub bounds-found-4096 : goal.bounds-found-4096
 bounds-found-4096 c = omega (arith, (c.requires.chained_table.chained c.requires.bound).long, c.requires.bound)
 
-pub kinds-requires : goal.kinds-requires
-kinds-requires c = record { held = c.requires.held; count_value = ap (λ (f : Fill). f.cells) c.fill-f.ensures }
-
-pub ends-requires : goal.ends-requires
-ends-requires c = record { held = c.requires.held; count_value = ap (λ (f : Fill). f.cells) c.fill-f.ensures }
-
-pub pool-requires : goal.pool-requires
-pool-requires c = record { held = c.requires.held; count_value = ap (λ (f : Fill). f.cells) c.fill-f.ensures }
-
 pub differing-requires : goal.differing-requires
 differing-requires c = let a = c.args in
     let pre = c.requires in
+    let e = c.keys_of-keys.ensures in
     record {
-      formed = formed-part a.job.now c.kinds.ensures c.ends.ensures c.pool.ensures c.fill-f.ensures pre.held;
-      n_bound = parts_within a.job.now 8 c.kinds.ensures c.ends.ensures c.pool.ensures c.fill-f.ensures c.nearest_first-start.ensures c.size-count.ensures (lit< tt) (omega (arith, c.size-count.ensures, pre.bound));
-      chained = to-parts a.job.now 8 c.kinds.ensures c.ends.ensures c.pool.ensures c.fill-f.ensures c.nearest_first-start.ensures c.size-count.ensures
-          (λ K E P f first n. Chained (slot_at (get_or a.found.now 4096 0) n false (words_from K E P f first)) n 20481 0 a.found.now) (pre.chained_table.chained pre.bound);
+      formed = keys-formed e pre.held;
+      n_bound = keys-within e (lit< tt) pre.bound;
+      chained = to-keys e (λ K E P f first n rows x. Chained (slot_at x n rows (words_from K E P f first)) n 20481 0 a.found.now) (pre.chained_table.chained pre.bound);
     }
 
 pub returns : goal.returns
-returns c = let a = c.args in
-    from_parts a.job.now 8 c.kinds.ensures c.ends.ensures c.pool.ensures c.fill-f.ensures c.nearest_first-start.ensures c.size-count.ensures
-    (λ K E P f first n. Differ (same_key false (words_from K E P f first)) n c.differing.result) c.differing.ensures
+returns c =
+    from-keys c.keys_of-keys.ensures (λ K E P f first n rows x. Differ (same_key rows (words_from K E P f first)) n c.differing.result) c.differing.ensures

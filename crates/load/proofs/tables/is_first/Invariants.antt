@@ -7,4 +7,4 @@ use Rattle.model.specs.Load.{any}
 use Rattle.load.proofs.tables.is_first.Given as goal
 
 abbrev pub invariant-loop-j : goal.invariant-loop-j
-invariant-loop-j l = (any (λ e. alike_by l.table e (get_or (cells_of l.kinds l.ends l.pool l.f.cells) (l.first + l.i) no_cell)) (take l.i (drop l.first (cells_of l.kinds l.ends l.pool l.f.cells))) ≡ any (λ e. alike_by l.table e (get_or (cells_of l.kinds l.ends l.pool l.f.cells) (l.first + l.i) no_cell)) (drop l.j (take l.i (drop l.first (cells_of l.kinds l.ends l.pool l.f.cells)))))
+invariant-loop-j l = (any (λ e. alike_by l.span.table e (get_or (cells_of l.t.kinds.now l.t.ends.now l.t.pool.now l.t.fill.cells) (l.span.first + l.i) no_cell)) (take l.i (drop l.span.first (cells_of l.t.kinds.now l.t.ends.now l.t.pool.now l.t.fill.cells))) ≡ any (λ e. alike_by l.span.table e (get_or (cells_of l.t.kinds.now l.t.ends.now l.t.pool.now l.t.fill.cells) (l.span.first + l.i) no_cell)) (drop l.j (take l.i (drop l.span.first (cells_of l.t.kinds.now l.t.ends.now l.t.pool.now l.t.fill.cells)))))
