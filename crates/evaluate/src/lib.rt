@@ -182,16 +182,14 @@ fn noted_values(memo: &[u32], args: &[u32], vals: &mut [u32; 16], from: usize) -
     ensures next { result < length args.now → is_noted memo.now (get_or args.now result 0) ≡ false }
     ensures far { from ≤ result }
 {
-    let mut i = from;
-    while i < args.len() {
+    for i in from..args.len() {
         let at = wide(args[i]);
         if !memo::is_noted(memo, at) {
             return i;
         }
         vals[i] = memo::value_of(memo, at);
-        i += 1;
     }
-    i
+    args.len()
 }
 
 // The values of a call's arguments, from the first on, as far as they need no evaluation; how many they are.

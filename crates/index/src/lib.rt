@@ -113,6 +113,7 @@ pub fn mix(x: u32, kind: u32, ws: &[u32]) -> u32
     let y = times(x, x);
     let mut h = kind;
     let mut i = 0;
+    // A turn takes two words, and what is left over one: a `for` over pairs would still have to count.
     while 1 < ws.len() - i {
         h = stir(x, y, h, ws[i], ws[i + 1]);
         i += 2;
@@ -150,11 +151,7 @@ pub fn onward(n: usize, s: usize, k: usize) -> usize
 pub fn clear(index: &mut [u32])
     ensures { index.new ≡ replicate (length index.old) 0 }
 {
-    let mut i = 0;
-    while i < index.len() {
-        index[i] = 0;
-        i += 1;
-    }
+    index.fill(0);
 }
 
 // Looks a cell up among the first m, by the index that lists them.
@@ -178,8 +175,7 @@ pub fn find(
 {
     let n = index.len();
     let first = home(n, x, kind, ws);
-    let mut compared = 0;
-    while compared < n {
+    for compared in 0..n {
         let slot = onward(n, first, compared);
         let entry = index[slot];
         if entry == 0 {
@@ -196,12 +192,11 @@ pub fn find(
                 compared: compared + 1,
             };
         }
-        compared += 1;
     }
     Probe {
         found: None,
         slot: 0,
-        compared,
+        compared: n,
     }
 }
 
@@ -295,15 +290,16 @@ pub fn fill_once(
     ensures { Filled x (cell_at kinds.now ends.now pool.now) m index.new result }
 {
     clear(index);
-    let mut listed = 0;
     let mut compared = 0;
-    while listed < m {
+    for listed in 0..m {
         let p = enlist(index, x, kinds, ends, pool, fill, listed);
         compared += p.compared;
         if let Some(_) = p.found {
             return Tally { listed, compared };
         }
-        listed += 1;
     }
-    Tally { listed, compared }
+    Tally {
+        listed: m,
+        compared,
+    }
 }

@@ -1,4 +1,7 @@
-use mathlib.Core.Path.{sym, ap, ◌∙◌}
+use mathlib.Core.Path.{◌≡◌, sym, ap, subst, ◌∙◌}
+use Prim.Native.Nat.{ℕ}
+use lib.ListN.{length}
+use Rattle.evaluate.specs.Evaluation.{KnowsFirst}
 use native.Mathlib.Omega.{arith}
 use borrow.Author.Rules.{rules}
 use Rattle.memo.specs.Memo.{value_at, is_noted}
@@ -21,4 +24,10 @@ pub loop-i-preserved : goal.loop-i-preserved
 loop-i-preserved c = (λ head σ m₀ vals₀ W. first-noted (c.loop-i.invariant.0 head σ m₀ vals₀ W) c.loop-i-test.true (ap (is_noted c.args.memo.now) (sym c.wide-at.ensures) ∙ sym c.is_noted.ensures ∙ c.if-not-is_noted.false) (c.value_of.ensures ∙ ap (value_at c.args.memo.now) c.wide-at.ensures), let l = c.loop-i.invariant.1 in omega arith)
 
 pub returns : goal.returns
-returns c = record { more = c.loop-i.invariant.0; next = λ u. absurd (search rules); far = c.loop-i.invariant.1 }
+returns c = let a = c.args in
+    let e : c.loop-i.i ≡ length a.args.now = omega arith in
+    record {
+      more = λ head σ m₀ vals₀ W. subst (λ (n : ℕ). KnowsFirst head σ a.args.now m₀ vals₀ n a.memo.now c.loop-i.vals) e (c.loop-i.invariant.0 head σ m₀ vals₀ W);
+      next = λ u. absurd (omega arith);
+      far = c.requires.from_in_bounds;
+    }

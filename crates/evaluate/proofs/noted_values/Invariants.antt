@@ -7,6 +7,3 @@ use Rattle.evaluate.proofs.noted_values.Given as goal
 
 abbrev pub invariant-loop-i : goal.invariant-loop-i
 invariant-loop-i l = ((head : ℕ → Head) (σ : List Binding) (m₀ vals₀ : List ℕ) → KnowsFirst head σ l.args m₀ vals₀ l.from l.memo l.initial.vals → KnowsFirst head σ l.args m₀ vals₀ l.i l.memo l.vals) × (l.from ≤ l.i)
-
-abbrev pub decreases-loop-i : goal.decreases-loop-i
-decreases-loop-i l = length l.args - l.i

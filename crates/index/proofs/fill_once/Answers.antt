@@ -1,5 +1,6 @@
 use Rattle.model.specs.Cell.{cell_at, cells_of}
-use Rattle.std.proofs.Common.{length, refl, ◌∙◌, arith}
+use Rattle.std.proofs.Common.{◌≡◌, ℕ, length, refl, subst, ◌∙◌, arith}
+use Rattle.index.specs.Listing.{Filled}
 use Rattle.index.proofs.Filling.{going-none, going-lists, few-compared, going_more, going-found, going_end}
 use Rattle.index.proofs.Indexing.{no-none}
 use Rattle.index.proofs.fill_once.Goals as goal
@@ -21,4 +22,7 @@ pub loop-listed-preserved : goal.loop-listed-preserved
 loop-listed-preserved c = let p = c.requires in let g = c.loop-listed.invariant.0 in (going_more g c.enlist-p.ensures c.in_default.is c.loop-listed-test.true (omega (arith, p.formed.few, p.formed.kinds)), c.enlist-p.auto.index ∙ c.loop-listed.invariant.1)
 
 pub returns : goal.returns
-returns c = going_end c.loop-listed.invariant.0 c.loop-listed-test.false
+returns c = let a = c.args in
+    let g = c.loop-listed.invariant.0 in
+    let e : c.loop-listed.listed ≡ a.m = omega (arith, g.low) in
+    subst (λ (n : ℕ). Filled a.x (cell_at a.kinds.now a.ends.now a.pool.now) a.m c.loop-listed.index (record { listed = n; compared = c.loop-listed.compared })) e (going_end g c.loop-listed-test.false)

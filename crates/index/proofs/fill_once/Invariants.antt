@@ -5,6 +5,3 @@ use Rattle.index.proofs.fill_once.Given as goal
 
 abbrev pub invariant-loop-listed : goal.invariant-loop-listed
 invariant-loop-listed l = Going l.x (cell_at l.kinds l.ends l.pool) l.m l.index l.listed l.compared × (length l.index ≡ length l.initial.index)
-
-abbrev pub decreases-loop-listed : goal.decreases-loop-listed
-decreases-loop-listed l = l.m - l.listed

@@ -6,6 +6,3 @@ use Rattle.index.proofs.find.Given as goal
 
 abbrev pub invariant-loop-compared : goal.invariant-loop-compared
 invariant-loop-compared l = Passed l.index (hits (cells_of l.kinds l.ends l.pool l.m) (record { kind = l.kind; words = l.ws })) l.first l.compared
-
-abbrev pub decreases-loop-compared : goal.decreases-loop-compared
-decreases-loop-compared l = length l.index - l.compared
