@@ -22,7 +22,7 @@ use pairs::mark_values;
 use program::job::{Table, size};
 use program::read::action_at;
 
-// What an action did: bound a name to a term, joined two terms, or neither.
+// What an action did: bound a name to a term, joined two terms, or neither. An Option of the first two would be told apart in two matches where this takes one.
 #[derive(Clone, Copy)]
 pub enum Effect {
     Bind(u32, u32),

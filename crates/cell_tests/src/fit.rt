@@ -1,4 +1,4 @@
-// 6: a cell has a known kind with its operand count, and a literal its words.
+// 6: a cell has a known kind with its operand count, and a literal its words. Kinds are words here, as the tests are for words that may be no kind.
 ghost use Rattle.std.specs.Prelude.{◌≡◌};
 ghost use Rattle.model.specs.Load.{counts, literal_cell, term_fits, expr_fits, row_fits, rule_fits, rule_proof_fits, proof_fits};
 

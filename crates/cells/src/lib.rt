@@ -28,6 +28,7 @@ pub struct Added {
     pub fill: Fill,
 }
 
+// A word as an index: `usize` has no `From<u32>`, and the name says that nothing is lost.
 pub fn wide(x: u32) -> usize
     ensures { result ≡ x }
 {
@@ -99,7 +100,7 @@ pub fn copy(dst: &mut [u32], at: usize, src: &[u32])
     dst[at..at + src.len()].copy_from_slice(src);
 }
 
-// Appends a cell, if there is room.
+// Appends a cell, if there is room. The arrays are lent one by one, here and below: `index::add` lends three of a store's four, and a struct of them would have to be made anew there.
 pub fn append(
     kinds: &mut [u32],
     ends: &mut [u32],

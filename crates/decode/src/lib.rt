@@ -1,4 +1,5 @@
 // What a cell says: typed views of its kind and its words. Names, and what is named by number in a table, stay numbers.
+// A kind comes as a word, as the job hands it in: the readers here turn it into an enum once.
 #![tactic(auto)]
 
 ghost use Rattle.std.specs.Prelude.{◌≡◌, [], ◌∷◌, ℕ, ◌+◌, ◌≤◌, ◌<◌, length, get_or, take, drop, MatchOption};
@@ -84,7 +85,7 @@ pub enum Operation {
     Quotient,
 }
 
-// What a primitive's validator does: there is none, it looks rows up, or it computes. A kind past 8, which no admitted job has, is unknown and computes nothing.
+// What a primitive's validator does: there is none, it looks rows up, or it computes. No Option, as `Unknown` stands for no validator of ours either. A kind past 8, which no admitted job has, is unknown and computes nothing.
 #[derive(Clone, Copy)]
 pub enum Validator {
     Nothing,

@@ -192,7 +192,7 @@ fn noted_values(memo: &[u32], args: &[u32], vals: &mut [u32; 16], from: usize) -
     args.len()
 }
 
-// The values of a call's arguments, from the first on, as far as they need no evaluation; how many they are.
+// The values of a call's arguments, from the first on, as far as they need no evaluation; how many they are. No `for`: a turn goes on by as many as are noted.
 fn known_values(scope: &Scope<'_>, memo: &mut [u32], args: &[u32], vals: &mut [u32; 16]) -> usize
     requires ready { Ready scope.now.job.now }
     requires job_in_bounds { (sizes_of scope.now.job.now).expressions + (sizes_of scope.now.job.now).expressions < length memo.old }
@@ -288,7 +288,7 @@ fn find_value(
 }
 
 // The value of expression e, noted. One that is noted is not evaluated again. An expression that waits for the value of an argument is that argument's value in the memo
-// until it has one, so that the way back needs no stack.
+// until it has one, so that the way back needs no stack. No `for`: the way goes down and up, by the memo.
 pub fn eval(
     scope: &Scope<'_>,
     fact: bool,

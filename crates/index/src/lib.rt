@@ -154,7 +154,7 @@ pub fn clear(index: &mut [u32])
     index.fill(0);
 }
 
-// Looks a cell up among the first m, by the index that lists them.
+// Looks a cell up among the first m, by the index that lists them. The arrays are parameters of their own, as the cells are a job's while it loads and a store's later.
 pub fn find(
     index: &[u32],
     x: u32,

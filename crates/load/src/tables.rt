@@ -23,7 +23,7 @@ pub struct Cells<'a> {
     pub sizes: Sizes,
 }
 
-// A table by its number, the number of its first cell, and how many it has.
+// A table by its number, as the definitions' tests stand in lists by table, the number of its first cell, and how many it has.
 #[derive(Clone, Copy)]
 pub struct Span {
     pub table: usize,

@@ -56,11 +56,8 @@ fn is_func(h: Head) -> bool
     ensures { result ≡ is_func (head_of h) }
 {
     match h {
-        Head::Lit(_) => false,
-        Head::Var(_) => false,
-        Head::Constructor(_) => true,
-        Head::Custom(_) => true,
-        Head::Primitive(_) => false,
+        Head::Constructor(_) | Head::Custom(_) => true,
+        _ => false,
     }
 }
 
@@ -69,11 +66,8 @@ fn is_primitive(h: Head) -> bool
     ensures { result ≡ is_primitive (head_of h) }
 {
     match h {
-        Head::Lit(_) => false,
-        Head::Var(_) => false,
-        Head::Constructor(_) => false,
-        Head::Custom(_) => false,
         Head::Primitive(_) => true,
+        _ => false,
     }
 }
 

@@ -105,6 +105,7 @@ fn fact_state(job: &[u32], found: &[u32], r: usize, count: usize, i: usize) -> u
 
 // The step of proof p, a rule's too, turn by turn: each proof that it needs is walked, between what is done before it and after it. The value is the height: one more than
 // the greatest among the proofs walked. The walk and this check call each other, with a falling proof number; all else is done in `advance`, outside of their frames.
+// No `for`: a turn starts again with another state, and goes on by one or two.
 #[cycle(justify_walk)]
 fn justify(
     job: &[u32],
