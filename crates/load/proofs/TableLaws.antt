@@ -24,7 +24,7 @@ use Rattle.cells.specs.declared.Table.{Table}
 use Rattle.load.specs.declared.tables.Cells.{Cells}
 use Rattle.chains.specs.Chains.{words_from, same_key, Differ}
 use Rattle.load.specs.declared.sizes.Sizes.{Sizes as SizesHeld}
-use Rattle.load.specs.Held.{table_held, HeldCells, cell_of, sizes_in, fill_of, Limits, Distinct, counts_of, cell_number, fixed_counts, alike_by, first_among, tables_for, cell_held, Passing, tests_for, first_found}
+use Rattle.load.specs.Held.{table_held, HeldCells, cell_of, sizes_in, fill_of, Limits, Distinct, Sound, counts_of, cell_number, fixed_counts, alike_by, first_among, tables_for, cell_held, Passing, tests_for, first_found}
 
 -- a cell of a table is a cell of the job
 pub part_at : (cs : List Cell) (from count i : ℕ) → i < count → get_or (part cs from count) i no_cell ≡ get_or cs (from + i) no_cell
@@ -332,6 +332,12 @@ more-pass {K} {E} {P} {z} {round} {k} {n} l A e = record { few = omega arith; pa
     go i false q h =
         let d : n ≡ i = let g = ltb-false i n q in omega arith in
         subst (λ (j : ℕ). true ≡ get_or (tests_for round (sizes_in z) (tables_for K E P z)) k passed j (cell_held K E P z (cell_number (sizes_in z) k + j))) d e
+
+-- terms that pass 6 and 7
+pub sound-round : {K E P : List ℕ} {z : SizesHeld} {n : ℕ} → Sound K E P z n → (round : ℕ) → round < 2 → Passing K E P z round 0 n
+sound-round S zero h = S.fit
+sound-round S (suc zero) h = S.refer
+sound-round S (suc (suc k)) h = absurd (omega arith)
 
 -- past cells that pass
 pub found-past : (f : ℕ → Cell → Bool) (t : List Cell) (first n : ℕ) → n ≤ length t → ((i : ℕ) → i < n → true ≡ f i (get_or t i no_cell))
