@@ -62,7 +62,7 @@ fn eval_side(scope: &Scope<'_>, store: &mut Store<'_>, fill: Fill, memo: &mut [u
 {
     let variable = variable_of(scope.job, e);
     if let Some(x) = variable {
-        let value = lookup(scope, x);
+        let value = lookup(scope.bound, scope.pairs, scope.globals, x);
         return Side {
             refusal: Refusal::NONE,
             value,

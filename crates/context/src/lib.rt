@@ -206,6 +206,6 @@ pub fn new_context(
         return r;
     }
     let have = r.fill;
-    close(store, have, marks);
+    close(&store.view(), have, marks);
     r
 }

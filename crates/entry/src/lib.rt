@@ -67,7 +67,7 @@ fn check_store(
 }
 
 // The check of a job's words for an asked proof in a mode, 0 as the Rust checks or 1 strict: the number returned, the answer and the lent arrays are as the definition says, for all inputs.
-// What a returned 0 means, demand 3, is stated and proved in proofs/Sound.
+// What a returned 0 means, demand 3, is stated and proved in proofs/Sound. The arrays are parameters of their own, as the C interface hands them in.
 pub fn check(
     job: &[u32],
     asked: u32,

@@ -10,7 +10,7 @@ ghost use Rattle.model.specs.Program.{Binding};
 ghost use Rattle.model.specs.Program as Program;
 ghost use Rattle.model.specs.Check.{or_refuse, add_node};
 ghost use Rattle.model.specs.Evaluate.{lookup, validated};
-ghost use Rattle.termdag.specs.Store.{terms_of, IndexedIn, room_in, Known};
+ghost use Rattle.termdag.specs.Store.{terms_at, terms_of, IndexedAt, IndexedIn, room_at, room_in, Known};
 ghost use Rattle.program.specs.Ready.{Ready, program_for, option_of};
 ghost use Rattle.lookups.specs.Keyed.{Keyed};
 ghost use Rattle.decode.specs.View.{head_of};
@@ -18,13 +18,13 @@ ghost use Rattle.decode.specs.declared.Head as heads;
 ghost use Rattle.memo.specs.Memo.{is_noted, Past};
 ghost use Rattle.outcome.specs.Does.{outcome_of, DoesIn};
 ghost use Rattle.program.specs.Read.{head_for, arguments_for};
-ghost use Rattle.evaluate.specs.Value.{custom_term, head_term, bindings_under, eval_for, value_for};
+ghost use Rattle.evaluate.specs.Value.{custom_term, head_term, bindings_in, bindings_under, eval_for, value_for};
 ghost use Rattle.evaluate.specs.Evaluation.{Memo, Knows, KnowsFirst, EvaluatesIn, EvaluatesRootIn};
 
 use cells::wide;
 use computing::{compute, find_result};
 use decode::{Head, Validator};
-use index::{Fill, Store};
+use index::{Fill, Store, View};
 use lookups::row_value;
 use outcome::{Checked, add_app, add_lit, pass, refuse1, refuse2};
 use program::read::{arguments_at, head_at};
@@ -44,18 +44,18 @@ pub struct Scope<'a> {
 }
 
 // The term bound to a name: by conditions and lets, by the substitution, by the globals.
-pub fn lookup(scope: &Scope<'_>, name: u32) -> Option<u32>
-    ensures { option_of result ≡ lookup (bindings_under scope.now) name }
+pub fn lookup(bound: &[u32], pairs: &[u32], globals: &[u32], name: u32) -> Option<u32>
+    ensures { option_of result ≡ lookup (bindings_in bound.now pairs.now globals.now) name }
 {
-    let first = lookup_pairs(scope.bound, name);
+    let first = lookup_pairs(bound, name);
     if let Some(t) = first {
         return Some(t);
     }
-    let second = lookup_pairs(scope.pairs, name);
+    let second = lookup_pairs(pairs, name);
     if let Some(t) = second {
         return Some(t);
     }
-    lookup_pairs(scope.globals, name)
+    lookup_pairs(globals, name)
 }
 
 // A primitive's value, computed or looked up: refusal n where it has no validator, 46 where the validator gives nothing.
@@ -90,13 +90,20 @@ fn validated(
 }
 
 // A variable's value.
-pub fn variable(scope: &Scope<'_>, name: u32, fill: Fill) -> Checked
+pub fn variable(
+    bound: &[u32],
+    pairs: &[u32],
+    globals: &[u32],
+    rule: u32,
+    name: u32,
+    fill: Fill,
+) -> Checked
     ensures fill_value { result.fill ≡ fill }
-    ensures s_value { (s : List Term) → outcome_of result.refusal result.value s ≡ or_refuse (lookup (bindings_under scope.now) name) 45 (scope.now.rule ∷ name ∷ []) s }
+    ensures s_value { (s : List Term) → outcome_of result.refusal result.value s ≡ or_refuse (lookup (bindings_in bound.now pairs.now globals.now) name) 45 (rule ∷ name ∷ []) s }
 {
-    match lookup(scope, name) {
+    match lookup(bound, pairs, globals, name) {
         Some(t) => pass(t, fill),
-        None => refuse2(45, scope.rule, name, fill),
+        None => refuse2(45, rule, name, fill),
     }
 }
 
@@ -139,7 +146,7 @@ pub fn head_value(
 {
     match head {
         Head::Lit(l) => add_lit(store, fill, l),
-        Head::Var(x) => variable(scope, x, fill),
+        Head::Var(x) => variable(scope.bound, scope.pairs, scope.globals, scope.rule, x, fill),
         Head::Constructor(f) => add_app(store, fill, f, args),
         Head::Custom(f) => custom_value(fact, store, fill, f, args),
         Head::Primitive(p) => {
@@ -164,7 +171,7 @@ fn known_value(scope: &Scope<'_>, memo: &mut [u32], e: u32) -> Option<u32>
     let Head::Var(x) = head else {
         return None;
     };
-    match lookup(scope, x) {
+    match lookup(scope.bound, scope.pairs, scope.globals, x) {
         Some(t) => {
             memo::note(memo, at, t);
             Some(t)
@@ -214,10 +221,10 @@ fn known_values(scope: &Scope<'_>, memo: &mut [u32], args: &[u32], vals: &mut [u
 }
 
 // The value of a call whose term is in the store already.
-fn find_call(store: &Store<'_>, fill: Fill, f: u32, args: &[u32]) -> Option<u32>
-    requires indexed { IndexedIn store.now fill }
+fn find_call(store: &View<'_>, fill: Fill, f: u32, args: &[u32]) -> Option<u32>
+    requires indexed { IndexedAt store.now fill }
     requires args_len_bound { length args.now ≤ 16 }
-    ensures { Known result (add_node (room_in store.now) (app f args.now) (terms_of store.now fill)) (terms_of store.now fill) }
+    ensures { Known result (add_node (room_at store.now) (app f args.now) (terms_at store.now fill)) (terms_at store.now fill) }
 {
     let mut ws = [0u32; 17];
     ws[0] = f;
@@ -227,10 +234,10 @@ fn find_call(store: &Store<'_>, fill: Fill, f: u32, args: &[u32]) -> Option<u32>
 }
 
 // The value of a custom call whose term is in the store already: none in an ordinary fact.
-fn find_custom(fact: bool, store: &Store<'_>, fill: Fill, f: u32, args: &[u32]) -> Option<u32>
-    requires indexed { IndexedIn store.now fill }
+fn find_custom(fact: bool, store: &View<'_>, fill: Fill, f: u32, args: &[u32]) -> Option<u32>
+    requires indexed { IndexedAt store.now fill }
     requires args_len_bound { length args.now ≤ 16 }
-    ensures { Known result (custom_term fact (room_in store.now) f args.now (terms_of store.now fill)) (terms_of store.now fill) }
+    ensures { Known result (custom_term fact (room_at store.now) f args.now (terms_at store.now fill)) (terms_at store.now fill) }
 {
     if fact {
         return None;
@@ -242,16 +249,16 @@ fn find_custom(fact: bool, store: &Store<'_>, fill: Fill, f: u32, args: &[u32]) 
 fn find_validated(
     job: &[u32],
     found: &[u32],
-    store: &Store<'_>,
+    store: &View<'_>,
     fill: Fill,
     p: u32,
     args: &[u32],
 ) -> Option<u32>
     requires ready { Ready job.now }
     requires keyed { Keyed job.now found.now }
-    requires indexed { IndexedIn store.now fill }
+    requires indexed { IndexedAt store.now fill }
     requires p_bound { p < (sizes_of job.now).primitives }
-    ensures { (n : ℕ) → Known result (validated (room_in store.now) (program_for job.now) n p args.now (terms_of store.now fill)) (terms_of store.now fill) }
+    ensures { (n : ℕ) → Known result (validated (room_at store.now) (program_for job.now) n p args.now (terms_at store.now fill)) (terms_at store.now fill) }
 {
     let primitive = primitive_at(job, wide(p));
     match primitive.validator {
@@ -278,12 +285,18 @@ fn find_value(
     requires by_index { (p : ℕ) → head ≡ heads.Head.Primitive p → p < (sizes_of job.now).primitives }
     ensures { (rule : ℕ) (σ : List Binding) → Known result (head_term fact (room_in store.now) (program_for job.now) rule σ (head_of head) args.now (terms_of store.now fill)) (terms_of store.now fill) }
 {
+    let view = View {
+        kinds: store.kinds,
+        ends: store.ends,
+        pool: store.pool,
+        index: store.index,
+    };
     match head {
-        Head::Lit(l) => find_lit(store, fill, l),
+        Head::Lit(l) => find_lit(&view, fill, l),
         Head::Var(_) => None,
-        Head::Constructor(f) => find_call(store, fill, f, args),
-        Head::Custom(f) => find_custom(fact, store, fill, f, args),
-        Head::Primitive(p) => find_validated(job, found, store, fill, p, args),
+        Head::Constructor(f) => find_call(&view, fill, f, args),
+        Head::Custom(f) => find_custom(fact, &view, fill, f, args),
+        Head::Primitive(p) => find_validated(job, found, &view, fill, p, args),
     }
 }
 

@@ -125,7 +125,14 @@ fn wanted_call(
     ensures does { (right : Expr) → ChecksIn store.old fill store.new result.fill result.refusal (proposition_of result.pair) memo.new (model.wanted_equality (room_in store.old) (program_for scope.now.job.now) scope.now.rule (bindings_under scope.now) (expr_for scope.now.job.now e) right (some (record { function = function; variable = variable })) (terms_of store.old fill)) }
     ensures loans { SameLoans store.old store.new }
 {
-    let v = evaluate::variable(scope, variable, fill);
+    let v = evaluate::variable(
+        scope.bound,
+        scope.pairs,
+        scope.globals,
+        scope.rule,
+        variable,
+        fill,
+    );
     if v.refusal.number != 0 {
         return asks(v, 0, 0);
     }

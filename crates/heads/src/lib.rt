@@ -10,7 +10,7 @@ ghost use Rattle.model.specs.Program.{Rule, run};
 ghost use Rattle.model.specs.Check.{check_that};
 ghost use Rattle.model.specs.Action as model;
 ghost use Rattle.decode.specs.View.{proposition_of};
-ghost use Rattle.termdag.specs.Store.{terms_of, StoredIn, room_in};
+ghost use Rattle.termdag.specs.Store.{terms_at, terms_of, StoredAt, room_in};
 ghost use Rattle.outcome.specs.Does.{outcome_of};
 ghost use Rattle.marks.specs.Marks as closing;
 ghost use Rattle.program.specs.Ready.{Ready, program_for, rule_for, option_of};
@@ -23,7 +23,7 @@ use actions::{Effect, process_action, push_binding, yield_value};
 use cells::wide;
 use decode::{Action, Name, Proposition};
 use evaluate::{Scope, evaluate, lookup};
-use index::{Fill, Store};
+use index::{Fill, Store, View};
 use lookups::merge_of;
 use outcome::{Checked, Refusal, pass, refuse1};
 use pairs::mark_values;
@@ -64,7 +64,7 @@ fn is_steady(scope: &Scope<'_>, effect: Effect) -> bool
     ensures { result ≡ true → Steady effect (bindings_under scope.now) }
 {
     match effect {
-        Effect::Bind(x, _) => is_none(lookup(scope, x)),
+        Effect::Bind(x, _) => is_none(lookup(scope.bound, scope.pairs, scope.globals, x)),
         Effect::Union(_, _) => true,
         Effect::Nothing => true,
     }
@@ -132,9 +132,9 @@ pub fn clear_if(marking: bool, marks: &mut [u32])
 }
 
 // A reflexive pair is among the pairs that the marks stand for: its term is marked, or is once they are closed.
-fn is_covered(store: &Store<'_>, fill: Fill, marks: &mut [u32], t: u32) -> bool
-    requires { StoredIn store.now fill }
-    ensures { result ≡ closing.is_marked (closing.close (terms_of store.now fill) fill.cells marks.old) t }
+fn is_covered(store: &View<'_>, fill: Fill, marks: &mut [u32], t: u32) -> bool
+    requires { StoredAt store.now fill }
+    ensures { result ≡ closing.is_marked (closing.close (terms_at store.now fill) fill.cells marks.old) t }
 {
     if marks::is_marked(marks, t) {
         return true;
@@ -145,15 +145,15 @@ fn is_covered(store: &Store<'_>, fill: Fill, marks: &mut [u32], t: u32) -> bool
 
 // The claimed pair is among the pairs: by the marks where it is reflexive, else by the unions.
 pub fn is_claimed(
-    store: &Store<'_>,
+    store: &View<'_>,
     fill: Fill,
     marking: bool,
     marks: &mut [u32],
     found: bool,
     t: u32,
 ) -> bool
-    requires { StoredIn store.now fill }
-    ensures { result ≡ claimed_by marking found (closing.is_marked (closing.close (terms_of store.now fill) fill.cells marks.old) t) }
+    requires { StoredAt store.now fill }
+    ensures { result ≡ claimed_by marking found (closing.is_marked (closing.close (terms_at store.now fill) fill.cells marks.old) t) }
 {
     if !marking {
         return found;
@@ -227,7 +227,7 @@ fn run_produces(
     }
     marks::clear(marks);
     mark_values(memo, size(scope.job, Table::Expressions), marks);
-    let claimed = is_covered(store, have, marks, q.lhs);
+    let claimed = is_covered(&store.view(), have, marks, q.lhs);
     produced(claimed, scope.rule, q, have)
 }
 
@@ -266,7 +266,7 @@ pub fn check_rule_produces_equality(
             fill: have,
         };
     }
-    let claimed = is_claimed(store, have, marking, marks, h.found, q.lhs);
+    let claimed = is_claimed(&store.view(), have, marking, marks, h.found, q.lhs);
     produced(claimed, rule, q, have)
 }
 

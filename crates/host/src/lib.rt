@@ -85,7 +85,7 @@ pub fn sizercobalt_check_bytes(job: &[u8], asked: u32, answer: &mut [u32]) -> u3
     sizercobalt_check_bytes_mode(job, asked, 0, answer)
 }
 
-// `entry::check`, for hosts that lend their own store. What a returned 0 means is in entry/proofs/Sound.
+// `entry::check`, for hosts that lend their own store. What a returned 0 means is in entry/proofs/Sound. The arrays are parameters of their own: the C interface.
 pub fn sizercobalt_check(
     job: &[u32],
     asked: u32,

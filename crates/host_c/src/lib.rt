@@ -26,7 +26,7 @@ pub extern "C" fn sizercobalt_check_bytes(job: &[u8], asked: u32, answer: &mut [
     host::sizercobalt_check_bytes(job, asked, answer)
 }
 
-// `entry::check`, for hosts that lend their own store. What a returned 0 means is in entry/proofs/Sound.
+// `entry::check`, for hosts that lend their own store. What a returned 0 means is in entry/proofs/Sound. The arrays are parameters of their own: the C interface.
 #[unsafe(no_mangle)]
 pub extern "C" fn sizercobalt_check(
     job: &[u32],

@@ -2,7 +2,7 @@
 #![tactic(auto)]
 
 ghost use Rattle.std.specs.Prelude.{◌≡◌, ◌+◌, ◌*◌, ◌%◌, ◌^◌, ◌<◌, ◌≤◌, length, replicate, slice_index, slice_set};
-ghost use Rattle.index.specs.Loans.{SameLoans};
+ghost use Rattle.index.specs.Loans.{SameLoans, Views};
 ghost use Rattle.model.specs.Cell.{cell_at, cells_of};
 ghost use Rattle.cells.specs.Table.{Formed, Once, add_cell, table_of};
 ghost use Rattle.index.specs.Mixing.{golden, multiplier_of, times, stirred, spread, mix_of, slot_of};
@@ -26,6 +26,29 @@ pub struct Store<'a> {
     pub ends: &'a mut [u32],
     pub pool: &'a mut [u32],
     pub index: &'a mut [u32],
+}
+
+// The same arrays, to be read alone. What reads no index can be given an empty one.
+#[derive(Clone, Copy)]
+pub struct View<'a> {
+    pub kinds: &'a [u32],
+    pub ends: &'a [u32],
+    pub pool: &'a [u32],
+    pub index: &'a [u32],
+}
+
+impl Store<'_> {
+    // The arrays, to be read.
+    pub fn view(&self) -> View<'_>
+        ensures { Views self.now result }
+    {
+        View {
+            kinds: self.kinds,
+            ends: self.ends,
+            pool: self.pool,
+            index: self.index,
+        }
+    }
 }
 
 // The number of a cell, or none where the table was full, and the fill after.

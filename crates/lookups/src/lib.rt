@@ -11,7 +11,7 @@ ghost use Rattle.model.specs.Evaluate.{row_value};
 ghost use Rattle.model.specs.Action.{merge_of};
 ghost use Rattle.model.specs.Normalize.{normaliser_of, normalize_app, normalize_container};
 ghost use Rattle.model.specs.Walk.{duplicate_rule_name};
-ghost use Rattle.termdag.specs.Store.{terms_of, StoredIn};
+ghost use Rattle.termdag.specs.Store.{terms_at, StoredAt};
 ghost use Rattle.chains.specs.Chains.{has_key, same_key, Within, FirstHit, Differ};
 ghost use Rattle.program.specs.Ready.{Held, Ready, number_of, tables_for, table_for, count_for, program_for, option_of, FindsCell, FindsRule, Merges};
 ghost use Rattle.lookups.specs.Keyed.{words_in, KeysOf, ChainedTable, Keyed};
@@ -20,7 +20,7 @@ use cell_tests::words::at;
 use cells::{same_words, wide};
 use chains::Keys;
 use decode::{Term, read_function, read_normaliser, read_row, row_arguments, rule_name};
-use index::{Fill, Store};
+use index::{Fill, View};
 use program::job::{
     Table, cell_count, cell_words, ends, fill, first, kind_at, kinds, nearest_first, pool, size,
     words_at,
@@ -317,22 +317,16 @@ fn normalize_app(job: &[u32], found: &[u32], t: u32, head: u32, args: &[u32]) ->
 }
 
 // A container's normal form, in the store of terms; what is no application stays as it is.
-pub fn normalize_container(
-    job: &[u32],
-    found: &[u32],
-    store: &Store<'_>,
-    sfill: Fill,
-    t: u32,
-) -> u32
+pub fn normalize_container(job: &[u32], found: &[u32], store: &View<'_>, sfill: Fill, t: u32) -> u32
     requires ready { Ready job.now }
     requires keyed { Keyed job.now found.now }
-    requires stored { StoredIn store.now sfill }
+    requires stored { StoredAt store.now sfill }
     requires t_lt_cells { t < sfill.cells }
-    ensures { (room : Room) → normalize_container room (program_for job.now) t (terms_of store.now sfill) ≡ ok result (terms_of store.now sfill) }
+    ensures { (room : Room) → normalize_container room (program_for job.now) t (terms_at store.now sfill) ≡ ok result (terms_at store.now sfill) }
 {
     let n = wide(t);
     let term = termdag::get(store, sfill, n);
-    let args = termdag::children(store, sfill, n);
+    let args = termdag::children(store.kinds, store.ends, store.pool, sfill, n);
     match term {
         Term::Lit(_) => t,
         Term::Var(_) => t,

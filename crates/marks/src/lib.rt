@@ -2,11 +2,11 @@
 #![tactic(auto)]
 
 ghost use Rattle.std.specs.Prelude.{◌≡◌, true, false, ℕ, ◌-◌, ◌<◌, ◌≤◌, ◌^◌, length};
-ghost use Rattle.termdag.specs.Store.{terms_of, StoredIn};
+ghost use Rattle.termdag.specs.Store.{terms_at, StoredAt};
 ghost use Rattle.marks.specs.Marks.{zeros, words_for, is_marked, with_mark, mark_all, close_at, close};
 
 use cells::wide;
-use index::{Fill, Store};
+use index::{Fill, View};
 
 // The words that hold a mark for each of so many terms.
 pub fn words_for(terms: usize) -> usize
@@ -55,15 +55,15 @@ pub fn mark_all(marks: &mut [u32], xs: &[u32])
 }
 
 // If term i is marked, marks its children.
-fn close_at(store: &Store<'_>, fill: Fill, i: usize, marks: &mut [u32])
-    requires stored { StoredIn store.now fill }
+fn close_at(store: &View<'_>, fill: Fill, i: usize, marks: &mut [u32])
+    requires stored { StoredAt store.now fill }
     requires i_lt_cells { i < fill.cells }
-    ensures { marks.new ≡ close_at (terms_of store.now fill) i marks.old (is_marked marks.old i) }
+    ensures { marks.new ≡ close_at (terms_at store.now fill) i marks.old (is_marked marks.old i) }
 {
     if !is_marked(marks, i as u32) {
         return;
     }
-    let xs = termdag::children(store, fill, i);
+    let xs = termdag::children(store.kinds, store.ends, store.pool, fill, i);
     mark_all(marks, xs);
 }
 
@@ -83,9 +83,9 @@ fn is_bare(marks: &[u32], i: usize) -> bool
 }
 
 // From the top number down, each marked term marks its children; a word without a mark is stepped over.
-pub fn close(store: &Store<'_>, fill: Fill, marks: &mut [u32])
-    requires { StoredIn store.now fill }
-    ensures { marks.new ≡ close (terms_of store.now fill) fill.cells marks.old }
+pub fn close(store: &View<'_>, fill: Fill, marks: &mut [u32])
+    requires { StoredAt store.now fill }
+    ensures { marks.new ≡ close (terms_at store.now fill) fill.cells marks.old }
 {
     let mut i = fill.cells;
     // a `for` would be no plainer: it goes by 1 or by 32

@@ -13,12 +13,17 @@ use Rattle.model.specs.Evaluate.{children}
 use Rattle.model.proofs.Store.{extends-length, get-inside, get-extends}
 use Rattle.model.proofs.Again.{child-lower}
 use Rattle.cells.specs.Table.{put}
+use Rattle.model.specs.Normalize.{as_app}
+use Rattle.index.specs.Loans.{Views}
 use Rattle.index.specs.declared.Fill.{Fill}
-use Rattle.termdag.specs.Store.{terms_in, room_of}
+use Rattle.index.specs.declared.Store.{Store}
+use Rattle.index.specs.declared.View.{View}
+use Rattle.termdag.specs.Store.{terms_in, terms_at, terms_of, room_of}
 use Rattle.outcome.specs.Does.{Does}
 use Rattle.outcome.specs.declared.Checked.{Checked}
 use Rattle.termdag.proofs.Laws.{terms-length}
-use Rattle.merges.specs.Step.{Small}
+use Rattle.termdag.proofs.Viewing.{terms-seen}
+use Rattle.merges.specs.Step.{Small, app_with}
 
 -- a term that is small
 pub small-cells : (K E P : List ℕ) (f : Fill) {t n : ℕ} → Small (terms_in K E P f) t → n ≡ t → n < f.cells
@@ -29,6 +34,11 @@ small-extends {s} {s'} {t} x S = record {
   inside = let h = S.inside in let l = extends-length x in omega arith;
   few = subst (λ (o : Option Term). length (children o) ≤ 16) (sym (get-extends s s' x t S.inside)) S.few;
 }
+
+-- an application that a view shows is one of the store
+pub head-seen : (s : Store) (v : View) (f : Fill) → Views s v → (t : ℕ) (o : Option ℕ) → app_with o (children (get_term (terms_at v f) t)) ≡ as_app (get_term (terms_at v f) t)
+    → app_with o (children (get_term (terms_of s f) t)) ≡ as_app (get_term (terms_of s f) t)
+head-seen s v f e t o = subst (λ (ts : List Term). app_with o (children (get_term ts t)) ≡ as_app (get_term ts t)) (terms-seen s v f e)
 
 module _ (s : List Term) {t n : ℕ} (e : n ≡ t) where
   pub children-at : {xs : List ℕ} → xs ≡ children (get_term s n) → xs ≡ children (get_term s t)

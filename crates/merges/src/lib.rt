@@ -10,7 +10,7 @@ ghost use Rattle.model.specs.Action.{same_proposition};
 ghost use Rattle.model.specs.Normalize.{as_app};
 ghost use Rattle.model.specs.Walk.{front};
 ghost use Rattle.decode.specs.View.{proposition_of};
-ghost use Rattle.termdag.specs.Store.{terms_of, StoredIn, IndexedIn, room_in};
+ghost use Rattle.termdag.specs.Store.{terms_at, terms_of, StoredAt, StoredIn, IndexedIn, room_in};
 ghost use Rattle.outcome.specs.Does.{outcome_of, DoesIn};
 ghost use Rattle.marks.specs.Marks as closing;
 ghost use Rattle.program.specs.Ready.{program_for, option_of};
@@ -23,7 +23,7 @@ ghost use Rattle.merges.specs.Step.{refused_unless, app_with, Small, merging_of,
 use cells::wide;
 use decode::{Proposition, Term};
 use heads::{clear_if, is_claimed, run_merge};
-use index::{Fill, Store};
+use index::{Fill, Store, View};
 use outcome::{Checked, Refusal, add_app};
 use termdag::children;
 
@@ -47,10 +47,10 @@ pub fn check_that(test: bool, refusal: Refusal) -> Refusal
 }
 
 // The head of a term, if it is an application.
-pub fn app_head(store: &Store<'_>, fill: Fill, t: u32) -> Option<u32>
-    requires stored { StoredIn store.now fill }
+pub fn app_head(store: &View<'_>, fill: Fill, t: u32) -> Option<u32>
+    requires stored { StoredAt store.now fill }
     requires t_lt_cells { t < fill.cells }
-    ensures { app_with (option_of result) (evaluate.children (terms.get_term (terms_of store.now fill) t)) ≡ as_app (terms.get_term (terms_of store.now fill) t) }
+    ensures { app_with (option_of result) (evaluate.children (terms.get_term (terms_at store.now fill) t)) ≡ as_app (terms.get_term (terms_at store.now fill) t) }
 {
     let term = termdag::get(store, fill, wide(t));
     match term {
@@ -76,7 +76,8 @@ pub fn replace_child(
     ensures loans { SameLoans store.old store.new }
 {
     let mut args = [0u32; 17];
-    let xs = children(store, fill, wide(t));
+    let view = store.view();
+    let xs = children(view.kinds, view.ends, view.pool, fill, wide(t));
     let n = xs.len();
     cells::copy(&mut args, 0, xs);
     args[i] = x;
@@ -176,8 +177,14 @@ fn read_views(store: &Store<'_>, fill: Fill, p: u32, a: Proposition, b: Proposit
     if first.number != 0 {
         return refused_views(first);
     }
-    let x = app_head(store, fill, a.rhs);
-    let y = app_head(store, fill, b.rhs);
+    let view = View {
+        kinds: store.kinds,
+        ends: store.ends,
+        pool: store.pool,
+        index: store.index,
+    };
+    let x = app_head(&view, fill, a.rhs);
+    let y = app_head(&view, fill, b.rhs);
     let none = Refusal {
         number: 37,
         count: 3,
@@ -189,8 +196,8 @@ fn read_views(store: &Store<'_>, fill: Fill, p: u32, a: Proposition, b: Proposit
     let Some(g) = y else {
         return refused_views(none);
     };
-    let xs = children(store, fill, wide(a.rhs));
-    let ys = children(store, fill, wide(b.rhs));
+    let xs = children(view.kinds, view.ends, view.pool, fill, wide(a.rhs));
+    let ys = children(view.kinds, view.ends, view.pool, fill, wide(b.rhs));
     compare_views(xs, ys, p, f, g)
 }
 
@@ -207,7 +214,13 @@ fn view_claimed(
     ensures { (s : List terms.Term) → outcome_of result tt s ≡ check_that (same_proposition (proposition_of q) (evaluate.same view) || claimed_by (eqb q.lhs q.rhs) false (closing.is_marked (closing.close (terms_of store.now fill) fill.cells marks.old) q.lhs)) 38 (p ∷ q.lhs ∷ q.rhs ∷ []) s }
 {
     let marking = q.lhs == q.rhs;
-    let covered = is_claimed(store, fill, marking, marks, false, q.lhs);
+    let lent = View {
+        kinds: store.kinds,
+        ends: store.ends,
+        pool: store.pool,
+        index: store.index,
+    };
+    let covered = is_claimed(&lent, fill, marking, marks, false, q.lhs);
     check_that(
         ((q.lhs == view) & (q.rhs == view)) | covered,
         Refusal {
@@ -235,7 +248,8 @@ fn add_view(
     ensures does { AddsViewIn p (proposition_of q) t head value store.old fill marks.old store.new result }
     ensures loans { SameLoans store.old store.new }
 {
-    let n = children(store, fill, wide(t)).len();
+    let view = store.view();
+    let n = children(view.kinds, view.ends, view.pool, fill, wide(t)).len();
     let r = replace_child(store, fill, t, head, n - 1, value);
     if r.refusal.number != 0 {
         return r;

@@ -24,7 +24,7 @@ ghost use Rattle.steps.specs.Step.{TermsFirst, PlainStep, SecondPart, PreparedIn
 use cells::wide;
 use context::is_global_pair;
 use decode::{Justification, Proposition, Term};
-use index::{Fill, Store};
+use index::{Fill, Store, View};
 use lookups::normalize_container;
 use marks::words_for;
 use merges::{app_head, check_that, merge_step, replace_child};
@@ -77,7 +77,13 @@ fn is_literal(store: &Store<'_>, fill: Fill, t: u32) -> bool
     requires t_lt_cells { t < fill.cells }
     ensures { result ≡ is_literal (terms.get_term (terms_of store.now fill) t) }
 {
-    let term = termdag::get(store, fill, wide(t));
+    let view = View {
+        kinds: store.kinds,
+        ends: store.ends,
+        pool: store.pool,
+        index: store.index,
+    };
+    let term = termdag::get(&view, fill, wide(t));
     match term {
         Term::Lit(_) => true,
         Term::Var(_) => false,
@@ -133,7 +139,13 @@ fn normalize_step(
     requires rhs_lt_cells { a.rhs < fill.cells }
     ensures { (room : Room) → outcome_of result tt (terms_of store.now fill) ≡ normalize_step room (program_for job.now) p (proposition_of q) (proposition_of a) (terms_of store.now fill) }
 {
-    let n = normalize_container(job, found, store, fill, a.rhs);
+    let view = View {
+        kinds: store.kinds,
+        ends: store.ends,
+        pool: store.pool,
+        index: store.index,
+    };
+    let n = normalize_container(job, found, &view, fill, a.rhs);
     let same = q.lhs == a.lhs;
     check_that(
         same & (q.rhs == n),
@@ -212,11 +224,12 @@ fn congr_step(
     ensures loans { SameLoans store.old store.new }
 {
     let t = a.rhs;
-    let head = app_head(store, fill, t);
+    let view = store.view();
+    let head = app_head(&view, fill, t);
     let Some(f) = head else {
         return refuse1(22, p, fill);
     };
-    let args = children(store, fill, wide(t));
+    let args = children(view.kinds, view.ends, view.pool, fill, wide(t));
     let first = child_matches(args, p, i, b.lhs);
     if first.number != 0 {
         return Checked {

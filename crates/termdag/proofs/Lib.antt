@@ -1,3 +1,4 @@
 pub mod Laws
 pub mod Loading
+pub mod Viewing
 pub mod Words

@@ -1,6 +1,7 @@
 -- A store of terms in three word arrays, and the contracts of the functions that fill it.
 use Rattle.std.specs.Prelude.{◌≡◌, Option, Some, None, List, [], ◌∷◌, map, ℕ, ◌≤◌, ◌<◌, ◌^◌, length, drop}
 use Rattle.index.specs.declared.Store.{Store}
+use Rattle.index.specs.declared.View.{View}
 use Rattle.model.specs.Cell.{start_of, cells_of}
 use Rattle.model.specs.Term.{Term, cell_of, read_term}
 use Rattle.model.specs.Check.{Outcome, ok, refused, Room}
@@ -24,6 +25,10 @@ pub record Stored (K E P : List ℕ) (f : Fill) : Type 0 where
 abbrev pub StoredIn : Store → Fill → Type 0
 StoredIn s f = Stored s.kinds.now s.ends.now s.pool.now f
 
+-- The same, of a store that is read alone.
+abbrev pub StoredAt : View → Fill → Type 0
+StoredAt v f = Stored v.kinds.now v.ends.now v.pool.now f
+
 -- The index lists the store: each term once and nothing else. It has more slots than there can be terms.
 pub record Indexed (K E P I : List ℕ) (f : Fill) : Type 0 where
   pub stored : Stored K E P f
@@ -33,6 +38,10 @@ pub record Indexed (K E P I : List ℕ) (f : Fill) : Type 0 where
 -- The same, of a store.
 abbrev pub IndexedIn : Store → Fill → Type 0
 IndexedIn s f = Indexed s.kinds.now s.ends.now s.pool.now s.index.now f
+
+-- The same, of a store that is read alone.
+abbrev pub IndexedAt : View → Fill → Type 0
+IndexedAt v f = Indexed v.kinds.now v.ends.now v.pool.now v.index.now f
 
 -- The room of lent arrays.
 abbrev pub room_of : List ℕ → List ℕ → Room
@@ -44,6 +53,13 @@ terms_of s f = terms_in s.kinds.now s.ends.now s.pool.now f
 
 abbrev pub room_in : Store → Room
 room_in s = room_of s.kinds.now s.pool.now
+
+-- The same, of a store that is read alone.
+abbrev pub terms_at : View → Fill → List Term
+terms_at v f = terms_in v.kinds.now v.ends.now v.pool.now f
+
+abbrev pub room_at : View → Room
+room_at v = room_of v.kinds.now v.pool.now
 
 -- What an addition answers, with the terms after: 53 where the store is full.
 abbrev pub outcome_by : Option ℕ → Added → List Term → Outcome ℕ

@@ -10,16 +10,16 @@ ghost use Rattle.model.specs.Check.{add_node};
 ghost use Rattle.model.specs.Evaluate.{children};
 ghost use Rattle.cells.specs.Table.{find_cell};
 ghost use Rattle.decode.specs.View.{literal_of, term_of};
-ghost use Rattle.termdag.specs.Store.{terms_of, StoredIn, IndexedIn, room_in, AddsIn, Known, LoadableIn, LoadedIn};
+ghost use Rattle.termdag.specs.Store.{terms_in, terms_at, terms_of, Stored, StoredAt, IndexedAt, IndexedIn, room_at, room_in, AddsIn, Known, LoadableIn, LoadedIn};
 
 use decode::{Literal, Term};
-use index::{Added, Fill, Store};
+use index::{Added, Fill, Store, View};
 
 // The term of a number; `children` has its children.
-pub fn get(store: &Store<'_>, fill: Fill, t: usize) -> Term
-    requires stored { StoredIn store.now fill }
+pub fn get(store: &View<'_>, fill: Fill, t: usize) -> Term
+    requires stored { StoredAt store.now fill }
     requires t_lt_cells { t < fill.cells }
-    ensures { get_term (terms_of store.now fill) t ≡ some (term_of result (children (get_term (terms_of store.now fill) t))) }
+    ensures { get_term (terms_at store.now fill) t ≡ some (term_of result (children (get_term (terms_at store.now fill) t))) }
 {
     let have = cells::Fill {
         cells: fill.cells,
@@ -29,18 +29,18 @@ pub fn get(store: &Store<'_>, fill: Fill, t: usize) -> Term
     decode::read_term(store.kinds[t], ws)
 }
 
-// The children of a term: a literal and a variable have none.
-pub fn children<'a>(store: &'a Store<'_>, fill: Fill, t: usize) -> &'a [u32]
-    requires stored { StoredIn store.now fill }
+// The children of a term: a literal and a variable have none. The arrays are parameters of their own, so that what is read keeps the pool alone.
+pub fn children<'a>(kinds: &[u32], ends: &[u32], pool: &'a [u32], fill: Fill, t: usize) -> &'a [u32]
+    requires stored { Stored kinds.now ends.now pool.now fill }
     requires t_lt_cells { t < fill.cells }
-    ensures { result.now ≡ children (get_term (terms_of store.now fill) t) }
+    ensures { result.now ≡ children (get_term (terms_in kinds.now ends.now pool.now fill) t) }
 {
     let have = cells::Fill {
         cells: fill.cells,
         words: fill.words,
     };
-    let ws = cells::words(store.kinds, store.ends, store.pool, have, t);
-    decode::read_arguments(store.kinds[t], ws)
+    let ws = cells::words(kinds, ends, pool, have, t);
+    decode::read_arguments(kinds[t], ws)
 }
 
 // The number of a literal, added if there is none equal.
@@ -68,8 +68,8 @@ pub fn app(store: &mut Store<'_>, fill: Fill, f: u32, args: &[u32]) -> Added
 }
 
 // The number of an equal term, if there is one; the store stays as it is.
-fn find(store: &Store<'_>, fill: Fill, kind: u32, ws: &[u32]) -> Option<u32>
-    requires { IndexedIn store.now fill }
+fn find(store: &View<'_>, fill: Fill, kind: u32, ws: &[u32]) -> Option<u32>
+    requires { IndexedAt store.now fill }
     ensures { result ≡ find_cell (cells_of store.now.kinds.now store.now.ends.now store.now.pool.now fill.cells) (record { kind = kind; words = ws.now }) }
 {
     let have = cells::Fill {
@@ -91,21 +91,21 @@ fn find(store: &Store<'_>, fill: Fill, kind: u32, ws: &[u32]) -> Option<u32>
 }
 
 // The number of a literal, if there is one equal.
-pub fn find_lit(store: &Store<'_>, fill: Fill, l: Literal) -> Option<u32>
-    requires { IndexedIn store.now fill }
-    ensures known { Known result (add_node (room_in store.now) (lit (literal_of l)) (terms_of store.now fill)) (terms_of store.now fill) }
-    ensures none { result ≡ None → find_term (terms_of store.now fill) (lit (literal_of l)) 0 ≡ none }
+pub fn find_lit(store: &View<'_>, fill: Fill, l: Literal) -> Option<u32>
+    requires { IndexedAt store.now fill }
+    ensures known { Known result (add_node (room_at store.now) (lit (literal_of l)) (terms_at store.now fill)) (terms_at store.now fill) }
+    ensures none { result ≡ None → find_term (terms_at store.now fill) (lit (literal_of l)) 0 ≡ none }
 {
     let ws = [l.kind, l.low, l.high];
     find(store, fill, 0, &ws)
 }
 
 // The number of an application, if there is one equal; ws is the name and the arguments.
-pub fn find_app(store: &Store<'_>, fill: Fill, ws: &[u32]) -> Option<u32>
-    requires indexed { IndexedIn store.now fill }
+pub fn find_app(store: &View<'_>, fill: Fill, ws: &[u32]) -> Option<u32>
+    requires indexed { IndexedAt store.now fill }
     requires ws_nonzero { 0 < length ws.now }
-    ensures none { result ≡ None → find_term (terms_of store.now fill) (app (get_or ws.now 0 0) (drop 1 ws.now)) 0 ≡ none }
-    ensures known { Known result (add_node (room_in store.now) (app (get_or ws.now 0 0) (drop 1 ws.now)) (terms_of store.now fill)) (terms_of store.now fill) }
+    ensures none { result ≡ None → find_term (terms_at store.now fill) (app (get_or ws.now 0 0) (drop 1 ws.now)) 0 ≡ none }
+    ensures known { Known result (add_node (room_at store.now) (app (get_or ws.now 0 0) (drop 1 ws.now)) (terms_at store.now fill)) (terms_at store.now fill) }
 {
     find(store, fill, 2, ws)
 }

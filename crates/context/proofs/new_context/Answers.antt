@@ -2,6 +2,10 @@ use lib.ListN.{length}
 use mathlib.Core.Path.{refl, ◌∙◌}
 use native.Mathlib.Omega.{arith}
 use Rattle.outcome.proofs.Laws.{grown-same}
+use mathlib.Core.List.{List}
+use Rattle.model.specs.Term.{Term}
+use Rattle.termdag.proofs.Viewing.{seen}
+use Rattle.marks.specs.Marks.{close}
 use Rattle.marks.proofs.Marking.{marks-cleared}
 use Rattle.actions.proofs.Acting.{standing-after}
 use Rattle.context.proofs.Starting.{context-twice, context-stops, context-goes}
@@ -23,4 +27,4 @@ pub shape_of-marks : goal.shape_of-marks
 shape_of-marks c = c.close.auto.marks ∙ c.global_actions-r.auto.marks ∙ c.clear.auto.marks
 
 pub returns-clause-does : goal.returns-clause-does
-returns-clause-does c = context-goes c.duplicate_rule_name-duplicate.ensures c.in_default.is c.global_actions-r.ensures.does (let x = c.requires.standing.cells in let y = c.global_actions-r.auto.marks in let z = c.clear.auto.marks in omega arith) c.close.ensures
+returns-clause-does c = context-goes c.duplicate_rule_name-duplicate.ensures c.in_default.is c.global_actions-r.ensures.does (let x = c.requires.standing.cells in let y = c.global_actions-r.auto.marks in let z = c.clear.auto.marks in omega arith) (seen c.global_actions-r.new.store c.view.result c.global_actions-r.result.fill c.view.ensures (λ (ts : List Term). close ts c.global_actions-r.result.fill.cells c.global_actions-r.new.marks) c.close.ensures)

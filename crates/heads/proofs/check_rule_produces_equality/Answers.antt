@@ -1,3 +1,9 @@
+use mathlib.Core.List.{List}
+use lib.Dec.{eqb}
+use Rattle.model.specs.Term.{Term}
+use Rattle.termdag.proofs.Viewing.{seen, stored-seen}
+use Rattle.marks.specs.Marks.{is_marked, close}
+use Rattle.heads.specs.Heading.{claimed_by}
 use Rattle.heads.proofs.Claiming.{actions-for, produce-stops, produce-by, claimed-is}
 use Rattle.heads.proofs.Lone.{standing-cleared}
 use Rattle.evaluate.specs.Value.{bindings_in}
@@ -33,10 +39,10 @@ pub returns-then-h-ne0-clause-does : goal.returns-then-h-ne0-clause-does
 returns-then-h-ne0-clause-does c = let a = c.args in produce-stops (program_for a.scope.now.job.now) (rule_for a.scope.now.job.now a.r) (bindings_in a.scope.now.bound.now a.scope.now.pairs.now a.scope.now.globals.now) (proposition_of a.q) c.rule_name_at-rule.ensures (actions-for a.scope.now.job.now a.r c.rule_actions_at-actions.ensures.is) c.head_actions-h.ensures.does c.if-h-ne0.true refl
 
 pub is_claimed-claimed-requires : goal.is_claimed-claimed-requires
-is_claimed-claimed-requires c = c.head_actions-h.ensures.does.does.grown.indexed.stored
+is_claimed-claimed-requires c = stored-seen c.head_actions-h.new.store c.view.result c.head_actions-h.result.fill c.view.ensures c.head_actions-h.ensures.does.does.grown.indexed.stored
 
 pub shape_of-marks : goal.shape_of-marks
 shape_of-marks c = c.is_claimed-claimed.auto.marks ∙ c.head_actions-h.auto.marks ∙ c.clear_if.auto.marks
 
 pub returns-clause-does : goal.returns-clause-does
-returns-clause-does c = let a = c.args in let H = c.head_actions-h.ensures.does in let n = c.if-h-ne0.false in let x = actions-for a.scope.now.job.now a.r c.rule_actions_at-actions.ensures.is in let l = c.requires.standing.cells in let g = H.does.grown.len_k in let u = c.head_actions-h.auto.marks in let v = c.clear_if.auto.marks in produce-by (program_for a.scope.now.job.now) (rule_for a.scope.now.job.now a.r) (bindings_in a.scope.now.bound.now a.scope.now.pairs.now a.scope.now.globals.now) (proposition_of a.q) c.rule_name_at-rule.ensures x H n (claimed-is (program_for a.scope.now.job.now) (rule_for a.scope.now.job.now a.r) (bindings_in a.scope.now.bound.now a.scope.now.pairs.now a.scope.now.globals.now) (proposition_of a.q) c.rule_name_at-rule.ensures x H n refl a.marks.now c.clear_if.ensures (omega arith) c.is_claimed-claimed.ensures) (c.produced.ensures.fill_value, c.produced.ensures.s_value)
+returns-clause-does c = let a = c.args in let H = c.head_actions-h.ensures.does in let n = c.if-h-ne0.false in let x = actions-for a.scope.now.job.now a.r c.rule_actions_at-actions.ensures.is in let l = c.requires.standing.cells in let g = H.does.grown.len_k in let u = c.head_actions-h.auto.marks in let v = c.clear_if.auto.marks in produce-by (program_for a.scope.now.job.now) (rule_for a.scope.now.job.now a.r) (bindings_in a.scope.now.bound.now a.scope.now.pairs.now a.scope.now.globals.now) (proposition_of a.q) c.rule_name_at-rule.ensures x H n (claimed-is (program_for a.scope.now.job.now) (rule_for a.scope.now.job.now a.r) (bindings_in a.scope.now.bound.now a.scope.now.pairs.now a.scope.now.globals.now) (proposition_of a.q) c.rule_name_at-rule.ensures x H n refl a.marks.now c.clear_if.ensures (omega arith) (seen c.head_actions-h.new.store c.view.result c.head_actions-h.result.fill c.view.ensures (λ (ts : List Term). claimed_by (eqb a.q.lhs a.q.rhs) c.head_actions-h.result.found (is_marked (close ts c.head_actions-h.result.fill.cells c.head_actions-h.new.marks) a.q.lhs)) c.is_claimed-claimed.ensures)) (c.produced.ensures.fill_value, c.produced.ensures.s_value)

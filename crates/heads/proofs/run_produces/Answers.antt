@@ -1,3 +1,7 @@
+use mathlib.Core.List.{List}
+use Rattle.model.specs.Term.{Term}
+use Rattle.termdag.proofs.Viewing.{seen, stored-seen}
+use Rattle.marks.specs.Marks.{is_marked, close}
 use Rattle.heads.proofs.Lone.{standing-cleared, run-stops, run_is, run-marks}
 use lib.ListN.{length}
 use native.Mathlib.Omega.{arith}
@@ -16,10 +20,10 @@ pub mark_values-requires : goal.mark_values-requires
 mark_values-requires c = let f = c.requires.standing.fits in let k = c.evaluate-v.auto.memo in omega arith
 
 pub is_covered-claimed-requires : goal.is_covered-claimed-requires
-is_covered-claimed-requires c = c.evaluate-v.ensures.does.does.grown.indexed.stored
+is_covered-claimed-requires c = stored-seen c.evaluate-v.new.store c.view.result c.evaluate-v.result.fill c.view.ensures c.evaluate-v.ensures.does.does.grown.indexed.stored
 
 pub shape_of-memo : goal.shape_of-memo
 shape_of-memo c = c.evaluate-v.auto.memo
 
 pub returns-clause-does : goal.returns-clause-does
-returns-clause-does c = let a = c.args in let P = c.requires in λ t u w. run-marks (standing-cleared P.standing c.clear.auto.marks) P.e_bound P.lhs_value c.evaluate-v.ensures.does t u w c.if-v-ne0.false (length a.marks.now) c.clear.ensures c.size.ensures c.mark_values.ensures c.mark_values.auto.marks c.is_covered-claimed.ensures (c.produced.ensures.fill_value, c.produced.ensures.s_value)
+returns-clause-does c = let a = c.args in let P = c.requires in λ t u w. run-marks (standing-cleared P.standing c.clear.auto.marks) P.e_bound P.lhs_value c.evaluate-v.ensures.does t u w c.if-v-ne0.false (length a.marks.now) c.clear.ensures c.size.ensures c.mark_values.ensures c.mark_values.auto.marks (seen c.evaluate-v.new.store c.view.result c.evaluate-v.result.fill c.view.ensures (λ (ts : List Term). is_marked (close ts c.evaluate-v.result.fill.cells c.mark_values.new.marks) a.q.lhs) c.is_covered-claimed.ensures) (c.produced.ensures.fill_value, c.produced.ensures.s_value)
