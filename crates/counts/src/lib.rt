@@ -31,6 +31,16 @@ fn literal_of_int(a: i64) -> Literal
     }
 }
 
+// The literal of an integer, where it fits 64 bits. The operations below are std's checked ones, so this stands beside them, for callers whose integers may be larger.
+pub fn settled(a: i128) -> Option<Literal>
+    ensures { counted result ≡ fitting a }
+{
+    match i64::try_from(a) {
+        Ok(value) => Some(literal_of_int(value)),
+        Err(_) => None,
+    }
+}
+
 // The integer that a literal stands for: one of another kind stands for none.
 pub fn integer_of(l: Literal) -> Option<i64>
     ensures { integer_in result ≡ count_of (literal_of l) }
