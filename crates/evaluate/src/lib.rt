@@ -10,7 +10,7 @@ ghost use Rattle.model.specs.Program.{Binding};
 ghost use Rattle.model.specs.Program as Program;
 ghost use Rattle.model.specs.Check.{or_refuse, add_node};
 ghost use Rattle.model.specs.Evaluate.{lookup, validated};
-ghost use Rattle.termdag.specs.Store.{terms_at, terms_of, IndexedAt, IndexedIn, room_at, room_in, Known};
+ghost use Rattle.termdag.specs.Store.{terms_of, IndexedIn, room_in, Known};
 ghost use Rattle.program.specs.Ready.{Ready, program_for, option_of};
 ghost use Rattle.lookups.specs.Keyed.{Keyed};
 ghost use Rattle.decode.specs.View.{head_of};
@@ -221,23 +221,31 @@ fn known_values(scope: &Scope<'_>, memo: &mut [u32], args: &[u32], vals: &mut [u
 }
 
 // The value of a call whose term is in the store already.
-fn find_call(store: &View<'_>, fill: Fill, f: u32, args: &[u32]) -> Option<u32>
-    requires indexed { IndexedAt store.now fill }
+fn find_call(store: &Store<'_>, fill: Fill, f: u32, args: &[u32]) -> Option<u32>
+    requires indexed { IndexedIn store.now fill }
     requires args_len_bound { length args.now ≤ 16 }
-    ensures { Known result (add_node (room_at store.now) (app f args.now) (terms_at store.now fill)) (terms_at store.now fill) }
+    ensures { Known result (add_node (room_in store.now) (app f args.now) (terms_of store.now fill)) (terms_of store.now fill) }
 {
     let mut ws = [0u32; 17];
     ws[0] = f;
     cells::copy(&mut ws, 1, args);
     let n = args.len() + 1;
-    find_app(store, fill, &ws[..n])
+    let words = &ws[..n];
+    find_app(
+        store.kinds,
+        store.ends,
+        store.pool,
+        store.index,
+        fill,
+        words,
+    )
 }
 
 // The value of a custom call whose term is in the store already: none in an ordinary fact.
-fn find_custom(fact: bool, store: &View<'_>, fill: Fill, f: u32, args: &[u32]) -> Option<u32>
-    requires indexed { IndexedAt store.now fill }
+fn find_custom(fact: bool, store: &Store<'_>, fill: Fill, f: u32, args: &[u32]) -> Option<u32>
+    requires indexed { IndexedIn store.now fill }
     requires args_len_bound { length args.now ≤ 16 }
-    ensures { Known result (custom_term fact (room_at store.now) f args.now (terms_at store.now fill)) (terms_at store.now fill) }
+    ensures { Known result (custom_term fact (room_in store.now) f args.now (terms_of store.now fill)) (terms_of store.now fill) }
 {
     if fact {
         return None;
@@ -249,22 +257,30 @@ fn find_custom(fact: bool, store: &View<'_>, fill: Fill, f: u32, args: &[u32]) -
 fn find_validated(
     job: &[u32],
     found: &[u32],
-    store: &View<'_>,
+    store: &Store<'_>,
     fill: Fill,
     p: u32,
     args: &[u32],
 ) -> Option<u32>
     requires ready { Ready job.now }
     requires keyed { Keyed job.now found.now }
-    requires indexed { IndexedAt store.now fill }
+    requires indexed { IndexedIn store.now fill }
     requires p_bound { p < (sizes_of job.now).primitives }
-    ensures { (n : ℕ) → Known result (validated (room_at store.now) (program_for job.now) n p args.now (terms_at store.now fill)) (terms_at store.now fill) }
+    ensures { (n : ℕ) → Known result (validated (room_in store.now) (program_for job.now) n p args.now (terms_of store.now fill)) (terms_of store.now fill) }
 {
     let primitive = primitive_at(job, wide(p));
     match primitive.validator {
         Validator::Nothing | Validator::Unknown(_) => None,
         Validator::Rows => row_value(job, found, p, args),
-        Validator::Computes(operation) => { find_result(store, fill, operation, args) }
+        Validator::Computes(operation) => {
+            let view = View {
+                kinds: store.kinds,
+                ends: store.ends,
+                pool: store.pool,
+                index: store.index,
+            };
+            find_result(&view, fill, operation, args)
+        }
     }
 }
 
@@ -285,18 +301,12 @@ fn find_value(
     requires by_index { (p : ℕ) → head ≡ heads.Head.Primitive p → p < (sizes_of job.now).primitives }
     ensures { (rule : ℕ) (σ : List Binding) → Known result (head_term fact (room_in store.now) (program_for job.now) rule σ (head_of head) args.now (terms_of store.now fill)) (terms_of store.now fill) }
 {
-    let view = View {
-        kinds: store.kinds,
-        ends: store.ends,
-        pool: store.pool,
-        index: store.index,
-    };
     match head {
-        Head::Lit(l) => find_lit(&view, fill, l),
+        Head::Lit(l) => find_lit(store.kinds, store.ends, store.pool, store.index, fill, l),
         Head::Var(_) => None,
-        Head::Constructor(f) => find_call(&view, fill, f, args),
-        Head::Custom(f) => find_custom(fact, &view, fill, f, args),
-        Head::Primitive(p) => find_validated(job, found, &view, fill, p, args),
+        Head::Constructor(f) => find_call(store, fill, f, args),
+        Head::Custom(f) => find_custom(fact, store, fill, f, args),
+        Head::Primitive(p) => find_validated(job, found, store, fill, p, args),
     }
 }
 

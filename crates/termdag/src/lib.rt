@@ -10,7 +10,7 @@ ghost use Rattle.model.specs.Check.{add_node};
 ghost use Rattle.model.specs.Evaluate.{children};
 ghost use Rattle.cells.specs.Table.{find_cell};
 ghost use Rattle.decode.specs.View.{literal_of, term_of};
-ghost use Rattle.termdag.specs.Store.{terms_in, terms_at, terms_of, Stored, StoredAt, IndexedAt, IndexedIn, room_at, room_in, AddsIn, Known, LoadableIn, LoadedIn};
+ghost use Rattle.termdag.specs.Store.{terms_in, terms_at, terms_of, Stored, StoredAt, Indexed, IndexedIn, room_of, room_in, AddsIn, Known, LoadableIn, LoadedIn};
 
 use decode::{Literal, Term};
 use index::{Added, Fill, Store, View};
@@ -68,20 +68,28 @@ pub fn app(store: &mut Store<'_>, fill: Fill, f: u32, args: &[u32]) -> Added
 }
 
 // The number of an equal term, if there is one; the store stays as it is.
-fn find(store: &View<'_>, fill: Fill, kind: u32, ws: &[u32]) -> Option<u32>
-    requires { IndexedAt store.now fill }
-    ensures { result ≡ find_cell (cells_of store.now.kinds.now store.now.ends.now store.now.pool.now fill.cells) (record { kind = kind; words = ws.now }) }
+fn find(
+    kinds: &[u32],
+    ends: &[u32],
+    pool: &[u32],
+    index: &[u32],
+    fill: Fill,
+    kind: u32,
+    ws: &[u32],
+) -> Option<u32>
+    requires { Indexed kinds.now ends.now pool.now index.now fill }
+    ensures { result ≡ find_cell (cells_of kinds.now ends.now pool.now fill.cells) (record { kind = kind; words = ws.now }) }
 {
     let have = cells::Fill {
         cells: fill.cells,
         words: fill.words,
     };
     let p = index::find(
-        store.index,
+        index,
         fill.multiplier,
-        store.kinds,
-        store.ends,
-        store.pool,
+        kinds,
+        ends,
+        pool,
         have,
         fill.cells,
         kind,
@@ -90,24 +98,38 @@ fn find(store: &View<'_>, fill: Fill, kind: u32, ws: &[u32]) -> Option<u32>
     p.found
 }
 
-// The number of a literal, if there is one equal.
-pub fn find_lit(store: &View<'_>, fill: Fill, l: Literal) -> Option<u32>
-    requires { IndexedAt store.now fill }
-    ensures known { Known result (add_node (room_at store.now) (lit (literal_of l)) (terms_at store.now fill)) (terms_at store.now fill) }
-    ensures none { result ≡ None → find_term (terms_at store.now fill) (lit (literal_of l)) 0 ≡ none }
+// The number of a literal, if there is one equal. The arrays are parameters of their own, here and below: a view would be made anew at each turn of an evaluation.
+pub fn find_lit(
+    kinds: &[u32],
+    ends: &[u32],
+    pool: &[u32],
+    index: &[u32],
+    fill: Fill,
+    l: Literal,
+) -> Option<u32>
+    requires { Indexed kinds.now ends.now pool.now index.now fill }
+    ensures known { Known result (add_node (room_of kinds.now pool.now) (lit (literal_of l)) (terms_in kinds.now ends.now pool.now fill)) (terms_in kinds.now ends.now pool.now fill) }
+    ensures none { result ≡ None → find_term (terms_in kinds.now ends.now pool.now fill) (lit (literal_of l)) 0 ≡ none }
 {
     let ws = [l.kind, l.low, l.high];
-    find(store, fill, 0, &ws)
+    find(kinds, ends, pool, index, fill, 0, &ws)
 }
 
 // The number of an application, if there is one equal; ws is the name and the arguments.
-pub fn find_app(store: &View<'_>, fill: Fill, ws: &[u32]) -> Option<u32>
-    requires indexed { IndexedAt store.now fill }
+pub fn find_app(
+    kinds: &[u32],
+    ends: &[u32],
+    pool: &[u32],
+    index: &[u32],
+    fill: Fill,
+    ws: &[u32],
+) -> Option<u32>
+    requires indexed { Indexed kinds.now ends.now pool.now index.now fill }
     requires ws_nonzero { 0 < length ws.now }
-    ensures none { result ≡ None → find_term (terms_at store.now fill) (app (get_or ws.now 0 0) (drop 1 ws.now)) 0 ≡ none }
-    ensures known { Known result (add_node (room_at store.now) (app (get_or ws.now 0 0) (drop 1 ws.now)) (terms_at store.now fill)) (terms_at store.now fill) }
+    ensures none { result ≡ None → find_term (terms_in kinds.now ends.now pool.now fill) (app (get_or ws.now 0 0) (drop 1 ws.now)) 0 ≡ none }
+    ensures known { Known result (add_node (room_of kinds.now pool.now) (app (get_or ws.now 0 0) (drop 1 ws.now)) (terms_in kinds.now ends.now pool.now fill)) (terms_in kinds.now ends.now pool.now fill) }
 {
-    find(store, fill, 2, ws)
+    find(kinds, ends, pool, index, fill, 2, ws)
 }
 
 // Copies the first terms cells of the job into the lent arrays; the fill has the multiplier.

@@ -10,5 +10,5 @@ pub returns : goal.returns
 returns c = let a = c.args in
     let ws = a.ws.now in
     let t = model.app (get_or ws 0 0) (drop 1 ws) in
-    let q = c.find.ensures ∙ ap (find_cell (cells_of a.store.now.kinds.now a.store.now.ends.now a.store.now.pool.now a.fill.cells)) (app-words ws c.requires.ws_nonzero) in
+    let q = c.find.ensures ∙ ap (find_cell (cells_of a.kinds.now a.ends.now a.pool.now a.fill.cells)) (app-words ws c.requires.ws_nonzero) in
     record { known = known-term c.requires.indexed t q; none = absent-term c.requires.indexed t q }
